@@ -1,0 +1,34 @@
+use Rattle.std.proofs.Common.{refl}
+use Rattle.dw_base.specs.declared.mem_host.CallKind.TheVariants.{Read, Write}
+use Rattle.dw_base.proofs.MemHostLemmas.{faults_of-other, say_faults_of-other, HasCause-noted}
+use Rattle.dw_base.proofs.mem_host.MemHostHost.read_at.Goals as goal
+
+pub returns-then-is_due-clause-reads : goal.returns-then-is_due-clause-reads
+returns-then-is_due-clause-reads c =
+    let noted = rw c.is_due.ensures.others at c.note.ensures.failed in
+    HasCause-noted Read _ _ _ _ _ refl c.note.ensures.room noted
+
+pub returns-then-is_due-clause-writes : goal.returns-then-is_due-clause-writes
+returns-then-is_due-clause-writes c =
+    let noted = rw c.is_due.ensures.others at c.note.ensures.failed in
+    λ f. faults_of-other Write Read _ f _ _ _ noted refl
+
+pub returns-then-is_due-clause-says : goal.returns-then-is_due-clause-says
+returns-then-is_due-clause-says c =
+    let noted = rw c.is_due.ensures.others at c.note.ensures.failed in
+    say_faults_of-other Read _ _ _ _ noted refl
+
+pub returns-in-None-clause-reads : goal.returns-in-None-clause-reads
+returns-in-None-clause-reads c =
+    let noted = rw c.is_due.ensures.others at c.note-in-None.ensures.failed in
+    HasCause-noted Read _ _ _ _ _ refl c.note-in-None.ensures.room noted
+
+pub returns-in-None-clause-writes : goal.returns-in-None-clause-writes
+returns-in-None-clause-writes c =
+    let noted = rw c.is_due.ensures.others at c.note-in-None.ensures.failed in
+    λ f. faults_of-other Write Read _ f _ _ _ noted refl
+
+pub returns-in-None-clause-says : goal.returns-in-None-clause-says
+returns-in-None-clause-says c =
+    let noted = rw c.is_due.ensures.others at c.note-in-None.ensures.failed in
+    say_faults_of-other Read _ _ _ _ noted refl

@@ -1,0 +1,16 @@
+//! What all crates share: faults and their kinds, the outside, and two hosts in memory.
+#![tactic(auto)]
+
+mod fault;
+mod files;
+mod host;
+mod mem_host;
+mod quiet_host;
+#[cfg(test)]
+mod tests;
+
+pub use fault::{Fault, Kind, NoMemory, Reach, Refusal, Span};
+pub use files::NamedFile;
+pub use host::{Host, Stop};
+pub use mem_host::MemHost;
+pub use quiet_host::QuietHost;
