@@ -1,0 +1,12 @@
+use Rattle.std.proofs.Common.{◌≡◌, ◌≤◌, ◌<◌, ℕ, length}
+use Rattle.elf_sections.specs.Elf.{section_end}
+use Rattle.elf_sections.specs.Names.{IsNamed}
+use Rattle.elf_sections.specs.Sections.{first_sections}
+use Rattle.elf_sections.proofs.table.read_sections.Given as goal
+
+abbrev pub invariant-loop-i : goal.invariant-loop-i
+invariant-loop-i l = record {
+  sections : l.sections.items ≡ first_sections l.file l.i;
+  fit : (k : ℕ) → k < l.i → section_end l.file k ≤ length l.file;
+  named : (k : ℕ) → k < l.i → IsNamed l.file k;
+}

@@ -1,0 +1,10 @@
+// Laws about the definitions.
+ghost use Rattle.elf_sections.specs.Headers.{ReadsFileHeaders, ReadsSegmentHeaders, ReadsSectionHeaders};
+
+/// A law: where bytes spell a header of the System V ABI (ELF-64), the fields that the contracts speak of are that
+/// header's.
+pub fn headers_are_the_abis()
+    ensures file { ReadsFileHeaders }
+    ensures segment { ReadsSegmentHeaders }
+    ensures section { ReadsSectionHeaders }
+{}

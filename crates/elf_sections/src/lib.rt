@@ -1,0 +1,21 @@
+//! The sections of an ELF-64 file.
+#![tactic(auto)]
+
+mod ends;
+mod fields;
+mod header;
+mod image;
+mod laws;
+mod names;
+mod numbers;
+mod section;
+mod sound;
+mod table;
+
+pub use image::Image;
+pub use laws::headers_are_the_abis;
+pub use names::is_listed;
+pub use section::Section;
+
+#[cfg(test)]
+mod tests;
