@@ -1,0 +1,10 @@
+pub mod BodyLaws
+pub mod Multiples
+pub mod NumberLaws
+pub mod Orders
+pub mod Placed
+pub mod Patches
+pub mod Chains
+pub mod Ranges
+pub mod ReadLaws
+pub mod WriteLaws

@@ -1,0 +1,41 @@
+-- New bodies for sections, and the body that a section has after them.
+use Rattle.std.specs.Prelude.{◌≡◌, ◌≢◌, ◌<◌, ℕ, Option, Some, None, slice_index_or, List, [], ◌∷◌, Bool, false, ◌==◌, ◌||◌, if◌then◌else◌, length, IsTrue, IsFalse}
+use Rattle.std.specs.List.{All, AllPairs, sum_by}
+use Rattle.elf_sections.specs.Elf.{section_count, names_index, is_movable, body_of}
+use Rattle.elf_place.specs.declared.bodies.NewBody.{NewBody}
+
+-- a section is given a new body
+abbrev pub has_new_body : List NewBody → ℕ → Bool
+has_new_body [] i = false
+has_new_body (new ∷ bodies) i = (new.section == i) || has_new_body bodies i
+
+-- the body of a section after the new ones: the one that it is given, else the one that it has
+abbrev pub body_after : List ℕ → List NewBody → ℕ → List ℕ
+body_after file [] i = body_of file i
+body_after file (new ∷ bodies) i = if new.section == i then new.bytes.items else body_after file bodies i
+
+-- a section may get a new body: it is one of the movable ones
+pub record IsReplaceable (file : List ℕ) (i : ℕ) : Type 0 where
+  pub inside : i < section_count file
+  pub moves : IsTrue (is_movable file i)
+
+-- the section that holds the names, if there is one, is given no new body
+abbrev pub KeepsNames : List ℕ → List NewBody → Type 0
+KeepsNames file bodies = names_index file ≢ 0 → IsFalse (has_new_body bodies (names_index file))
+
+-- no two of the bodies are for the same section
+abbrev pub AreApart : List NewBody → Type 0
+AreApart = AllPairs (λ one other. one.section ≢ other.section)
+
+-- how many bytes all of them have
+abbrev pub bytes_of : List NewBody → ℕ
+bytes_of = sum_by (λ (new : NewBody). length new.bytes.items)
+
+-- which of the bodies is for a section
+abbrev pub IsFor : List NewBody → ℕ → Option ℕ → Type 0
+IsFor bodies i (Some place) = (place < length bodies) × ((d : NewBody) → (slice_index_or bodies place d).section ≡ i)
+IsFor bodies i None = All (λ new. new.section ≢ i) bodies
+
+-- a table that says it for each section
+abbrev pub IsTable : List NewBody → List (Option ℕ) → Type 0
+IsTable bodies table = (i : ℕ) → i < length table → IsFor bodies i (slice_index_or table i None)

@@ -1,0 +1,4 @@
+pub mod Bodies
+pub mod Layout
+pub mod Same
+pub mod Spots
