@@ -1,0 +1,7 @@
+pub mod Listing
+pub mod Parts
+pub mod Passing
+pub mod Programs
+pub mod ReadingLaws
+pub mod Sound
+pub mod Unique

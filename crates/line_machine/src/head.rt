@@ -1,0 +1,164 @@
+// The header of a line number program.
+ghost use Rattle.std.specs.Prelude.{◌≡◌, ◌≤◌, ◌<◌, ◌+◌, ◌^◌, ◌↔◌, length, IfOk, IfErr, MatchOption, MatchResult, IsTrue};
+ghost use Rattle.line_machine.specs.Heads.{LeavesSection, HasNumbers, HasLengths, HasHead, head_at, unit_end, between};
+ghost use Rattle.line_machine.specs.Faults.{HeadFault, IsFaultOf};
+
+use crate::fault::unbuilt;
+use crate::number::{u16_at, u32_at};
+use dw_base::{Fault, Kind, Span};
+
+/// The header of a line number program (DWARF 5 section 6.2.4). Places count from the section's first byte.
+#[derive(Clone, Copy, Debug, PartialEq, Eq)]
+pub struct Head {
+    /// The first byte of the program's unit.
+    pub at: u64,
+    /// All bytes of the unit, the field with its length among them.
+    pub len: u64,
+    /// minimum_instruction_length
+    pub min: u8,
+    /// Whether default_is_stmt isn't 0.
+    pub stmt: bool,
+    /// line_base
+    pub base: i8,
+    /// line_range
+    pub range: u8,
+    pub opcode_base: u8,
+    /// The directory and file tables.
+    pub tables: Span,
+    /// The opcodes.
+    pub program: Span,
+}
+
+// The lengths of the standard opcodes, from opcode 1 on.
+const OPERAND_COUNTS: [u8; 12] = [0, 1, 1, 1, 1, 0, 0, 0, 1, 0, 0, 1];
+
+// The first of the lengths that are reserved (DWARF 5 section 7.4).
+const FIRST_RESERVED: u32 = 0xffff_fff0;
+
+// The fewest bytes of a header.
+const LEAST_HEADER: usize = 27;
+
+// The fixed fields of a header have the values that are read.
+fn has_numbers(section: &[u8], at: usize) -> bool
+    requires { at + 27 ≤ length section.now }
+    ensures { IsTrue result ↔ HasNumbers section.now at }
+{
+    let opcode_base = section[at + 17];
+    u16_at(section, at + 4) == 5
+        && section[at + 6] == 8
+        && section[at + 7] == 0
+        && section[at + 12] != 0
+        && section[at + 13] == 1
+        && section[at + 16] != 0
+        && opcode_base > 9
+        && opcode_base < 14
+}
+
+// The standard opcodes have the standard numbers of operands, and the program begins after them and inside the unit.
+fn has_lengths(section: &[u8], at: usize, end: usize) -> bool
+    requires fits { at + 27 ≤ end }
+    requires inside { end ≤ length section.now }
+    requires end { end ≡ unit_end section.now at }
+    requires numbers { HasNumbers section.now at }
+    ensures { IsTrue result ↔ HasLengths section.now at }
+{
+    let count = usize::from(section[at + 17]) - 1;
+    let header_length = u32_at(section, at + 8) as usize;
+    if header_length > end - at - 12 || header_length < count + 6 {
+        return false;
+    }
+    section[at + 18..at + 18 + count] == OPERAND_COUNTS[..count]
+}
+
+// The header at a place, whose unit ends in the section.
+fn parse(section: &[u8], at: usize, end: usize) -> Option<Head>
+    requires here { ¬ LeavesSection section.now at }
+    requires end { end ≡ unit_end section.now at }
+    ensures { MatchOption result (¬ HasHead section.now at) (λ head. HasHead section.now at × (head ≡ head_at section.now at)) }
+{
+    if end - at < LEAST_HEADER || !has_numbers(section, at) || !has_lengths(section, at, end) {
+        return None;
+    }
+    let opcode_base = section[at + 17];
+    let tables = at + 17 + usize::from(opcode_base);
+    let program = at + 12 + u32_at(section, at + 8) as usize;
+    Some(Head {
+        at: at as u64,
+        len: (end - at) as u64,
+        min: section[at + 12],
+        stmt: section[at + 14] != 0,
+        base: section[at + 15].cast_signed(),
+        range: section[at + 16],
+        opcode_base,
+        tables: span(tables, program),
+        program: span(program, end),
+    })
+}
+
+// The bytes from a place up to another.
+fn span(at: usize, end: usize) -> Span
+    requires { at ≤ end }
+    ensures { result ≡ between at end }
+{
+    Span {
+        at: at as u64,
+        len: (end - at) as u64,
+    }
+}
+
+// The header at a place, or its fault.
+fn read_head(section: &[u8], at: usize, origin: u64) -> Result<Head, Fault>
+    requires inside { at ≤ length section.now }
+    requires room { origin + length section.now < 2 ^ 64 }
+    ensures { MatchResult result (λ head. HasHead section.now at × (head ≡ head_at section.now at)) (IsFaultOf (HeadFault section.now at) origin) }
+{
+    let place = origin + at as u64;
+    let left = section.len() - at;
+    if left < 4 {
+        return Err(Fault {
+            kind: Kind::Short,
+            place,
+        });
+    }
+    let length = u32_at(section, at);
+    if length >= FIRST_RESERVED || length as usize > left - 4 {
+        return Err(Fault {
+            kind: Kind::Short,
+            place,
+        });
+    }
+    match parse(section, at, at + 4 + length as usize) {
+        Some(head) => Ok(head),
+        None => Err(Fault {
+            kind: Kind::LineHead,
+            place,
+        }),
+    }
+}
+
+impl Head {
+    ghost use Rattle.line_machine.specs.Heads.{IsHead};
+    ghost use Rattle.line_machine.specs.Faults.{HeadFault, IsFaulty, IsUnbuilt};
+
+    /// Reads the header of the program whose unit stands at `at` in `section`, the body of .debug_line
+    /// (DWARF 5 section 6.2.4), where `origin` is the file offset of the section's first byte.
+    ///
+    /// A header is one of version 5 in the 32-bit format with 8-byte addresses, without segments, with
+    /// one operation an instruction, an opcode base of 10 to 13 and the standard lengths of the standard
+    /// opcodes, and its program begins after them and inside the unit. Any other one, and a unit that
+    /// isn't in the section, is refused as `Unbuilt` at 0. No memory.
+    pub fn read(section: &[u8], at: u64, origin: u64) -> Result<Head, Fault>
+        requires inside { at ≤ length section.now }
+        requires room { origin + length section.now < 2 ^ 64 }
+        ensures place { IfOk result (λ head. head.at ≡ at) }
+        ensures head { IfOk result (λ head. IsHead section.now head) }
+        ensures whole { IfOk result (λ _. ¬ IsFaulty (HeadFault section.now at)) }
+        ensures unbuilt { IfErr result IsUnbuilt }
+        ensures fault { IfErr result (λ _. IsFaulty (HeadFault section.now at)) }
+    {
+        match read_head(section, at as usize, origin) {
+            Ok(head) => Ok(head),
+            Err(fault) => Err(unbuilt(fault)),
+        }
+    }
+}
