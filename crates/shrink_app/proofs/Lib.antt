@@ -1,0 +1,4 @@
+pub mod Fronts
+pub mod Shrinks
+pub mod Rewrites
+pub mod Lines

@@ -1,0 +1,70 @@
+// A whole file from a host.
+ghost use Rattle.std.specs.Prelude.{◌≡◌, ◌≢◌, ◌≤◌, ◌<◌, ◌+◌, ◌^◌, ℕ, List, [], ◌++◌, length, take, vec_len, option_map, IfOk, IfErr, OnOk};
+ghost use Rattle.std.specs.Option.{ForSome};
+ghost use Rattle.dw_base.specs.Host.{Rose};
+ghost use Rattle.shrink_app.specs.Run.{OnlyReadFault, IsReadOn};
+
+use crate::ending::Ending;
+use dw_base::{Host, Stop};
+use std::alloc::Global;
+
+// The length past which a file isn't read on, since it is refused.
+const FILE_LIMIT: usize = 1 << 30;
+
+// The most bytes that are asked for at once.
+const PIECE: usize = 65_536;
+
+// Reads on at the end of what was read, and answers how many bytes came.
+fn read_on<H: Host>(
+    host: &mut H,
+    name: &str,
+    piece: &mut [u8],
+    file: &mut Vec<u8>,
+) -> Result<usize, Ending>
+    requires { 0 < length piece.old }
+    ensures grown { IfOk result (λ n. (n ≤ length piece.old) × (vec_len file.new ≡ vec_len file.old + n)) }
+    ensures read { IfOk result (λ n. ForSome (H.bytes host.old name.now) (λ b. IsReadOn b file.old.items file.new.items n)) }
+    ensures files { (f : List ℕ) → H.bytes host.new f ≡ H.bytes host.old f }
+    ensures said { H.said host.new ≡ H.said host.old }
+    ensures reads { OnlyReadFault (H.read_faults host.old name.now) (H.read_faults host.new name.now) result }
+    ensures writes { (f : List ℕ) → H.write_faults host.new f ≡ H.write_faults host.old f }
+    ensures says { H.say_faults host.new ≡ H.say_faults host.old }
+{
+    let at = file.len() as u64;
+    match host.read_at(name, at, piece) {
+        Ok(count) => {
+            file.extend_from_slice(&piece[..count])?;
+            Ok(count)
+        }
+        Err(Stop::Failed) => Err(Ending::ReadFault),
+        Err(Stop::NoMemory) => Err(Ending::NoMemory),
+    }
+}
+
+// A buffer of this many bytes.
+fn zeros(alloc: Global, count: usize) -> Result<Vec<u8>, Ending>
+    ensures count { IfOk result (λ buffer. vec_len buffer ≡ count) }
+    ensures memory { IfErr result (λ e. e ≡ Ending.NoMemory) }
+{
+    Ok(vec![in alloc; 0u8; count]?)
+}
+
+/// The bytes of a file, to its end or to one past the limit.
+pub fn read_file<H: Host>(alloc: Global, name: &str, host: &mut H) -> Result<Vec<u8>, Ending>
+    ensures read { IfOk result (λ file. ForSome (H.bytes host.old name.now) (λ b. file.items ≡ take (2 ^ 30 + 1) b)) }
+    ensures files { (f : List ℕ) → H.bytes host.new f ≡ H.bytes host.old f }
+    ensures said { H.said host.new ≡ H.said host.old }
+    ensures reads { OnlyReadFault (H.read_faults host.old name.now) (H.read_faults host.new name.now) result }
+    ensures writes { (f : List ℕ) → H.write_faults host.new f ≡ H.write_faults host.old f }
+    ensures says { H.say_faults host.new ≡ H.say_faults host.old }
+{
+    let mut piece = zeros(alloc, PIECE)?;
+    let mut file = Vec::new(alloc);
+    while file.len() <= FILE_LIMIT {
+        let room = PIECE.min(FILE_LIMIT + 1 - file.len());
+        if read_on(host, name, &mut piece[..room], &mut file)? == 0 {
+            return Ok(file);
+        }
+    }
+    Ok(file)
+}

@@ -1,0 +1,77 @@
+// The program's work: what its words ask for, with its status.
+ghost use Rattle.std.specs.Prelude.{◌≡◌, ◌≢◌, ◌≤◌, ◌<◌, ◌⊎◌, ◌++◌, ℕ, List, IfSome, IfNone, IsSomeAnd, IsNone, MatchOption, Some, option_map, codes};
+ghost use Rattle.std.specs.Option.{ForSome};
+ghost use Rattle.dw_base.specs.Host.{Rose, AddsPart};
+ghost use Rattle.shrink_app.specs.File.{IsValid, Same, IsShortest, IsPlaced};
+ghost use Rattle.shrink_app.specs.Words.{asked};
+ghost use Rattle.shrink_app.specs.Run.{Writes};
+ghost use Rattle.shrink_app.specs.Said.{SaysFault, SaysPart};
+
+use crate::ending::Ending;
+use crate::saying::{say, text_of};
+use crate::shrink::shrink;
+use crate::words::names_of;
+use dw_base::Host;
+use std::alloc::Global;
+
+/// Does what the words ask for, and answers the program's status.
+pub fn run<H: Host>(alloc: Global, words: &Vec<String>, host: &mut H) -> u8
+    ensures known { (result ≤ 6) × (result ≢ 1) }
+
+    // Wrong words are the answer exactly there, but for a message that fails.
+    ensures words { result ≡ 2 → IsNone (asked words.now.items) }
+    ensures wrong { IfNone (asked words.now.items) ((result ≡ 2) ⊎ ((result ≡ 5) ⊎ (result ≡ 6))) }
+    ensures words_said { result ≡ 2 → H.said host.new ≡ option_map (λ b. b ++ codes "words\n") (H.said host.old) }
+
+    // With wrong words nothing is asked of the host but to say so.
+    ensures wrong_reads { IfNone (asked words.now.items) ((f : List ℕ) → H.read_faults host.new f ≡ H.read_faults host.old f) }
+    ensures wrong_writes { IfNone (asked words.now.items) ((f : List ℕ) → H.write_faults host.new f ≡ H.write_faults host.old f) }
+
+    // A refusal names a fault of the input.
+    ensures refused { result ≡ 3 → IsSomeAnd (asked words.now.items) (λ n. SaysFault (H.bytes host.old n.0) (H.said host.old) (H.said host.new)) }
+
+    // A read fault comes where the input's count rose, and wherever it rose.
+    ensures read_fault { result ≡ 4 → IsSomeAnd (asked words.now.items) (λ n. Rose (H.read_faults host.old n.0) (H.read_faults host.new n.0)) }
+    ensures read_rose { IfSome (asked words.now.items) (λ n. H.read_faults host.old n.0 < H.read_faults host.new n.0 → result ≡ 4) }
+
+    // A write fault comes where the output's count rose, or that of messages where there was one to say.
+    ensures write_fault { result ≡ 5 → MatchOption (asked words.now.items) (Rose (H.say_faults host.old) (H.say_faults host.new)) (λ n. Rose (H.write_faults host.old n.1) (H.write_faults host.new n.1) ⊎ (Rose (H.say_faults host.old) (H.say_faults host.new) × ForSome (H.bytes host.old n.0) (λ file. ¬ IsValid file))) }
+    ensures write_rose { IfSome (asked words.now.items) (λ n. H.write_faults host.old n.1 < H.write_faults host.new n.1 → result ≡ 5) }
+    ensures say_rose { H.say_faults host.old < H.say_faults host.new → result ≡ 5 }
+
+    // Which files may differ: none after wrong words, a refusal and a read fault, nor where the input has a fault, since
+    // its faults are looked for before the first write; and never another than the output.
+    ensures kept { (result ≡ 2) ⊎ ((result ≡ 3) ⊎ (result ≡ 4)) → (f : List ℕ) → H.bytes host.new f ≡ H.bytes host.old f }
+    ensures faulty_kept { IfSome (asked words.now.items) (λ n. (file : List ℕ) → H.bytes host.old n.0 ≡ Some file → ¬ IsValid file → (f : List ℕ) → H.bytes host.new f ≡ H.bytes host.old f) }
+    ensures faulty_unwritten { IfSome (asked words.now.items) (λ n. (file : List ℕ) → H.bytes host.old n.0 ≡ Some file → ¬ IsValid file → (f : List ℕ) → H.write_faults host.new f ≡ H.write_faults host.old f) }
+    ensures others { MatchOption (asked words.now.items) ((f : List ℕ) → H.bytes host.new f ≡ H.bytes host.old f) (λ n. (f : List ℕ) → f ≢ n.1 → H.bytes host.new f ≡ H.bytes host.old f) }
+
+    // The work was done.
+    ensures done { result ≡ 0 → IsSomeAnd (asked words.now.items) (λ n. ForSome (H.bytes host.old n.0) IsValid) }
+    ensures same { result ≡ 0 → IsSomeAnd (asked words.now.items) (λ n. Writes Same (H.bytes host.old) (H.bytes host.new) n.0 n.1) }
+    ensures shortest { result ≡ 0 → IsSomeAnd (asked words.now.items) (λ n. Writes IsShortest (H.bytes host.old) (H.bytes host.new) n.0 n.1) }
+    ensures placed { result ≡ 0 → IsSomeAnd (asked words.now.items) (λ n. Writes IsPlaced (H.bytes host.old) (H.bytes host.new) n.0 n.1) }
+
+    // What was said where nothing else tells: nothing after the work and a read fault, and in place of another answer
+    // some front of what that answer says.
+    ensures quiet { (result ≡ 0) ⊎ (result ≡ 4) → H.said host.new ≡ H.said host.old }
+    ensures stopped { (result ≡ 5) ⊎ (result ≡ 6) → MatchOption (asked words.now.items) (AddsPart (H.said host.old) (codes "words\n") (H.said host.new)) (λ n. SaysPart (H.bytes host.old n.0) (H.said host.old) (H.said host.new)) }
+
+    // Where no count rose, a valid input is done and another is refused, but for want of memory.
+    ensures complete { IfSome (asked words.now.items) (λ n. (file : List ℕ) → H.bytes host.old n.0 ≡ Some file → IsValid file → ¬ Rose (H.read_faults host.old n.0) (H.read_faults host.new n.0) → ¬ Rose (H.write_faults host.old n.1) (H.write_faults host.new n.1) → (result ≡ 0) ⊎ (result ≡ 6)) }
+    ensures refuses { IfSome (asked words.now.items) (λ n. (file : List ℕ) → H.bytes host.old n.0 ≡ Some file → ¬ IsValid file → ¬ Rose (H.read_faults host.old n.0) (H.read_faults host.new n.0) → (result ≡ 3) ⊎ ((result ≡ 5) ⊎ (result ≡ 6))) }
+{
+    let Some(names) = names_of(words) else {
+        return say(host, b"words\n", 2);
+    };
+    match shrink(alloc, names.input, names.output, host) {
+        Ok(()) => 0,
+        Err(Ending::Refused(fault)) => match text_of(alloc, fault) {
+            Ok(text) => say(host, text.as_bytes(), 3),
+            Err(_) => 6,
+        },
+        Err(Ending::ReadFault) => 4,
+        Err(Ending::WriteFault) => 5,
+        Err(Ending::NoMemory) => 6,
+    }
+}

@@ -1,0 +1,33 @@
+// What the program says.
+ghost use Rattle.std.specs.Prelude.{◌≡◌, ◌⊎◌, ◌++◌, ℕ, List, IfOk, option_map, string_bytes};
+ghost use Rattle.dw_base.specs.Host.{AddsPart};
+ghost use Rattle.shrink_app.specs.Said.{refusal_text, SaysOrStops};
+
+use dw_base::{Fault, Host, Stop};
+use std::alloc::{AllocError, Global};
+
+// Says a text, and gives the status, or that of a failed message.
+pub fn say<H: Host>(host: &mut H, text: &[u8], status: u8) -> u8
+    requires { (status ≡ 2) ⊎ (status ≡ 3) }
+    ensures said { result ≡ status → H.said host.new ≡ option_map (λ b. b ++ text.now) (H.said host.old) }
+    ensures part { (result ≡ 5) ⊎ (result ≡ 6) → AddsPart (H.said host.old) text.now (H.said host.new) }
+    ensures answer { SaysOrStops status (H.say_faults host.old) (H.say_faults host.new) result }
+    ensures files { (f : List ℕ) → H.bytes host.new f ≡ H.bytes host.old f }
+    ensures reads { (f : List ℕ) → H.read_faults host.new f ≡ H.read_faults host.old f }
+    ensures writes { (f : List ℕ) → H.write_faults host.new f ≡ H.write_faults host.old f }
+{
+    match host.say(text) {
+        Ok(()) => status,
+        Err(Stop::Failed) => 5,
+        Err(Stop::NoMemory) => 6,
+    }
+}
+
+// The line that names a fault.
+pub fn text_of(alloc: Global, fault: Fault) -> Result<String, AllocError>
+    ensures { IfOk result (λ text. string_bytes text ≡ refusal_text fault.kind fault.place) }
+{
+    let kind = fault.kind.name();
+    let place = fault.place;
+    format!(in alloc; "refused {kind} at {place}\n")
+}

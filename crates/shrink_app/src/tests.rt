@@ -1,0 +1,275 @@
+use crate::real_host::RealHost;
+use crate::run::run;
+use dw_base::{Host, MemHost, NamedFile, QuietHost};
+use std::alloc::{AllocError, Global};
+use std::test::Fail;
+
+// Adds the header of a section without flags, whose alignment is 1.
+fn push_header(
+    headers: &mut Vec<u8>,
+    name: usize,
+    kind: u8,
+    offset: usize,
+    size: usize,
+) -> Result<(), AllocError> {
+    headers.extend_from_slice(&(name as u64).to_le_bytes()[..4])?;
+    headers.extend_from_slice(&[kind, 0, 0, 0])?;
+    headers.extend_from_slice(&[0; 16])?;
+    headers.extend_from_slice(&(offset as u64).to_le_bytes())?;
+    headers.extend_from_slice(&(size as u64).to_le_bytes())?;
+    headers.extend_from_slice(&[0; 8])?;
+    headers.extend_from_slice(&[1, 0, 0, 0, 0, 0, 0, 0])?;
+    headers.extend_from_slice(&[0; 8])
+}
+
+// An executable file with these sections and, behind them, the one that holds the names.
+fn elf_file(alloc: Global, sections: &[(&str, &[u8])]) -> Result<Vec<u8>, AllocError> {
+    let mut bodies = Vec::new(alloc);
+    let mut names = [0u8].to_vec(alloc)?;
+    let mut headers = vec![in alloc; 0u8; 64]?;
+    for (name, body) in sections {
+        push_header(&mut headers, names.len(), 1, 64 + bodies.len(), body.len())?;
+        names.extend_from_slice(name.as_bytes())?;
+        names.push(0)?;
+        bodies.extend_from_slice(body)?;
+    }
+    let last = b".shstrtab\0";
+    push_header(
+        &mut headers,
+        names.len(),
+        3,
+        64 + bodies.len(),
+        names.len() + last.len(),
+    )?;
+    names.extend_from_slice(last)?;
+    bodies.extend_from_slice(&names)?;
+    let rest = bodies.len() % 8;
+    bodies.extend_from_slice(&[0; 8][..(8 - rest) % 8])?;
+
+    let count = (sections.len() as u64).saturating_add(2);
+    let mut file = [0x7f, 0x45, 0x4c, 0x46, 2, 1, 1, 0].to_vec(alloc)?;
+    file.extend_from_slice(&[0; 8])?;
+    file.extend_from_slice(&[2, 0, 62, 0, 1, 0, 0, 0])?;
+    file.extend_from_slice(&[0; 16])?;
+    file.extend_from_slice(&(64 + bodies.len() as u64).to_le_bytes())?;
+    file.extend_from_slice(&[0, 0, 0, 0, 64, 0, 0, 0, 0, 0, 64, 0])?;
+    file.extend_from_slice(&count.to_le_bytes()[..2])?;
+    file.extend_from_slice(&(count - 1).to_le_bytes()[..2])?;
+    file.extend_from_slice(&bodies)?;
+    file.extend_from_slice(&headers)?;
+    Ok(file)
+}
+
+fn words_of(alloc: Global, words: &[&str]) -> Result<Vec<String>, AllocError> {
+    let mut all = Vec::new(alloc);
+    for word in words {
+        all.push(String::from_str(alloc, word)?)?;
+    }
+    Ok(all)
+}
+
+// A line number program without opcodes.
+const NO_ROWS: [u8; 34] = [
+    0x1e, 0, 0, 0, 5, 0, 8, 0, 0x16, 0, 0, 0, 1, 1, 1, 0xfb, 0x0e, 0x0d, 0, 1, 1, 1, 1, 0, 0, 0, 1,
+    0, 0, 1, 0, 0, 0, 0,
+];
+
+// One in which an operand is padded, and the same without padding.
+const PADDED: [u8; 53] = [
+    0x31, 0, 0, 0, 5, 0, 8, 0, 0x16, 0, 0, 0, 1, 1, 1, 0xfb, 0x0e, 0x0d, 0, 1, 1, 1, 1, 0, 0, 0, 1,
+    0, 0, 1, 0, 0, 0, 0, 0, 9, 2, 0, 0x10, 0, 0, 0, 0, 0, 0, 1, 0x4c, 2, 0x84, 0, 0, 1, 1,
+];
+
+const SHORT: [u8; 52] = [
+    0x30, 0, 0, 0, 5, 0, 8, 0, 0x16, 0, 0, 0, 1, 1, 1, 0xfb, 0x0e, 0x0d, 0, 1, 1, 1, 1, 0, 0, 0, 1,
+    0, 0, 1, 0, 0, 0, 0, 0, 9, 2, 0, 0x10, 0, 0, 0, 0, 0, 0, 1, 0x4c, 2, 4, 0, 1, 1,
+];
+
+// What a file holds.
+#[derive(Clone, Copy)]
+enum Held {
+    NoSections,
+    NoRows,
+    PaddedLines,
+    ShortLines,
+    Texts,
+    LinesAndTexts,
+    CutLines,
+    HighByteFirst,
+    Nothing,
+    TwoBytes,
+}
+
+fn bytes_of(alloc: Global, held: Held) -> Result<Vec<u8>, AllocError> {
+    match held {
+        Held::NoSections => elf_file(alloc, &[]),
+        Held::NoRows => elf_file(alloc, &[(".debug_line", &NO_ROWS)]),
+        Held::PaddedLines => elf_file(alloc, &[(".debug_line", &PADDED)]),
+        Held::ShortLines => elf_file(alloc, &[(".debug_line", &SHORT)]),
+        Held::Texts => elf_file(alloc, &[(".debug_str", &[0])]),
+        Held::LinesAndTexts => elf_file(alloc, &[(".debug_line", &SHORT), (".debug_str", &[0])]),
+        Held::CutLines => elf_file(alloc, &[(".debug_line", &SHORT[..51])]),
+        Held::HighByteFirst => {
+            let mut bytes = elf_file(alloc, &[])?;
+            if let Some(byte) = bytes.get_mut(5) {
+                *byte = 2;
+            }
+            Ok(bytes)
+        }
+        Held::Nothing => Ok(Vec::new(alloc)),
+        Held::TwoBytes => [1u8, 2].to_vec(alloc),
+    }
+}
+
+fn add_file(
+    alloc: Global,
+    files: &mut Vec<NamedFile>,
+    name: &str,
+    held: Held,
+) -> Result<(), AllocError> {
+    Ok(files.push(NamedFile {
+        name: String::from_str(alloc, name)?,
+        bytes: bytes_of(alloc, held)?,
+    })?)
+}
+
+#[test]
+fn files_in_memory(rt: HostRuntime) -> Result<(), Fail> {
+    let alloc = rt.alloc();
+    assert_eq!(rt; bytes_of(alloc, Held::NoSections)?.len(), 208);
+    // the words, the input, the calls that fail, the status, what is said, the output, which has two bytes before
+    let rows: [(&[&str], Option<Held>, &[u64], u8, &str, Held); 12] = [
+        (
+            &["shrink", "a", "b"],
+            Some(Held::NoSections),
+            &[],
+            0,
+            "",
+            Held::NoSections,
+        ),
+        (
+            &["shrink", "a", "b"],
+            Some(Held::NoRows),
+            &[],
+            0,
+            "",
+            Held::NoRows,
+        ),
+        (
+            &["shrink", "a", "b"],
+            Some(Held::PaddedLines),
+            &[],
+            0,
+            "",
+            Held::ShortLines,
+        ),
+        (
+            &["shrink", "a", "b"],
+            Some(Held::LinesAndTexts),
+            &[],
+            3,
+            "refused Unbuilt at 116\n",
+            Held::TwoBytes,
+        ),
+        (
+            &["shrink", "a", "b"],
+            Some(Held::CutLines),
+            &[],
+            3,
+            "refused Unbuilt at 0\n",
+            Held::TwoBytes,
+        ),
+        (
+            &["shrink", "a", "b"],
+            Some(Held::Texts),
+            &[],
+            3,
+            "refused Unbuilt at 64\n",
+            Held::TwoBytes,
+        ),
+        (
+            &["shrink", "a", "b"],
+            Some(Held::HighByteFirst),
+            &[],
+            3,
+            "refused NotElf64 at 0\n",
+            Held::TwoBytes,
+        ),
+        (
+            &["shrink", "a", "b"],
+            Some(Held::Nothing),
+            &[],
+            3,
+            "refused NotElf64 at 0\n",
+            Held::TwoBytes,
+        ),
+        (
+            &["shrink", "b", "b"],
+            Some(Held::NoSections),
+            &[],
+            2,
+            "words\n",
+            Held::TwoBytes,
+        ),
+        (
+            &["shrink", "a", "b"],
+            Some(Held::NoSections),
+            &[0],
+            4,
+            "",
+            Held::TwoBytes,
+        ),
+        (&["shrink", "a", "b"], None, &[], 4, "", Held::TwoBytes),
+        // the calls 0 and 1 read the input, and the next begins the output
+        (
+            &["shrink", "a", "b"],
+            Some(Held::NoSections),
+            &[2],
+            5,
+            "",
+            Held::TwoBytes,
+        ),
+    ];
+    for (words, input, failing, status, said, output) in rows {
+        let mut files = Vec::new(alloc);
+        if let Some(held) = input {
+            add_file(alloc, &mut files, "a", held)?;
+        }
+        add_file(alloc, &mut files, "b", Held::TwoBytes)?;
+        let mut host = MemHost::new(alloc, files, failing.to_vec(alloc)?);
+        let words = words_of(alloc, words)?;
+        let output = bytes_of(alloc, output)?;
+        assert_eq!(rt; run(alloc, &words, &mut host), status, "{said}");
+        assert_eq!(rt; host.said().as_slice(), said.as_bytes());
+        assert_eq!(rt; host.file("b").ok_or("no b")?.as_slice(), output.as_slice());
+    }
+    Ok(())
+}
+
+#[test]
+fn quiet_files(rt: HostRuntime) -> Result<(), Fail> {
+    let alloc = rt.alloc();
+    let mut files = Vec::new(alloc);
+    add_file(alloc, &mut files, "a", Held::NoSections)?;
+    let mut host = QuietHost::new(alloc, files);
+    let words = words_of(alloc, &["shrink", "a", "b"])?;
+    let output = bytes_of(alloc, Held::NoSections)?;
+    assert_eq!(rt; run(alloc, &words, &mut host), 0);
+    assert_eq!(rt; host.file("b").ok_or("no b")?.as_slice(), output.as_slice());
+    Ok(())
+}
+
+#[test]
+fn real_files(rt: HostRuntime) -> Result<(), Fail> {
+    let alloc = rt.alloc();
+    let mut host = RealHost::new(&rt, alloc);
+    let mut into = [0u8; 4];
+    assert_eq!(rt; host.begin("f").is_ok(), true);
+    assert_eq!(rt; host.append("f", b"ab").is_ok(), true);
+    assert_eq!(rt; host.append("f", b"c").is_ok(), true);
+    assert_eq!(rt; host.read_at("f", 1, &mut into), Ok(2));
+    assert_eq!(rt; into, [b'b', b'c', 0, 0]);
+    assert_eq!(rt; host.read_at("g", 0, &mut into).is_err(), true);
+    assert_eq!(rt; host.read_faults(), 1);
+    Ok(())
+}
