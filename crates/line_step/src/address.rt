@@ -1,0 +1,157 @@
+// The least bytes that advance an address.
+ghost use Rattle.std.specs.Prelude.{◌≡◌, ◌≤◌, ◌<◌, ◌+◌, ◌*◌, ◌^◌, ℕ, IfSome, IsNone};
+ghost use Rattle.leb_codec.specs.LineCosts.{IsLeastCost, AdvanceWithin, AdvanceForm, advance_pc_bytes};
+ghost use Rattle.line_step.specs.Ways.{IsAddressWay};
+ghost use Rattle.line_step.specs.Search.{IsOperandFor, IsBestWith, IsBestBefore};
+
+use crate::way::{AddressOpcodes, AddressWay, Advance};
+use leb_codec::len_u;
+
+/// The last special opcode, counted from 0: opcode 255 where opcode_base is 13.
+pub const LAST_SPECIAL: u8 = 242;
+
+const SET_ADDRESS: AddressWay = AddressWay {
+    opcodes: AddressOpcodes::SetAddress,
+    bytes: 11,
+};
+
+// The greatest operand of fixed_advance_pc.
+const FIXED_LIMIT: u32 = 65_535;
+
+// The bytes of advance_pc, which is left out where its operand is 0.
+fn advance_pc_bytes(operand: u64) -> u32
+    ensures bytes { result ≡ advance_pc_bytes operand }
+    ensures few { result ≤ 11 }
+{
+    if operand == 0 { 0 } else { 1 + len_u(operand) }
+}
+
+// The greatest number whose unsigned LEB128 has this length.
+fn greatest_unsigned(len: u32) -> u64
+    requires { len ≤ 9 }
+    ensures { result + 1 ≡ 128 ^ len }
+{
+    (1 << (7 * len)) - 1
+}
+
+// The operand of advance_pc that leaves at most `limit` of a distance, in the fewest bytes, and then the least distance.
+// None: no operand does so in fewer than 11 bytes.
+fn operand_for(distance: u64, scale: u64, limit: u64) -> Option<u64>
+    requires { 0 < scale }
+    ensures none { IsNone result → (q f : ℕ) → q * scale + f ≡ distance → f ≤ limit → 11 ≤ advance_pc_bytes q }
+    ensures some { IfSome result (IsOperandFor distance scale limit) }
+    ensures fits { IfSome result (λ q. q < 2 ^ 64) }
+{
+    if distance <= limit {
+        return Some(0);
+    }
+    let least = (distance - limit - 1) / scale + 1;
+    let greatest = distance / scale;
+    if least > greatest {
+        return None;
+    }
+    let len = len_u(least);
+    if len > 9 {
+        return None;
+    }
+    Some(greatest.min(greatest_unsigned(len)))
+}
+
+// The best way with so many const_add_pc and fixed_advance_pc, or set_address where that isn't shorter.
+fn way_with(range: u8, min: u8, distance: u64, fixed_adds: u32, const_adds: u32) -> AddressWay
+    requires range { 0 < range }
+    requires scale { 0 < min }
+    requires fixed { fixed_adds ≤ 3 }
+    requires consts { const_adds ≤ 10 }
+    ensures { IsBestWith range min distance fixed_adds const_adds result }
+{
+    let scale = u64::from(min);
+    let taken = u64::from(const_adds) * u64::from(LAST_SPECIAL / range) * scale;
+    if taken > distance {
+        return SET_ADDRESS;
+    }
+    let rest = distance - taken;
+    let Some(operand) = operand_for(rest, scale, u64::from(FIXED_LIMIT * fixed_adds)) else {
+        return SET_ADDRESS;
+    };
+    let bytes = const_adds + 3 * fixed_adds + advance_pc_bytes(operand);
+    if bytes >= SET_ADDRESS.bytes {
+        return SET_ADDRESS;
+    }
+    let advance = Advance {
+        operand,
+        const_adds,
+        fixed_adds,
+        fixed_sum: (rest - operand * scale) as u32,
+    };
+    AddressWay {
+        opcodes: AddressOpcodes::AdvanceBy(advance),
+        bytes,
+    }
+}
+
+// The better of a way and of those with so many const_add_pc and fixed_advance_pc.
+fn better_way(
+    best: AddressWay,
+    range: u8,
+    min: u8,
+    distance: u64,
+    fixed_adds: u32,
+    const_adds: u32,
+) -> AddressWay
+    requires range { 0 < range }
+    requires scale { 0 < min }
+    requires fixed { fixed_adds ≤ 3 }
+    requires consts { const_adds ≤ 10 }
+    requires best { IsBestBefore range min distance fixed_adds const_adds best }
+    ensures { IsBestBefore range min distance fixed_adds (const_adds + 1) result }
+{
+    if const_adds + 3 * fixed_adds >= best.bytes {
+        return best;
+    }
+    let way = way_with(range, min, distance, fixed_adds, const_adds);
+    if way.bytes < best.bytes { way } else { best }
+}
+
+// The better of a way and of those with so many fixed_advance_pc.
+fn better_fixed(best: AddressWay, range: u8, min: u8, distance: u64, fixed_adds: u32) -> AddressWay
+    requires range { 0 < range }
+    requires scale { 0 < min }
+    requires fixed { fixed_adds ≤ 3 }
+    requires best { IsBestBefore range min distance fixed_adds 0 best }
+    ensures { IsBestBefore range min distance (fixed_adds + 1) 0 result }
+{
+    let mut best = best;
+    for const_adds in 0..11 {
+        best = better_way(best, range, min, distance, fixed_adds, const_adds);
+    }
+    best
+}
+
+/// The way that is taken to advance the address by a distance: it has the fewest bytes, and among equals first the
+/// fewest fixed_advance_pc, then the fewest const_add_pc, then the least sum of fixed operands. set_address is taken
+/// where nothing is shorter. `range` is line_range and `min` is minimum_instruction_length, neither of them 0; the
+/// distance is in bytes, modulo 2^64 (DWARF 5 section 6.2.5).
+pub fn advance_way(range: u8, min: u8, distance: u64) -> AddressWay
+    requires range { 0 < range }
+    requires scale { 0 < min }
+    ensures way { IsAddressWay range min distance result }
+    ensures few { result.bytes ≤ 11 }
+{
+    let mut best = SET_ADDRESS;
+    for fixed_adds in 0..4 {
+        best = better_fixed(best, range, min, distance, fixed_adds);
+    }
+    best
+}
+
+/// The least number of bytes that advance the address by a distance `d`, in bytes, modulo 2^64. `range` is line_range and
+/// `min` is minimum_instruction_length, neither of them 0 (DWARF 5 section 6.2.5).
+pub fn advance(range: u8, min: u8, d: u64) -> u32
+    requires range { 0 < range }
+    requires scale { 0 < min }
+    ensures least { IsLeastCost (AdvanceWithin range min d) result }
+    ensures few { result ≤ 11 }
+{
+    advance_way(range, min, d).bytes
+}
