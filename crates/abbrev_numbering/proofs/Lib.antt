@@ -1,0 +1,4 @@
+pub mod Climbs
+pub mod Numberings
+pub mod Orders
+pub mod Sizes

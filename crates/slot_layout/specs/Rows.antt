@@ -1,0 +1,25 @@
+-- Slots as the rows of the layout's definition.
+use Rattle.std.specs.Prelude.{◌≤◌, ◌<◌, ◌^◌, ℕ, List, length, map}
+use Rattle.slot_layout.specs.declared.slots.SlotKind.{SlotKind}
+use Rattle.slot_layout.specs.declared.slots.SlotKind.TheVariants.{Uleb, Call}
+use Rattle.slot_layout.specs.declared.slots.Slot.{Slot}
+use Rattle.leb_codec.specs.Layout.{SlotForm, uleb, call, SlotRow, row_at}
+
+abbrev pub form_of : SlotKind → SlotForm
+form_of Uleb = uleb
+form_of Call = call
+
+abbrev pub row_of : Slot → SlotRow
+row_of slot = record { form = form_of slot.kind; fixed = slot.fixed; from = slot.from; to = slot.to }
+
+abbrev pub rows_of : List Slot → List SlotRow
+rows_of slots = map row_of slots
+
+-- each range of slots lies in the list
+abbrev pub HasRangesInside : List SlotRow → Type 0
+HasRangesInside rows =
+    (i : ℕ) → i < length rows → ((row_at rows i).from ≤ (row_at rows i).to) × ((row_at rows i).to ≤ length rows)
+
+-- each fixed part is below 2^31
+abbrev pub HasSmallFixed : List SlotRow → Type 0
+HasSmallFixed rows = (i : ℕ) → i < length rows → (row_at rows i).fixed < 2 ^ 31
