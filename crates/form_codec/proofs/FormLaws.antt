@@ -1,0 +1,199 @@
+-- What is written of a value in a form, against the forms' own words.
+use Rattle.std.proofs.Common.{◌≡◌, ◌≤◌, ◌-◌, ◌*◌, ◌^◌, ℕ, List, [], ◌∷◌, ◌++◌, length, take, drop, leb, true, false, ◌∙◌, sym, ap, refl, subst, arith}
+use Rattle.std.proofs.lemmas.Bool.{cond_both}
+use Rattle.std.specs.Prelude.{ℤ, pos, FitsSigned, Option, Some, None, MatchOption}
+use Rattle.std.specs.Int.{w64}
+use Rattle.dw_base.specs.declared.fault.Span.{Span}
+use Rattle.spelled.specs.Spelled.{AreBytes}
+use Rattle.leb_codec.specs.Leb.{least_unsigned_len, least_signed_len}
+use Rattle.leb_codec.proofs.SpellingLaws.{unsigned_spellings, signed_spellings}
+use Rattle.form_codec.specs.declared.form.Form.{Form}
+use Rattle.form_codec.specs.declared.form.Form.TheVariants as form
+use Rattle.form_codec.specs.declared.form.Content.{Content}
+use Rattle.form_codec.specs.declared.form.Content.TheVariants as content
+use Rattle.form_codec.specs.declared.form.Role.{Role}
+use Rattle.form_codec.specs.declared.form.Role.TheVariants as role
+use Rattle.form_codec.specs.declared.form.Shape.{Shape}
+use Rattle.form_codec.specs.declared.form.Shape.TheVariants.{Constant, Present, Number, Uleb as ByUleb, Sleb as BySleb, Counted, UlebCounted, Sixteen, ZeroEnded}
+use Rattle.form_codec.specs.declared.form.Width.{Width}
+use Rattle.form_codec.specs.declared.form.Width.TheVariants.{One, Eight}
+use Rattle.form_codec.specs.declared.value.Value.{Value}
+use Rattle.form_codec.specs.declared.value.Value.TheVariants as value
+use Rattle.form_codec.specs.declared.encoding.Encoding.{Encoding}
+use Rattle.form_codec.specs.declared.encoding.Encoding.TheVariants as encoding
+use Rattle.form_codec.specs.Forms.{Meaning, SpellsShape, SpellsValue, SpellsShortest, Admits, HasNoZero, code_of, shape_of, size_of, number, data_of, in_role, of_content, is_written, counted}
+use Rattle.form_codec.specs.Forms.Meaning.{Whole, Bits, Text}
+use Rattle.form_codec.specs.Values.{meant_in, bytes_in, LiesIn, IsPlaced, IsClear, IsValueIn, IsReadValue}
+use Rattle.form_codec.specs.declared.value.ReadValue.{ReadValue}
+use Rattle.form_codec.specs.Written.{low_bytes, Encodes, HasNoEncoding, IsEncoding, HasNoForm, IsFormEncoding, HasNoCode, IsCodeEncoding, HasConstant}
+use Rattle.form_codec.proofs.Codes.{code_once}
+
+pub match_map : {P Q : Type 0} {R S : Encoding → Type 0} (o : Option Encoding) → (P → Q) → ((e : Encoding) → R e → S e) → MatchOption o P R → MatchOption o Q S
+match_map None f g h = f h
+match_map (Some e) f g h = g e h
+
+-- only implicit_const's spelling depends on the constant
+spelled_by : (f : Form) (c d : ℤ) (meaning : Meaning) (bytes : List ℕ) → ((v : ℤ) → FitsSigned w64 v → meaning ≡ Whole v → v ≡ d) → SpellsShape (shape_of f c) meaning bytes → SpellsShape (shape_of f d) meaning bytes
+spelled_by form.ImplicitConst c d meaning bytes same p =
+    let e : c ≡ d = same c p.1 p.2 in
+    (p.0, subst (λ (z : ℤ). FitsSigned w64 z) e p.1, p.2 ∙ ap (λ z. Whole z) e)
+spelled_by f c d meaning bytes same p = p
+
+pub constant_held : (f : Form) (c : ℤ) → FitsSigned w64 c → HasConstant (shape_of f c)
+constant_held form.ImplicitConst c fits = fits
+constant_held f c fits = tt
+
+pub form_encoding : (f : Form) (v : Value) (c : ℤ) → ((section : List ℕ) (w : ℤ) → FitsSigned w64 w → meant_in section v ≡ Whole w → w ≡ c) → (e : Encoding) → IsEncoding (shape_of f c) v e → IsFormEncoding f v e
+form_encoding f v c same e enc = record {
+  constant = c;
+  shape = enc;
+  shortest = λ section bytes others other i written s.
+      enc.shortest section bytes others i written (spelled_by f other c (meant_in section v) others (same section) s);
+}
+
+pub form_none : (f : Form) (v : Value) (c : ℤ) → ((section : List ℕ) (w : ℤ) → FitsSigned w64 w → meant_in section v ≡ Whole w → w ≡ c) → HasNoEncoding (shape_of f c) v → HasNoForm f v
+form_none f v c same none section bytes other i small s = none section bytes i small (spelled_by f other c (meant_in section v) bytes (same section) s)
+
+-- something is written
+encodes_some : (section : List ℕ) (e : Encoding) → (bytes : List ℕ) × Encodes section e bytes
+encodes_some section encoding.Nothing = ([], refl)
+encodes_some section (encoding.Fixed w n) = (low_bytes w n, refl)
+encodes_some section (encoding.Uleb n) =
+    let b = unsigned_spellings.each_len n (least_unsigned_len n) (omega arith) in
+    (b.0, (b.1, b.2))
+encodes_some section (encoding.Sleb n) =
+    let b = signed_spellings.each_len n (least_signed_len n) (omega arith) in
+    (b.0, (b.1, b.2))
+encodes_some section (encoding.Counted w span) = (low_bytes w span.len ++ bytes_in section span, refl)
+encodes_some section (encoding.UlebCounted span) =
+    let b = unsigned_spellings.each_len span.len (least_unsigned_len span.len) (omega arith) in
+    (b.0 ++ bytes_in section span, (b.0, (b.1, b.2), refl))
+encodes_some section (encoding.Bytes span) = (bytes_in section span, refl)
+encodes_some section (encoding.Text span) = (bytes_in section span ++ 0 ∷ [], refl)
+
+-- a spelling in a form, by the form of a code
+in_form : (code : ℕ) (f : Form) (c : ℤ) (meaning : Meaning) (bytes : List ℕ) → code_of f ≡ code → SpellsValue code c meaning bytes → SpellsShape (shape_of f c) meaning bytes
+in_form code f c meaning bytes known s =
+    let same : s.form ≡ f = code_once s.form f (s.known ∙ sym known) in
+    subst (λ (z : Form). SpellsShape (shape_of z c) meaning bytes) same s.spelled
+
+spelling : (code : ℕ) (f : Form) (v : Value) (e : Encoding) (section bytes : List ℕ) → code_of f ≡ code → (enc : IsFormEncoding f v e) → IsValueIn section v → Encodes section e bytes → SpellsValue code enc.constant (meant_in section v) bytes
+spelling code f v e section bytes known enc i written = record {
+  form = f;
+  known = known;
+  small = enc.shape.small section bytes i written;
+  spelled = enc.shape.spells section bytes i written;
+}
+
+pub admitted : (code : ℕ) (f : Form) (v : Value) (e : Encoding) (section : List ℕ) → code_of f ≡ code → is_written f ≡ true → IsFormEncoding f v e → IsValueIn section v → Admits code (meant_in section v)
+admitted code f v e section known chosen enc i =
+    let b = encodes_some section e in
+    record {
+      form = f;
+      known = known;
+      written = chosen;
+      constant = enc.constant;
+      bytes = b.0;
+      spelled = spelling code f v e section b.0 known enc i b.1;
+    }
+
+pub not_admitted : (code : ℕ) (f : Form) (v : Value) (section : List ℕ) → code_of f ≡ code → HasNoForm f v → IsValueIn section v → Admits code (meant_in section v) → ⊥
+not_admitted code f v section known none i a =
+    none section a.bytes a.constant i a.spelled.small (in_form code f a.constant (meant_in section v) a.bytes known a.spelled)
+
+pub not_written : (code : ℕ) (f : Form) (meaning : Meaning) → code_of f ≡ code → is_written f ≡ false → Admits code meaning → ⊥
+not_written code f meaning known never a =
+    let same : a.form ≡ f = code_once a.form f (a.known ∙ sym known) in
+    let chosen : is_written f ≡ true = subst (λ (z : Form). is_written z ≡ true) same a.written in
+    absurd (cc (never, chosen))
+
+pub not_known : (code : ℕ) (meaning : Meaning) → ((f : Form) → code_of f ≡ code → ⊥) → Admits code meaning → ⊥
+not_known code meaning none a = none a.form a.known
+
+pub code_encoding : (code : ℕ) (f : Form) (v : Value) → code_of f ≡ code → (e : Encoding) → IsFormEncoding f v e → IsCodeEncoding code v e
+code_encoding code f v known e enc = record { form = f; known = known; encoding = enc }
+
+pub code_none : (code : ℕ) (f : Form) (v : Value) → code_of f ≡ code → HasNoForm f v → HasNoCode code v
+code_none code f v known none section bytes c i s = none section bytes c i s.small (in_form code f c (meant_in section v) bytes known s)
+
+pub code_unknown : (code : ℕ) (v : Value) → ((f : Form) → code_of f ≡ code → ⊥) → HasNoCode code v
+code_unknown code v none section bytes c i s = none s.form s.known
+
+data_not_text : (size n : ℕ) (text : List ℕ) → data_of size n ≡ Text text → ⊥
+data_not_text size n text =
+    cond_both (leb (2 ^ (8 * size - 1)) n) (Bits size n) (Whole (pos n)) (λ z. z ≡ Text text → ⊥) (λ e same. absurd (cc (same))) (λ e same. absurd (cc (same)))
+
+role_not_text : (r : Role) (w : Width) (n : ℕ) (text : List ℕ) → in_role r w n ≡ Text text → ⊥
+role_not_text role.Data w n text e = data_not_text (size_of w) n text e
+role_not_text r w n text e = absurd (cc (e))
+
+content_not_text : (kind : Content) (bytes text : List ℕ) → of_content kind bytes ≡ Text text → ⊥
+content_not_text content.Data bytes text e = absurd (cc (e))
+content_not_text content.Expression bytes text e = absurd (cc (e))
+
+text_same : (a b : List ℕ) → Text a ≡ Text b → b ≡ a
+text_same a b e = cc
+
+text_clear : (shape : Shape) (text bytes : List ℕ) → SpellsShape shape (Text text) bytes → HasNoZero text
+text_clear (Constant v) text bytes p = absurd (cc (p.2))
+text_clear Present text bytes p = absurd (cc (p.1))
+text_clear (Number w r) text bytes p = absurd (role_not_text r w (number (size_of w) bytes) text (sym p.1))
+text_clear (ByUleb r) text bytes p = absurd (role_not_text r Eight p.0 text (sym p.2))
+text_clear BySleb text bytes p = absurd (cc (p.2))
+text_clear (Counted w) text bytes p = absurd (cc (p.holds))
+text_clear (UlebCounted kind) text bytes p = absurd (content_not_text kind p.body text (sym p.holds))
+text_clear Sixteen text bytes p = absurd (cc (p.1))
+text_clear ZeroEnded text bytes p = subst (λ (z : List ℕ). HasNoZero z) (text_same text p.text p.holds) p.clear
+
+value_clear : (code : ℕ) (section : List ℕ) (v : Value) → Admits code (meant_in section v) → IsClear section v
+value_clear code section (value.Text span) a = text_clear (shape_of a.spelled.form a.constant) (bytes_in section span) a.bytes a.spelled.spelled
+value_clear code section v a = tt
+
+pub value_in : (code : ℕ) (section : List ℕ) (v : Value) → AreBytes section → LiesIn (length section) v → Admits code (meant_in section v) → IsValueIn section v
+value_in code section v small inside a = record { small = small; inside = inside; clear = value_clear code section v a }
+
+flag_shape : (code : ℕ) (f : Form) (c : ℤ) → code_of f ≡ code → code ≡ code_of form.Flag → shape_of f c ≡ Number One role.Truth
+flag_shape code f c known is =
+    let same : f ≡ form.Flag = code_once f form.Flag (known ∙ is) in
+    ap (λ z. shape_of z c) same
+
+pub shortest_written : (code : ℕ) (v : Value) (e : Encoding) (section bytes : List ℕ) → IsCodeEncoding code v e → IsValueIn section v → Encodes section e bytes → SpellsShortest code (meant_in section v) bytes
+shortest_written code v e section bytes enc i written = record {
+  constant = enc.encoding.constant;
+  spelled = spelling code enc.form v e section bytes enc.known enc.encoding i written;
+  shortest = λ other others s.
+      enc.encoding.shortest section bytes others other i written (in_form code enc.form other (meant_in section v) others enc.known s);
+  flag = λ is k lt. enc.encoding.shape.flag section bytes i written (flag_shape code enc.form enc.encoding.constant enc.known is) k lt;
+}
+
+pub shortest_size : (code : ℕ) (v : Value) (e : Encoding) (section written : List ℕ) (size : ℕ) → IsCodeEncoding code v e → IsValueIn section v → ((bytes : List ℕ) → Encodes section e bytes → size ≡ length bytes) → SpellsShortest code (meant_in section v) written → size ≡ length written
+shortest_size code v e section written size enc i sized s =
+    let b = encodes_some section e in
+    let le : length written ≤ length b.0 = s.shortest enc.encoding.constant b.0 (spelling code enc.form v e section b.0 enc.known enc.encoding i b.1) in
+    let ge : length b.0 ≤ length written = enc.encoding.shortest section b.0 written s.constant i b.1 (in_form code enc.form s.constant (meant_in section v) written enc.known s.spelled) in
+    let same : size ≡ length b.0 = sized b.0 b.1 in
+    omega arith
+
+pub counted_whole : (v : Value) → ((span : Span) → v ≡ value.Expr span → ⊥) → ((n : ℕ) → v ≡ value.LocalRef n → ⊥) → (section : List ℕ) (n : ℕ) → counted (meant_in section v) n ≡ n
+counted_whole (value.Expr span) p q section n = absurd (p span refl)
+counted_whole (value.LocalRef m) p q section n = absurd (q m refl)
+counted_whole v p q section n = refl
+
+placed_inside : (v : Value) (at end size : ℕ) → end ≤ size → IsPlaced v at end → LiesIn size v
+placed_inside (value.Wide16 span) at end size h p = omega arith
+placed_inside (value.Block span) at end size h p = omega arith
+placed_inside (value.Expr span) at end size h p = omega arith
+placed_inside (value.Text span) at end size h p = omega (arith, p.1)
+placed_inside v at end size h p = tt
+
+spelled_clear : (code : ℕ) (constant : ℤ) (section bytes : List ℕ) (v : Value) → SpellsValue code constant (meant_in section v) bytes → IsClear section v
+spelled_clear code constant section bytes (value.Text span) s = text_clear (shape_of s.form constant) (bytes_in section span) bytes s.spelled
+spelled_clear code constant section bytes v s = tt
+
+-- what was read is a value of its section
+pub read_in : (code : ℕ) (constant : ℤ) (section : List ℕ) (at end : ℕ) (r : ReadValue) → end ≤ length section → AreBytes section → IsReadValue code constant section at end r → IsValueIn section r.value
+read_in code constant section at end r inside small read = record {
+  small = small;
+  inside = placed_inside r.value at r.end (length section) (omega (arith, read.inside)) read.placed;
+  clear = spelled_clear code constant section (take (r.end - at) (drop at section)) r.value read.spelled;
+}

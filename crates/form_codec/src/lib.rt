@@ -1,0 +1,17 @@
+//! The forms of attribute values (DWARF 5 sections 7.5.5 and 7.5.6): which bytes spell which value.
+#![tactic(auto)]
+
+mod encoding;
+mod form;
+mod laws;
+mod read;
+#[cfg(test)]
+mod tests;
+mod value;
+mod write;
+
+pub use form::{Content, Form, Role, Shape, Width};
+pub use laws::{values_end, values_whole};
+pub use read::{known, read_value};
+pub use value::{ReadValue, Value};
+pub use write::{admits, size_of, write_value};

@@ -1,0 +1,167 @@
+// Values chosen for forms, and written.
+ghost use Rattle.std.specs.Prelude.{◌≡◌, ◌≤◌, ◌<◌, ◌+◌, ◌^◌, ◌↔◌, ◌++◌, ℕ, ℤ, List, length, IsTrue, OnOk, OnErr, MatchOption, FitsSigned};
+ghost use Rattle.std.specs.Int.{w64};
+ghost use Rattle.spelled.specs.Spelled.{Appends};
+ghost use Rattle.form_codec.specs.Forms.{Admits, SpellsShortest, counted};
+ghost use Rattle.form_codec.specs.Forms.Meaning.{Whole};
+ghost use Rattle.form_codec.specs.Values.{meant_in, bytes_in, LiesIn, IsValueIn};
+ghost use Rattle.form_codec.specs.Written.{low_bytes, Encodes, SpanLies, Extends, HasNoForm, IsFormEncoding, HasNoCode, IsCodeEncoding};
+
+use crate::encoding::{Encoding, constant_in, encoding_of};
+use crate::form::{Form, Width};
+use crate::value::Value;
+use dw_base::{NoMemory, Span};
+use leb_codec::{len_s, len_u, put_s, put_u};
+
+// The constant of a value, or 0 where it has none.
+fn constant_of(value: &Value) -> i64
+    ensures { (section : List ℕ) (v : ℤ) → FitsSigned w64 v → meant_in section value.now ≡ Whole v → v ≡ result }
+{
+    match constant_in(value) {
+        Some(constant) => constant,
+        None => 0,
+    }
+}
+
+// What is written of a value in a form, or None where no bytes of this form spell the value.
+fn encoding_in(form: Form, value: &Value) -> Option<Encoding>
+    ensures { MatchOption result (HasNoForm form value.now) (IsFormEncoding form value.now) }
+{
+    encoding_of(form.shape(constant_of(value)), value)
+}
+
+// The same of the form with a code.
+fn encoding_for(code: u64, value: &Value) -> Option<Encoding>
+    ensures { MatchOption result (HasNoCode code value.now) (IsCodeEncoding code value.now) }
+{
+    let Some(form) = Form::from_code(code) else {
+        return None;
+    };
+    encoding_in(form, value)
+}
+
+/// Whether the form with this code can be chosen for a value: some bytes of it spell the value, and it isn't one of
+/// ref1, ref2, ref4 and ref8, which are never written. Codes of no form that is read here answer false, and ref_udata
+/// does so for a reference that counts from the section.
+pub fn admits(form: u64, value: &Value) -> bool
+    ensures { (bytes : List ℕ) → IsValueIn bytes value.now → (IsTrue result ↔ Admits form (meant_in bytes value.now)) }
+{
+    let Some(form) = Form::from_code(form) else {
+        return false;
+    };
+    match encoding_in(form, value) {
+        Some(_) => form.is_written(),
+        None => false,
+    }
+}
+
+// How many bytes are written.
+fn encoded_size(encoding: Encoding) -> u64
+    ensures { (section bytes : List ℕ) → length section < 2 ^ 63 → SpanLies (length section) encoding → Encodes section encoding bytes → result ≡ length bytes }
+{
+    match encoding {
+        Encoding::Nothing => 0,
+        Encoding::Fixed(width, _) => u64::from(width.size()),
+        Encoding::Uleb(number) => u64::from(len_u(number)),
+        Encoding::Sleb(number) => u64::from(len_s(number)),
+        Encoding::Counted(width, span) => u64::from(width.size()).saturating_add(span.len),
+        Encoding::UlebCounted(span) => u64::from(len_u(span.len)).saturating_add(span.len),
+        Encoding::Bytes(span) => span.len,
+        Encoding::Text(span) => span.len.saturating_add(1),
+    }
+}
+
+fn spelled_size(code: u64, value: &Value) -> u64
+    ensures { (bytes written : List ℕ) → length bytes < 2 ^ 63 → IsValueIn bytes value.now → SpellsShortest code (meant_in bytes value.now) written → result ≡ length written }
+{
+    match encoding_for(code, value) {
+        Some(encoding) => encoded_size(encoding),
+        None => 0,
+    }
+}
+
+/// The number of bytes that a value has in the form with this code, written with the shortest LEB128 numbers; 0 for an
+/// expression and for a reference that counts from its unit, which have sizes of their own. Of a form that doesn't admit
+/// the value it says nothing.
+pub fn size_of(form: u64, value: &Value) -> u64
+    ensures { (bytes written : List ℕ) → length bytes < 2 ^ 63 → IsValueIn bytes value.now → SpellsShortest form (meant_in bytes value.now) written → result ≡ counted (meant_in bytes value.now) (length written) }
+{
+    match *value {
+        Value::Expr(_) => 0,
+        Value::LocalRef(_) => 0,
+        _ => spelled_size(form, value),
+    }
+}
+
+fn put_number(out: &mut Vec<u8>, width: Width, number: u64) -> Result<(), NoMemory>
+    ensures ok { OnOk result (out.new.items ≡ out.old.items ++ low_bytes width number) }
+    ensures err { OnErr result (Extends out.old.items out.new.items) }
+{
+    let bytes = number.to_le_bytes();
+    out.extend_from_slice(&bytes[..usize::from(width.size())])?;
+    Ok(())
+}
+
+fn put_span(out: &mut Vec<u8>, span: Span, section: &[u8]) -> Result<(), NoMemory>
+    requires { span.at + span.len ≤ length section.now }
+    ensures ok { OnOk result (out.new.items ≡ out.old.items ++ bytes_in section.now span) }
+    ensures err { OnErr result (Extends out.old.items out.new.items) }
+{
+    let at = span.at as usize;
+    out.extend_from_slice(&section[at..at + span.len as usize])?;
+    Ok(())
+}
+
+// Appends what is written of a value, or a front of it.
+fn append(out: &mut Vec<u8>, encoding: Encoding, section: &[u8]) -> Result<(), NoMemory>
+    requires { SpanLies (length section.now) encoding }
+    ensures ok { OnOk result (Appends (Encodes section.now) encoding out.old.items out.new.items) }
+    ensures err { OnErr result (Extends out.old.items out.new.items) }
+{
+    match encoding {
+        Encoding::Nothing => Ok(()),
+        Encoding::Fixed(width, number) => put_number(out, width, number),
+        Encoding::Uleb(number) => put_u(out, number),
+        Encoding::Sleb(number) => put_s(out, number),
+        Encoding::Counted(width, span) => {
+            put_number(out, width, span.len)?;
+            put_span(out, span, section)
+        }
+        Encoding::UlebCounted(span) => {
+            put_u(out, span.len)?;
+            put_span(out, span, section)
+        }
+        Encoding::Bytes(span) => put_span(out, span, section),
+        Encoding::Text(span) => {
+            put_span(out, span, section)?;
+            out.push(0)?;
+            Ok(())
+        }
+    }
+}
+
+/// Appends a value in the form with this code, which has to admit it, with the shortest LEB128 numbers (DWARF 5 section
+/// 7.5.6). The value's span counts in `section`. A flag is written as 0 or 1. An Err leaves `out` as it was.
+pub fn write_value(
+    out: &mut Vec<u8>,
+    form: u64,
+    value: &Value,
+    section: &[u8],
+) -> Result<(), NoMemory>
+    requires admitted { Admits form (meant_in section.now value.now) }
+    requires inside { LiesIn (length section.now) value.now }
+    ensures ok { OnOk result (Appends (SpellsShortest form) (meant_in section.now value.now) out.old.items out.new.items) }
+    ensures err { OnErr result (out.new.items ≡ out.old.items) }
+{
+    let Some(encoding) = encoding_for(form, value) else {
+        return Ok(());
+    };
+    let start = out.len();
+    match append(out, encoding, section) {
+        Ok(()) => Ok(()),
+        Err(error) => {
+            out.truncate(start);
+            Err(error)
+        }
+    }
+}
