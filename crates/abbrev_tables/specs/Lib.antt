@@ -1,0 +1,6 @@
+pub mod Tables
+pub mod Faults
+pub mod Listings
+pub mod Index
+pub mod Readings
+pub mod Written
