@@ -49,7 +49,7 @@ def build(name, folder):
 
 
 def measure(program, plain, word, operand, nouns, runs):
-    """Prints a line, and tells whether both programs print the same. What they print begins with a count of each noun."""
+    """Prints a line, and tells whether both programs print the same. That begins with a count of each noun."""
     said, seconds, processor, memory = least([program, word, operand], runs)
     plain_said, plain_seconds, plain_processor, plain_memory = least([plain, operand], runs)
     counts = said.split()[::2]
@@ -70,7 +70,7 @@ def main():
     parser.add_argument("--program", default=PROGRAM)
     parser.add_argument("--megabytes", type=int, default=100)
     parser.add_argument("--steps", type=int, default=3_000_000)
-    parser.add_argument("--slots", type=int, default=3_000_000)
+    parser.add_argument("--slots", type=int, default=1 << 22)
     parser.add_argument("--values", type=int, default=2_000_000, help="values drawn, each of which is read 64 times")
     parser.add_argument("--runs", type=int, default=3)
     options = parser.parse_args()

@@ -1,4 +1,4 @@
-// The plain match that the proved reading of attribute values is measured against: it draws the same values and adds them up.
+// The plain match that the proved reading of values is measured against: it draws the same values and adds them up.
 // Build: rustc -O --edition 2021 -C target-cpu=x86-64-v2 bench/plain/values.rs -o values. Run: values COUNT.
 use std::env;
 
