@@ -4,3 +4,6 @@ pub mod Steps
 pub mod Indexes
 pub mod Rows
 pub mod Puts
+pub mod Shortest
+pub mod ListingOnce
+pub mod ListingStands

@@ -1,8 +1,11 @@
 -- What a written table is: used declarations by rising new number, with new columns, and each LEB128 number shortest.
-use Rattle.std.specs.Prelude.{◌≡◌, ◌≢◌, ◌≤◌, ◌<◌, ◌⊎◌, ℕ, zero, suc, ℤ, List, [], ◌∷◌, ◌++◌, length, map, slice_index, slice_index_or, nat_lt, if◌then◌else◌}
+use Rattle.std.specs.Prelude.{◌≡◌, ◌≢◌, ◌≤◌, ◌<◌, ◌⊎◌, ◌^◌, ℕ, zero, suc, ℤ, pos, FitsSigned, List, [], ◌∷◌, ◌++◌, length, map, slice_index, slice_index_or, nat_lt, if◌then◌else◌}
+use Rattle.std.specs.Int.{w64}
+use Rattle.std.specs.List.{All}
 use Rattle.std.specs.List.Sorted.{IsPermutation}
 use Rattle.spelled.specs.Spelled.{UntilEnd, Then}
 use Rattle.leb_codec.specs.Leb.{ShortestUnsigned, ShortestSigned}
+use Rattle.form_codec.specs.Forms.{IsKnown}
 use Rattle.abbrev_tables.specs.declared.decl.Decl.{Decl}
 use Rattle.abbrev_tables.specs.declared.decl.Spec.{Spec}
 use Rattle.abbrev_tables.specs.Tables.{implicit_const, SpellsChildren, Declared}
@@ -25,6 +28,20 @@ ShortestDeclared d bytes = Then ShortestUnsigned (λ _. Then ShortestUnsigned (�
 -- declarations, and a code 0
 abbrev pub ShortestTable : List Declared → List ℕ → Type 0
 ShortestTable ds bytes = UntilEnd ShortestDeclared (λ end. end ≡ 0 ∷ []) ds bytes
+
+-- a column that a table can have
+pub record IsWritableColumn (column : Spec) : Type 0 where
+  pub named : column.name ≢ 0
+  pub narrow : column.name < 2 ^ 32
+  pub known : IsKnown column.form
+  pub constant : ((column.form ≡ implicit_const) × FitsSigned w64 column.constant) ⊎ ((column.form ≢ implicit_const) × (column.constant ≡ pos 0))
+
+-- a declaration that a table can have
+pub record IsWritable (d : Declared) : Type 0 where
+  pub coded : d.code ≢ 0
+  pub fits : d.code < 2 ^ 64
+  pub narrow : d.tag < 2 ^ 32
+  pub columns : All IsWritableColumn d.columns
 
 -- the declarations whose new number isn't 0, among the first n: the new number and the place in the list
 abbrev pub used_among : List ℕ → ℕ → List (ℕ × ℕ)

@@ -10,6 +10,6 @@ mod tests;
 mod write;
 
 pub use decl::{Decl, Spec};
-pub use laws::{tables_end, tables_whole};
+pub use laws::{listings, tables_end, tables_whole, tables_written};
 pub use table::Table;
 pub use write::write_table;

@@ -1,9 +1,9 @@
 -- No two forms have the same code.
-use Rattle.std.proofs.Common.{◌≡◌, ℕ, ◌∙◌, sym, ap, refl}
+use Rattle.std.proofs.Common.{◌≡◌, ◌≤◌, ℕ, ◌∙◌, sym, ap, refl, subst, arith}
 use Rattle.std.specs.Prelude.{nat_eq, if◌then◌else◌}
 use Rattle.form_codec.specs.declared.form.Form.{Form}
 use Rattle.form_codec.specs.declared.form.Form.TheVariants.{Addr, Block2, Block4, Data2, Data4, Data8, String, Block, Block1, Data1, Flag, Sdata, Strp, Udata, RefAddr, Ref1, Ref2, Ref4, Ref8, RefUdata, SecOffset, Exprloc, FlagPresent, Strx, Addrx, RefSup4, StrpSup, Data16, LineStrp, RefSig8, ImplicitConst, Loclistx, Rnglistx, RefSup8, Strx1, Strx2, Strx3, Strx4, Addrx1, Addrx2, Addrx3, Addrx4}
-use Rattle.form_codec.specs.Forms.{code_of}
+use Rattle.form_codec.specs.Forms.{code_of, IsKnown}
 
 abbrev form_at : ℕ → Form
 form_at code =
@@ -97,3 +97,51 @@ back Addrx4 = refl
 
 pub code_once : (f g : Form) → code_of f ≡ code_of g → f ≡ g
 code_once f g e = sym (back f) ∙ ap form_at e ∙ back g
+
+-- the codes are from 1 to 44
+form_range : (form : Form) → (1 ≤ code_of form) × (code_of form ≤ 44)
+form_range Addr = (omega arith, omega arith)
+form_range Block2 = (omega arith, omega arith)
+form_range Block4 = (omega arith, omega arith)
+form_range Data2 = (omega arith, omega arith)
+form_range Data4 = (omega arith, omega arith)
+form_range Data8 = (omega arith, omega arith)
+form_range String = (omega arith, omega arith)
+form_range Block = (omega arith, omega arith)
+form_range Block1 = (omega arith, omega arith)
+form_range Data1 = (omega arith, omega arith)
+form_range Flag = (omega arith, omega arith)
+form_range Sdata = (omega arith, omega arith)
+form_range Strp = (omega arith, omega arith)
+form_range Udata = (omega arith, omega arith)
+form_range RefAddr = (omega arith, omega arith)
+form_range Ref1 = (omega arith, omega arith)
+form_range Ref2 = (omega arith, omega arith)
+form_range Ref4 = (omega arith, omega arith)
+form_range Ref8 = (omega arith, omega arith)
+form_range RefUdata = (omega arith, omega arith)
+form_range SecOffset = (omega arith, omega arith)
+form_range Exprloc = (omega arith, omega arith)
+form_range FlagPresent = (omega arith, omega arith)
+form_range Strx = (omega arith, omega arith)
+form_range Addrx = (omega arith, omega arith)
+form_range RefSup4 = (omega arith, omega arith)
+form_range StrpSup = (omega arith, omega arith)
+form_range Data16 = (omega arith, omega arith)
+form_range LineStrp = (omega arith, omega arith)
+form_range RefSig8 = (omega arith, omega arith)
+form_range ImplicitConst = (omega arith, omega arith)
+form_range Loclistx = (omega arith, omega arith)
+form_range Rnglistx = (omega arith, omega arith)
+form_range RefSup8 = (omega arith, omega arith)
+form_range Strx1 = (omega arith, omega arith)
+form_range Strx2 = (omega arith, omega arith)
+form_range Strx3 = (omega arith, omega arith)
+form_range Strx4 = (omega arith, omega arith)
+form_range Addrx1 = (omega arith, omega arith)
+form_range Addrx2 = (omega arith, omega arith)
+form_range Addrx3 = (omega arith, omega arith)
+form_range Addrx4 = (omega arith, omega arith)
+
+pub code_range : (code : ℕ) → IsKnown code → (1 ≤ code) × (code ≤ 44)
+code_range code (form, known) = subst (λ (c : ℕ). (1 ≤ c) × (c ≤ 44)) known (form_range form)

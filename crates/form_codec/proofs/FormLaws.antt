@@ -1,5 +1,5 @@
 -- What is written of a value in a form, against the forms' own words.
-use Rattle.std.proofs.Common.{◌≡◌, ◌≤◌, ◌-◌, ◌*◌, ◌^◌, ℕ, List, [], ◌∷◌, ◌++◌, length, take, drop, leb, true, false, ◌∙◌, sym, ap, refl, subst, arith}
+use Rattle.std.proofs.Common.{◌≡◌, ◌≢◌, ◌≤◌, ◌-◌, ◌*◌, ◌^◌, ℕ, List, [], ◌∷◌, ◌++◌, length, take, drop, leb, true, false, ◌∙◌, sym, ap, refl, subst, arith}
 use Rattle.std.proofs.lemmas.Bool.{cond_both}
 use Rattle.std.specs.Prelude.{ℤ, pos, FitsSigned, Option, Some, None, MatchOption}
 use Rattle.std.specs.Int.{w64}
@@ -38,6 +38,33 @@ spelled_by form.ImplicitConst c d meaning bytes same p =
     let e : c ≡ d = same c p.1 p.2 in
     (p.0, subst (λ (z : ℤ). FitsSigned w64 z) e p.1, p.2 ∙ ap (λ z. Whole z) e)
 spelled_by f c d meaning bytes same p = p
+
+-- the form of a code other than implicit_const's takes no constant
+pub any_constant : (code : ℕ) (c d : ℤ) (meaning : Meaning) (bytes : List ℕ) → code ≢ code_of form.ImplicitConst → SpellsValue code c meaning bytes → SpellsValue code d meaning bytes
+any_constant code c d meaning bytes other s = record {
+  form = s.form;
+  known = s.known;
+  small = s.small;
+  spelled = spelled_else s.form c d meaning bytes (λ is. other (sym s.known ∙ ap (λ z. code_of z) is)) s.spelled;
+}
+  where
+    spelled_else : (f : Form) (c d : ℤ) (meaning : Meaning) (bytes : List ℕ) → (f ≡ form.ImplicitConst → ⊥) → SpellsShape (shape_of f c) meaning bytes → SpellsShape (shape_of f d) meaning bytes
+    spelled_else form.ImplicitConst c d meaning bytes never p = absurd (never refl)
+    spelled_else f c d meaning bytes never p = p
+
+-- implicit_const spells its constant by nothing
+pub constant_spelled : (c : ℤ) (meaning : Meaning) (bytes : List ℕ) → SpellsValue (code_of form.ImplicitConst) c meaning bytes → (bytes ≡ []) × FitsSigned w64 c × (meaning ≡ Whole c)
+constant_spelled c meaning bytes s =
+    let same : s.form ≡ form.ImplicitConst = code_once s.form form.ImplicitConst s.known in
+    subst (λ (z : Form). SpellsShape (shape_of z c) meaning bytes) same s.spelled
+
+pub spells_constant : (c : ℤ) → FitsSigned w64 c → SpellsValue (code_of form.ImplicitConst) c (Whole c) []
+spells_constant c fits = record {
+  form = form.ImplicitConst;
+  known = refl;
+  small = λ k lt. absurd (omega arith);
+  spelled = (refl, fits, refl);
+}
 
 pub constant_held : (f : Form) (c : ℤ) → FitsSigned w64 c → HasConstant (shape_of f c)
 constant_held form.ImplicitConst c fits = fits
@@ -166,13 +193,16 @@ shortest_written code v e section bytes enc i written = record {
   flag = λ is k lt. enc.encoding.shape.flag section bytes i written (flag_shape code enc.form enc.encoding.constant enc.known is) k lt;
 }
 
-pub shortest_size : (code : ℕ) (v : Value) (e : Encoding) (section written : List ℕ) (size : ℕ) → IsCodeEncoding code v e → IsValueIn section v → ((bytes : List ℕ) → Encodes section e bytes → size ≡ length bytes) → SpellsShortest code (meant_in section v) written → size ≡ length written
-shortest_size code v e section written size enc i sized s =
+pub shortest_some : (code : ℕ) (v : Value) (e : Encoding) (section : List ℕ) (size : ℕ) → IsCodeEncoding code v e → IsValueIn section v → ((bytes : List ℕ) → Encodes section e bytes → size ≡ length bytes) → (written : List ℕ) × SpellsShortest code (meant_in section v) written × (size ≡ length written)
+shortest_some code v e section size enc i sized =
     let b = encodes_some section e in
-    let le : length written ≤ length b.0 = s.shortest enc.encoding.constant b.0 (spelling code enc.form v e section b.0 enc.known enc.encoding i b.1) in
-    let ge : length b.0 ≤ length written = enc.encoding.shortest section b.0 written s.constant i b.1 (in_form code enc.form s.constant (meant_in section v) written enc.known s.spelled) in
-    let same : size ≡ length b.0 = sized b.0 b.1 in
-    omega arith
+    (b.0, shortest_written code v e section b.0 enc i b.1, sized b.0 b.1)
+
+pub counted_expr : (v : Value) (span : Span) → v ≡ value.Expr span → (section : List ℕ) (n : ℕ) → 0 ≡ counted (meant_in section v) n
+counted_expr v span e section n = ap (λ z. counted (meant_in section z) n) (sym e)
+
+pub counted_local : (v : Value) (place : ℕ) → v ≡ value.LocalRef place → (section : List ℕ) (n : ℕ) → 0 ≡ counted (meant_in section v) n
+counted_local v place e section n = ap (λ z. counted (meant_in section z) n) (sym e)
 
 pub counted_whole : (v : Value) → ((span : Span) → v ≡ value.Expr span → ⊥) → ((n : ℕ) → v ≡ value.LocalRef n → ⊥) → (section : List ℕ) (n : ℕ) → counted (meant_in section v) n ≡ n
 counted_whole (value.Expr span) p q section n = absurd (p span refl)

@@ -81,14 +81,11 @@ pub record IsFormEncoding (form : Form) (value : Value) (encoding : Encoding) : 
   pub shape : IsEncoding (shape_of form constant) value encoding
   pub shortest : (section bytes others : List ℕ) (other : ℤ) → IsValueIn section value → Encodes section encoding bytes → SpellsShape (shape_of form other) (meant_in section value) others → length bytes ≤ length others
 
--- new is old with some bytes at its end
-abbrev pub Extends : List ℕ → List ℕ → Type 0
-Extends old new = (bytes : List ℕ) × (new ≡ old ++ bytes)
-
--- the same of a form's code
+-- no bytes of the form with this code spell the value
 abbrev pub HasNoCode : ℕ → Value → Type 0
 HasNoCode code value = (section bytes : List ℕ) (constant : ℤ) → IsValueIn section value → SpellsValue code constant (meant_in section value) bytes → ⊥
 
+-- what is written spells the value in the form with this code, and nothing shorter does
 pub record IsCodeEncoding (code : ℕ) (value : Value) (written : Encoding) : Type 0 where
   pub form : Form
   pub known : code_of form ≡ code

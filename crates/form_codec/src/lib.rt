@@ -11,7 +11,7 @@ mod value;
 mod write;
 
 pub use form::{Content, Form, Role, Shape, Width};
-pub use laws::{values_end, values_whole};
+pub use laws::{constants, values_end, values_whole};
 pub use read::{known, read_value};
 pub use value::{ReadValue, Value};
 pub use write::{admits, size_of, write_value};

@@ -2,10 +2,11 @@
 ghost use Rattle.std.specs.Prelude.{◌≡◌, ◌≤◌, ◌<◌, ◌+◌, ◌^◌, ◌↔◌, ◌++◌, ℕ, ℤ, List, length, IsTrue, OnOk, OnErr, MatchOption, FitsSigned};
 ghost use Rattle.std.specs.Int.{w64};
 ghost use Rattle.spelled.specs.Spelled.{Appends};
+ghost use Rattle.leb_codec.specs.Digits.{Extends};
 ghost use Rattle.form_codec.specs.Forms.{Admits, SpellsShortest, counted};
 ghost use Rattle.form_codec.specs.Forms.Meaning.{Whole};
 ghost use Rattle.form_codec.specs.Values.{meant_in, bytes_in, LiesIn, IsValueIn};
-ghost use Rattle.form_codec.specs.Written.{low_bytes, Encodes, SpanLies, Extends, HasNoForm, IsFormEncoding, HasNoCode, IsCodeEncoding};
+ghost use Rattle.form_codec.specs.Written.{low_bytes, Encodes, SpanLies, HasNoForm, IsFormEncoding, HasNoCode, IsCodeEncoding};
 
 use crate::encoding::{Encoding, constant_in, encoding_of};
 use crate::form::{Form, Width};
@@ -71,8 +72,9 @@ fn encoded_size(encoding: Encoding) -> u64
     }
 }
 
+// How many bytes a value has in the form with a code that admits it.
 fn spelled_size(code: u64, value: &Value) -> u64
-    ensures { (bytes written : List ℕ) → length bytes < 2 ^ 63 → IsValueIn bytes value.now → SpellsShortest code (meant_in bytes value.now) written → result ≡ length written }
+    ensures { (section : List ℕ) → length section < 2 ^ 63 → IsValueIn section value.now → Admits code (meant_in section value.now) → (written : List ℕ) × SpellsShortest code (meant_in section value.now) written × (result ≡ length written) }
 {
     match encoding_for(code, value) {
         Some(encoding) => encoded_size(encoding),
@@ -84,12 +86,13 @@ fn spelled_size(code: u64, value: &Value) -> u64
 /// expression and for a reference that counts from its unit, which have sizes of their own. Of a form that doesn't admit
 /// the value it says nothing.
 pub fn size_of(form: u64, value: &Value) -> u64
-    ensures { (bytes written : List ℕ) → length bytes < 2 ^ 63 → IsValueIn bytes value.now → SpellsShortest form (meant_in bytes value.now) written → result ≡ counted (meant_in bytes value.now) (length written) }
+    ensures { (section : List ℕ) → length section < 2 ^ 63 → IsValueIn section value.now → Admits form (meant_in section value.now) → (written : List ℕ) × SpellsShortest form (meant_in section value.now) written × (result ≡ counted (meant_in section value.now) (length written)) }
 {
+    let size = spelled_size(form, value);
     match *value {
         Value::Expr(_) => 0,
         Value::LocalRef(_) => 0,
-        _ => spelled_size(form, value),
+        _ => size,
     }
 }
 
