@@ -1,0 +1,4 @@
+pub mod Sums
+pub mod TallyLaws
+pub mod Best
+pub mod RowLaws

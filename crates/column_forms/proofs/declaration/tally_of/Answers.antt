@@ -1,0 +1,22 @@
+use Rattle.std.proofs.Common.{◌≡◌, ◌<◌, ◌+◌, ◌*◌, ◌∷◌, [], ℕ, length, ◌∙◌, ap, subst, arith}
+use Rattle.column_forms.specs.Tallies.{IsTally}
+use Rattle.column_forms.specs.Rows.{value_at, column_of}
+use Rattle.column_forms.proofs.RowLaws.{row_inside, one_more}
+use Rattle.column_forms.proofs.declaration.tally_of.Goals as goal
+
+pub loop-row-init : goal.loop-row-init
+loop-row-init c =
+    let e = c.in_ok-tally.ensures in
+    let first : c.args.column ≡ 0 * c.args.width + c.args.column = omega arith in
+    let in_rows : 0 * c.args.width + c.args.column < c.args.rows * c.args.width = row_inside 0 c.args.rows c.args.width c.args.column c.requires.some c.requires.inside in
+    let inside : c.args.column < length c.args.values.now = omega (arith, c.requires.all) in
+    (e.count, λ section here. subst (λ (z : ℕ). IsTally section (value_at c.args.values.now z ∷ []) c.in_ok-tally.tally) first (e.tally section (here c.args.column inside)))
+
+pub loop-row-preserved : goal.loop-row-preserved
+loop-row-preserved c =
+    let e = c.add.ensures in
+    let inv = c.loop-row.invariant in
+    let at : ℕ = c.loop-row.row * c.args.width + c.args.column in
+    let in_rows : at < c.args.rows * c.args.width = row_inside c.loop-row.row c.args.rows c.args.width c.args.column c.loop-row-test.true c.requires.inside in
+    let inside : at < length c.args.values.now = omega (arith, c.requires.all) in
+    (e.count ∙ ap (λ z. z + 1) inv.0, λ section here. subst (λ (z : ℕ). IsTally section (column_of c.args.values.now c.args.width c.args.column z) c.add.new.self) (one_more c.loop-row.row) (e.tally section (column_of c.args.values.now c.args.width c.args.column c.loop-row.row) (here at inside) (inv.1 section here)))
