@@ -1,0 +1,59 @@
+-- What is found by its place.
+use Rattle.std.proofs.Common.{◌≡◌, ◌≢◌, ◌≤◌, ◌<◌, ℕ, List, length, get_or, sym, ap, subst, ◌∙◌, arith, inl, inr, Less, Equal, Greater}
+use Rattle.std.specs.Prelude.{Option, Some, None, ◌↔◌}
+use Rattle.std.specs.Ordering.{nat_cmp, ordering_index}
+use Rattle.std.specs.List.{HoldsAt}
+use Rattle.std.specs.List.Sorted.{IsNonDecreasingBy, IsPartitionPoint}
+use Rattle.std.proofs.lemmas.Cmp.{ranked}
+use Rattle.std.proofs.lemmas.List.Sorted.{IsNonDecreasingBy-from_default}
+use Rattle.std.proofs.lemmas.Bool.{cases_lt}
+use Rattle.std.proofs.lemmas.Bool.Decides.{nat_tests}
+use Rattle.entry_arena.specs.declared.entry.Target.{Target}
+use Rattle.entry_arena.specs.declared.entry.Target.TheVariants.{Entry as TheEntry, ChainEnd as TheEnd}
+use Rattle.entry_arena.specs.Arena.{Arena, chain_end_at, IsChainEndAt}
+use Rattle.entry_arena.specs.Order.{IsInOrder}
+
+module _ {X : Type 0} (key : X → ℕ) (xs : List X) (d : X) (rising : (i j : ℕ) → i < j → j < length xs → key (get_or xs i d) < key (get_or xs j d)) (k : ℕ) where
+  comparisons_rise : IsNonDecreasingBy (λ x. ordering_index (nat_cmp (key x) k)) xs
+  comparisons_rise = IsNonDecreasingBy-from_default (λ x. ordering_index (nat_cmp (key x) k)) xs d (λ i j le inside.
+      let keys : key (get_or xs i d) ≤ key (get_or xs j d) = grind (arith, rising i j, λ (same : i ≡ j). ap (λ n. key (get_or xs n d)) same) in
+      grind (arith, nat_tests))
+
+  -- a search ends at a place of the key
+  pub found : (i : ℕ) → HoldsAt (λ x. nat_cmp (key x) k ≡ Equal) xs i → key (get_or xs i d) ≡ k
+  found i equal = ranked _ k _ (sym (equal d))
+
+  -- or nothing has the key
+  pub not_found : (at : ℕ) → (IsNonDecreasingBy (λ x. ordering_index (nat_cmp (key x) k)) xs → IsPartitionPoint (λ x. nat_cmp (key x) k ≡ Less) (λ x. nat_cmp (key x) k ≡ Greater) xs at) → (i : ℕ) → i < length xs → key (get_or xs i d) ≢ k
+  not_found at parted i inside same =
+      elim (cases_lt i at) [
+        | inl l ↦
+            let less : key (get_or xs i d) < k = ranked _ k _ (sym ((parted comparisons_rise).0 i d (omega arith) l)) in
+            omega arith
+        | inr g ↦
+            let more : k < key (get_or xs i d) = ranked _ k _ (sym ((parted comparisons_rise).1 i d g inside)) in
+            omega arith
+      ]
+
+-- the number in an answer, and 0 where there is none
+number_of : Option Target → ℕ
+number_of None = 0
+number_of (Some (TheEntry id)) = id
+number_of (Some (TheEnd id)) = id
+
+same_end : (a b : ℕ) → Some (TheEnd a) ≡ Some (TheEnd b) → a ≡ b
+unfolding number_of
+same_end a b e = ap number_of e
+
+module _ (f : Arena) (order : IsInOrder f) where
+  -- a place has one end of a chain
+  one_end : (a b place : ℕ) → IsChainEndAt f a place → IsChainEndAt f b place → a ≡ b
+  one_end a b place (i, li, ei) (j, lj, ej) =
+      let at_i : (chain_end_at f.ends i).at ≡ place = ap (λ z. z.at) ei in
+      let at_j : (chain_end_at f.ends j).at ≡ place = ap (λ z. z.at) ej in
+      let same : i ≡ j = grind (arith, order.ended.rising i j, order.ended.rising j i) in
+      sym (ap (λ z. z.entry) ei) ∙ ap (λ n. (chain_end_at f.ends n).entry) same ∙ ap (λ z. z.entry) ej
+
+  -- the answer names the entry of the one that stands there
+  pub end_target : (id place : ℕ) → IsChainEndAt f id place → (other : ℕ) → (Some (TheEnd id) ≡ Some (TheEnd other)) ↔ IsChainEndAt f other place
+  end_target id place here other = (λ e. subst (λ n. IsChainEndAt f n place) (same_end id other e) here, λ there. ap (λ n. Some (TheEnd n)) (one_end id other place here there))

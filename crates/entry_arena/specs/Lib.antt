@@ -1,0 +1,13 @@
+pub mod Arena
+pub mod Ends
+pub mod ForestLaws
+pub mod Fronts
+pub mod Order
+pub mod Preorders
+pub mod Runs
+pub mod Spellings
+pub mod Trees
+pub mod Walks
+pub mod Forests
+pub mod Places
+pub mod Standing

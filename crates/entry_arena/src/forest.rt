@@ -1,0 +1,212 @@
+// Forests, as they are held.
+ghost use Rattle.std.specs.Prelude.{◌≡◌, ◌≢◌, ◌≤◌, ◌<◌, ◌+◌, ◌^◌, ℕ, length, None, Some, IsTrue, IfOk, IfErr, MatchOption, ◌↔◌};
+ghost use Rattle.form_codec.specs.Values.{bytes_in};
+ghost use Rattle.entry_arena.specs.declared.entry.Target.TheVariants.{Entry as TheEntry, ChainEnd as TheEnd};
+ghost use Rattle.entry_arena.specs.Arena.{nothing_of, with_entry, with_value, with_end, entry_at, value_at, chain_end_at, IsEntryAt, HasChainEnd, IsChainEndAt};
+ghost use Rattle.entry_arena.specs.Order.{IsInOrder, IsNextEntry, IsNextValue, IsNextEnd};
+
+use crate::entry::{ChainEnd, Entry, Target};
+use dw_base::{NoMemory, Span};
+use form_codec::Value;
+use std::alloc::Global;
+use std::marker::Model;
+
+// No more things of a kind are held than 32 bits count.
+const MOST: usize = 0xffff_ffff;
+
+/// The entries of a unit in preorder, with their values and the codes 0 that end chains of siblings (DWARF 5 sections
+/// 2.3 and 7.5.2). Contracts see it as these lists and the bytes of the section, which it borrows. Places and spans count
+/// from the first byte of the section, and numbers of things that are held from 0.
+#[derive(Drop)]
+pub struct Forest<'a> {
+    section: &'a [u8],
+    entries: Vec<Entry>,
+    values: Vec<Value>,
+    ends: Vec<ChainEnd>,
+}
+
+impl<'a> Model for Forest<'a> {
+    ghost use Rattle.entry_arena.specs.Arena.{Arena};
+    ghost use Rattle.entry_arena.specs.Order.{IsHeld};
+
+    ghost Value = { Arena };
+
+    ghost view = { λ f. record { section = f.section.now; entries = f.entries.items; values = f.values.items; ends = f.ends.items } };
+
+    ghost invariant = { λ f. IsHeld (record { section = f.section.now; entries = f.entries.items; values = f.values.items; ends = f.ends.items }) };
+}
+
+// The number of the entry that begins at a place.
+fn entry_from(entries: &[Entry], place: u64) -> Option<u32>
+    requires few { length entries.now < 2 ^ 32 }
+    requires rising { (i j : ℕ) → i < j → j < length entries.now → (entry_at entries.now i).at < (entry_at entries.now j).at }
+    ensures { MatchOption result ((i : ℕ) → i < length entries.now → (entry_at entries.now i).at ≢ place) (λ i. (i < length entries.now) × ((entry_at entries.now i).at ≡ place)) }
+{
+    match entries.binary_search_by_key(&place, |entry| entry.at) {
+        Ok(number) => Some(number as u32),
+        Err(_) => None,
+    }
+}
+
+// The number of the entry whose children a code 0 at a place ends.
+fn parent_of(ends: &[ChainEnd], place: u64) -> Option<u32>
+    requires rising { (i j : ℕ) → i < j → j < length ends.now → (chain_end_at ends.now i).at < (chain_end_at ends.now j).at }
+    ensures { MatchOption result ((i : ℕ) → i < length ends.now → (chain_end_at ends.now i).at ≢ place) (λ id. HasChainEnd ends.now id place) }
+{
+    match ends.binary_search_by_key(&place, |end| end.at) {
+        Ok(number) => Some(ends[number].entry),
+        Err(_) => None,
+    }
+}
+
+impl<'a> Forest<'a> {
+    /// A forest without entries, of a section that it borrows.
+    pub fn new(alloc: Global, section: &'a [u8]) -> Forest<'a>
+        ensures { result ≡ nothing_of section.entry.now }
+    {
+        Forest {
+            section,
+            entries: Vec::new(alloc),
+            values: Vec::new(alloc),
+            ends: Vec::new(alloc),
+        }
+    }
+
+    /// Appends the next entry in preorder, and answers its number. Its bytes, at least one, lie in the section and after
+    /// all entries and chain ends that were pushed. Its depth is at most one above that of the last entry, and the first
+    /// entry has depth 0. Its `count` values from `first` on were pushed before it, and follow those of the last entry.
+    /// The only error is want of memory, which also answers an entry past the first 2^32 - 1; it changes nothing.
+    pub fn push_entry(&mut self, e: Entry) -> Result<u32, NoMemory>
+        requires { IsNextEntry self.old e }
+        ensures pushed { IfOk result (λ id. (id ≡ length self.old.entries) × (self.new ≡ with_entry self.old e)) }
+        ensures unchanged { IfErr result (λ _. self.new ≡ self.old) }
+    {
+        if self.entries.len() >= MOST {
+            return Err(NoMemory);
+        }
+        let id = self.entries.len() as u32;
+        self.entries.push(e)?;
+        Ok(id)
+    }
+
+    /// Appends the next value of the entry that is pushed next, and answers its number. The bytes that it lends lie in the
+    /// section, and after those of all values that were pushed. The only error is want of memory, which also answers a
+    /// value past the first 2^32 - 1; it changes nothing.
+    pub fn push_value(&mut self, v: Value) -> Result<u32, NoMemory>
+        requires { IsNextValue self.old v }
+        ensures pushed { IfOk result (λ id. (id ≡ length self.old.values) × (self.new ≡ with_value self.old v)) }
+        ensures unchanged { IfErr result (λ _. self.new ≡ self.old) }
+    {
+        if self.values.len() >= MOST {
+            return Err(NoMemory);
+        }
+        let id = self.values.len() as u32;
+        self.values.push(v)?;
+        Ok(id)
+    }
+
+    /// Appends the place of the code 0 that ends the children of the entry with number `id`, which was pushed. The place
+    /// is one of the section, after all entries and chain ends that were pushed. The only error is want of memory, which
+    /// also answers a chain end past the first 2^32 - 1; it changes nothing.
+    pub fn push_chain_end(&mut self, id: u32, at: u64) -> Result<(), NoMemory>
+        requires { IsNextEnd self.old id at }
+        ensures pushed { IfOk result (λ _. self.new ≡ with_end self.old (record { entry = id; at = at })) }
+        ensures unchanged { IfErr result (λ _. self.new ≡ self.old) }
+    {
+        if self.ends.len() >= MOST {
+            return Err(NoMemory);
+        }
+        self.ends.push(ChainEnd { entry: id, at })?;
+        Ok(())
+    }
+
+    /// How many entries there are.
+    pub fn len(&self) -> u32
+        ensures { result ≡ length self.now.entries }
+    {
+        self.entries.len() as u32
+    }
+
+    /// Whether there are no entries.
+    pub fn is_empty(&self) -> bool
+        ensures { IsTrue result ↔ (length self.now.entries ≡ 0) }
+    {
+        self.entries.is_empty()
+    }
+
+    /// How many values the entries have.
+    pub fn value_count(&self) -> u32
+        ensures { result ≡ length self.now.values }
+    {
+        self.values.len() as u32
+    }
+
+    /// The entry with a number, counted from 0 in preorder.
+    pub fn entry(&self, id: u32) -> Entry
+        requires { id < length self.now.entries }
+        ensures { result ≡ entry_at self.now.entries id }
+    {
+        self.entries[id as usize]
+    }
+
+    /// The value with a number, counted from 0 over all entries in preorder.
+    pub fn value(&self, id: u32) -> Value
+        requires { id < length self.now.values }
+        ensures { result ≡ value_at self.now.values id }
+    {
+        self.values[id as usize]
+    }
+
+    /// The bytes of a span of the section.
+    pub fn bytes(&self, span: Span) -> &[u8]
+        requires { span.at + span.len ≤ length self.now.section }
+        ensures { result.now ≡ bytes_in self.now.section span }
+    {
+        &self.section[span.at as usize..(span.at + span.len) as usize]
+    }
+
+    /// The section that the forest borrows.
+    pub fn section(&self) -> &'a [u8]
+        ensures { result.now ≡ self.now.section }
+    {
+        self.section
+    }
+
+    /// The entries in preorder.
+    pub fn entries(&self) -> &[Entry]
+        ensures entries { result.now ≡ self.now.entries }
+        ensures order { IsInOrder self.now }
+    {
+        &self.entries
+    }
+
+    /// The values of all entries in preorder.
+    pub fn values(&self) -> &[Value]
+        ensures values { result.now ≡ self.now.values }
+        ensures order { IsInOrder self.now }
+    {
+        &self.values
+    }
+
+    /// The codes 0 that end chains of siblings, in the order of their places.
+    pub fn chain_ends(&self) -> &[ChainEnd]
+        ensures ends { result.now ≡ self.now.ends }
+        ensures order { IsInOrder self.now }
+    {
+        &self.ends
+    }
+
+    /// What begins at `offset`, counted from the first byte of the section: an entry or a chain end exactly where that
+    /// has this place, and None exactly where neither has.
+    pub fn target_at(&self, offset: u64) -> Option<Target>
+        ensures entry { (id : ℕ) → (result ≡ Some (TheEntry id)) ↔ IsEntryAt self.now id offset }
+        ensures chain_end { (id : ℕ) → (result ≡ Some (TheEnd id)) ↔ IsChainEndAt self.now id offset }
+        ensures none { (result ≡ None) ↔ ((id : ℕ) → (IsEntryAt self.now id offset → ⊥) × (IsChainEndAt self.now id offset → ⊥)) }
+    {
+        if let Some(id) = entry_from(&self.entries, offset) {
+            return Some(Target::Entry(id));
+        }
+        let parent = parent_of(&self.ends, offset)?;
+        Some(Target::ChainEnd(parent))
+    }
+}
