@@ -1,0 +1,101 @@
+-- The header of a unit of .debug_info (DWARF 5 section 7.5.1), in the 32-bit format.
+use Rattle.std.specs.Prelude.{◌≡◌, ◌≤◌, ◌<◌, ◌+◌, ◌-◌, ◌⊎◌, ℕ, List, [], ◌∷◌, length, drop, slice_index, nat_eq, if◌then◌else◌}
+use Rattle.form_codec.specs.Forms.{number}
+use Rattle.entry_read.specs.declared.head.UnitHead.{UnitHead}
+
+-- the number in n bytes from a place on, the lowest first
+abbrev pub number_at : ℕ → ℕ → List ℕ → ℕ
+number_at n at section = number n (drop at section)
+
+-- the fields that each header has, where the unit stands at a place
+abbrev pub unit_length : List ℕ → ℕ → ℕ
+unit_length section at = number_at 4 at section
+
+abbrev pub version : List ℕ → ℕ → ℕ
+version section at = number_at 2 (at + 4) section
+
+abbrev pub unit_type : List ℕ → ℕ → ℕ
+unit_type section at = slice_index section (at + 6)
+
+abbrev pub address_size : List ℕ → ℕ → ℕ
+address_size section at = slice_index section (at + 7)
+
+abbrev pub debug_abbrev_offset : List ℕ → ℕ → ℕ
+debug_abbrev_offset section at = number_at 4 (at + 8) section
+
+-- the fields that only some have: the signature of a type unit or the dwo_id of a skeleton unit, and type_offset
+abbrev pub signature : List ℕ → ℕ → ℕ
+signature section at = number_at 8 (at + 12) section
+
+abbrev pub type_offset : List ℕ → ℕ → ℕ
+type_offset section at = number_at 4 (at + 20) section
+
+-- the types of units that are read: DW_UT_compile, DW_UT_type, DW_UT_partial and DW_UT_skeleton
+abbrev pub compile_unit : ℕ
+compile_unit = 1
+
+abbrev pub type_unit : ℕ
+type_unit = 2
+
+abbrev pub partial_unit : ℕ
+partial_unit = 3
+
+abbrev pub skeleton_unit : ℕ
+skeleton_unit = 4
+
+abbrev pub IsUnitType : ℕ → Type 0
+IsUnitType kind = (kind ≡ compile_unit) ⊎ ((kind ≡ type_unit) ⊎ ((kind ≡ partial_unit) ⊎ (kind ≡ skeleton_unit)))
+
+-- how many bytes the header of a unit of a type has
+abbrev pub header_size : ℕ → ℕ
+header_size kind = if nat_eq kind type_unit then 24 else if nat_eq kind skeleton_unit then 20 else 12
+
+-- where the unit ends, whose length counts from after its own field
+abbrev pub unit_end : List ℕ → ℕ → ℕ
+unit_end section at = at + 4 + unit_length section at
+
+-- the least of the lengths that are reserved, of which one tells the 64-bit format (DWARF 5 section 7.4)
+abbrev pub least_reserved : ℕ
+least_reserved = 4294967280
+
+-- the rules of a header: version 5, a type that is read, addresses of 8 bytes, and the whole header in its unit
+pub record HasHead (section : List ℕ) (at : ℕ) : Type 0 where
+  pub usual : unit_length section at < least_reserved
+  pub inside : unit_end section at ≤ length section
+  pub of_version : version section at ≡ 5
+  pub of_type : IsUnitType (unit_type section at)
+  pub of_addresses : address_size section at ≡ 8
+  pub fits : at + header_size (unit_type section at) ≤ unit_end section at
+
+-- the signature or dwo_id of a header, or 0
+abbrev pub extra_at : List ℕ → ℕ → ℕ
+extra_at section at = if nat_eq (header_size (unit_type section at)) 12 then 0 else signature section at
+
+-- the number in type_offset, or 0
+abbrev pub type_at : List ℕ → ℕ → ℕ
+type_at section at = if nat_eq (unit_type section at) type_unit then type_offset section at else 0
+
+-- what the fields of a header say
+abbrev pub head_at : List ℕ → ℕ → UnitHead
+head_at section at = record {
+  at = at;
+  len = unit_end section at - at;
+  kind = unit_type section at;
+  table = debug_abbrev_offset section at;
+  extra = extra_at section at;
+  type_at = type_at section at;
+}
+
+-- a head that stands in the section at its place
+pub record IsHead (section : List ℕ) (head : UnitHead) : Type 0 where
+  pub rules : HasHead section head.at
+  pub fields : head ≡ head_at section head.at
+
+-- The units of the heads stand in the section one after the other, from a place up to another.
+abbrev pub Follow : List ℕ → List UnitHead → ℕ → ℕ → Type 0
+Follow section [] at end = at ≡ end
+Follow section (head ∷ heads) at end = (head.at ≡ at) × IsHead section head × Follow section heads (at + head.len) end
+
+-- The units of the heads are the whole section.
+abbrev pub Tile : List ℕ → List UnitHead → Type 0
+Tile section heads = Follow section heads 0 (length section)

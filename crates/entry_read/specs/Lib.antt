@@ -1,0 +1,6 @@
+pub mod Heads
+pub mod Units
+pub mod Faults
+pub mod Laws
+pub mod Readings
+pub mod Places
