@@ -1,0 +1,41 @@
+-- The faults of sets of address ranges, as conditions on the bytes. Places count from the section's first byte.
+use Rattle.std.specs.Prelude.{◌≡◌, ◌≤◌, ◌<◌, ◌+◌, ◌⊎◌, ℕ, List, length}
+use Rattle.dw_base.specs.declared.fault.Kind.{Kind}
+use Rattle.dw_base.specs.declared.fault.Kind.TheVariants.{Short, Aranges as NoAranges}
+use Rattle.dw_base.specs.declared.fault.Fault.{Fault}
+use Rattle.dw_base.specs.declared.fault.Refusal.{Refusal}
+use Rattle.dw_base.specs.declared.fault.Refusal.TheVariants.{Refused, NoMemory}
+use Rattle.companions.specs.declared.set.ArangeSet.{ArangeSet}
+use Rattle.companions.specs.Aranges.{unit_length, set_end, least_reserved, IsWhole, HasSet, SetsFollow}
+
+-- The set at a place leaves the section: its length field does, or its last byte, or the length is a reserved one.
+abbrev pub LeavesSection : List ℕ → ℕ → Type 0
+LeavesSection section at = (length section < at + 4) ⊎ ((least_reserved ≤ unit_length section at) ⊎ (length section < set_end section at))
+
+-- The set at a place has a fault. It is Short where the set leaves the section, and Aranges where it is whole and breaks
+-- another rule of sets.
+abbrev pub FaultSet : List ℕ → List ℕ → ℕ → Kind → ℕ → Type 0
+FaultSet section starts at Short place = (place ≡ at) × LeavesSection section at
+FaultSet section starts at NoAranges place = (place ≡ at) × IsWhole section at × (¬ HasSet section starts at)
+FaultSet section starts at _ place = ⊥
+
+-- After sets that are the section's front, another begins at a place and has a fault.
+pub record FaultSets (section starts : List ℕ) (kind : Kind) (place : ℕ) : Type 0 where
+  pub sets : List ArangeSet
+  pub at : ℕ
+  pub front : SetsFollow section starts sets 0 at
+  pub inside : at < length section
+  pub fault : FaultSet section starts at kind place
+
+-- The fault is one of the kinds and places that are said, where `origin` is the file offset of the section's first byte.
+abbrev pub IsFaultOf : (Kind → ℕ → Type 0) → ℕ → Fault → Type 0
+IsFaultOf holds origin fault = (place : ℕ) × (fault.place ≡ origin + place) × holds fault.kind place
+
+-- memory was wanting, or a fault is refused that holds
+abbrev pub IsRefusedFor : (Fault → Type 0) → Refusal → Type 0
+IsRefusedFor holds (Refused fault) = holds fault
+IsRefusedFor holds NoMemory = Unit {0}
+
+-- some fault holds
+abbrev pub IsFaulty : (Kind → ℕ → Type 0) → Type 0
+IsFaulty holds = (kind : Kind) × (place : ℕ) × holds kind place

@@ -1,0 +1,3 @@
+pub mod Aranges
+pub mod Faults
+pub mod Laws

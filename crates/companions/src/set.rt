@@ -1,0 +1,131 @@
+// Sets of address ranges read.
+ghost use Rattle.std.specs.Prelude.{◌≡◌, ◌≤◌, ◌<◌, ◌+◌, ◌^◌, ◌++◌, ◌∷◌, ℕ, [], length, IfOk, IfErr, OnOk, MatchOption};
+ghost use Rattle.dw_base.specs.declared.fault.Refusal.TheVariants.{Refused};
+ghost use Rattle.companions.specs.Aranges.{set_end, IsWhole, AreRising, BeginsAt, IsSet, HasSet, SetsTile, HaveUnits};
+ghost use Rattle.companions.specs.Faults.{LeavesSection, FaultSets, IsFaultOf, IsFaulty, IsRefusedFor};
+
+use crate::number::{u16_at, u32_at};
+use dw_base::{Fault, Kind, NoMemory, Refusal};
+use std::alloc::Global;
+
+/// A set of address ranges (DWARF 5 section 6.1.2).
+#[derive(Clone, Copy, Debug, PartialEq, Eq)]
+pub struct ArangeSet {
+    /// The place of its first byte in the section.
+    pub at: u64,
+    /// The number of the unit that it names, counted from 0.
+    pub unit: u32,
+}
+
+const VERSION: u16 = 2;
+
+// The first of the lengths that are reserved (DWARF 5 section 7.4).
+const FIRST_RESERVED: u32 = 0xffff_fff0;
+
+// The fewest bytes of a set: its length, its version and debug_info_offset.
+const LEAST_SET: usize = 10;
+
+// The number of the unit that begins at a place.
+fn unit_at(starts: &[u64], place: u64) -> Option<u32>
+    requires few { length starts.now < 2 ^ 32 }
+    requires rising { AreRising starts.now }
+    ensures { MatchOption result (¬ ((unit : ℕ) × BeginsAt starts.now unit place)) (λ unit. BeginsAt starts.now unit place) }
+{
+    match starts.binary_search(&place) {
+        Ok(unit) => Some(unit as u32),
+        Err(_) => None,
+    }
+}
+
+// Where the set at a place ends, or none where it leaves the section.
+fn end_of(section: &[u8], at: usize) -> Option<usize>
+    requires { at ≤ length section.now }
+    ensures { MatchOption result (LeavesSection section.now at) (λ end. IsWhole section.now at × (end ≡ set_end section.now at)) }
+{
+    let left = section.len() - at;
+    if left < 4 {
+        return None;
+    }
+    let length = u32_at(section, at);
+    if length >= FIRST_RESERVED || length as usize > left - 4 {
+        return None;
+    }
+    Some(at + 4 + length as usize)
+}
+
+// The set at a place, which is whole.
+fn parse(section: &[u8], starts: &[u64], at: usize, end: usize) -> Option<ArangeSet>
+    requires few { length starts.now < 2 ^ 32 }
+    requires rising { AreRising starts.now }
+    requires whole { IsWhole section.now at }
+    requires end { end ≡ set_end section.now at }
+    ensures { MatchOption result (¬ HasSet section.now starts.now at) (λ set. (set.at ≡ at) × IsSet section.now starts.now set) }
+{
+    if end - at < LEAST_SET || u16_at(section, at + 4) != VERSION {
+        return None;
+    }
+    let unit = unit_at(starts, u64::from(u32_at(section, at + 6)))?;
+    Some(ArangeSet {
+        at: at as u64,
+        unit,
+    })
+}
+
+// Appends a set.
+fn push(sets: &mut Vec<ArangeSet>, set: ArangeSet) -> Result<(), NoMemory>
+    ensures { OnOk result (sets.new.items ≡ sets.old.items ++ set ∷ []) }
+{
+    sets.push(set)?;
+    Ok(())
+}
+
+// A refusal at a place of the section.
+fn refused(kind: Kind, origin: u64, at: usize) -> Refusal
+    requires { origin + at < 2 ^ 64 }
+    ensures { result ≡ Refused (record { kind = kind; place = origin + at }) }
+{
+    Refusal::Refused(Fault {
+        kind,
+        place: origin + at as u64,
+    })
+}
+
+/// The sets of `section`, the body of .debug_aranges (DWARF 5 section 6.1.2), which stand one after the other and fill the
+/// section. `starts` are the places of the units in .debug_info, by their numbers, and `origin` is the file offset of the
+/// section's first byte.
+///
+/// A set is one of version 2 in the 32-bit format, whose debug_info_offset is where a unit begins. A refusal names the
+/// first byte of a set: Short where the set leaves the section or its length is a reserved one, from 0xfffffff0 on, and
+/// Aranges where it is whole, and its version is another one, its length is below 6 or no unit begins at its
+/// debug_info_offset. `NoMemory` may come wherever memory is wanting.
+pub fn read_aranges(
+    alloc: Global,
+    section: &[u8],
+    starts: &Vec<u64>,
+    origin: u64,
+) -> Result<Vec<ArangeSet>, Refusal>
+    requires few { length starts.now.items < 2 ^ 32 }
+    requires rising { AreRising starts.now.items }
+    requires room { origin + length section.now < 2 ^ 64 }
+    ensures tiled { IfOk result (λ sets. SetsTile section.now starts.now.items sets.items) }
+    ensures units { IfOk result (λ sets. HaveUnits (length starts.now.items) sets.items) }
+    ensures whole { IfOk result (λ _. ¬ IsFaulty (FaultSets section.now starts.now.items)) }
+    ensures fault { IfErr result (IsRefusedFor (IsFaultOf (FaultSets section.now starts.now.items) origin)) }
+{
+    let mut sets: Vec<ArangeSet> = Vec::new(alloc);
+    let mut at = 0;
+    while at < section.len() {
+        let Some(end) = end_of(section, at) else {
+            return Err(refused(Kind::Short, origin, at));
+        };
+        let Some(set) = parse(section, starts, at, end) else {
+            return Err(refused(Kind::Aranges, origin, at));
+        };
+        match push(&mut sets, set) {
+            Ok(()) => {}
+            Err(_) => return Err(Refusal::NoMemory),
+        }
+        at = end;
+    }
+    Ok(sets)
+}
