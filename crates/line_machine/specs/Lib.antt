@@ -1,3 +1,4 @@
+pub mod Class
 pub mod Cursors
 pub mod Faults
 pub mod Heads

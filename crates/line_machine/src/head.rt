@@ -29,8 +29,9 @@ pub struct Head {
     pub program: Span,
 }
 
-// The lengths of the standard opcodes, from opcode 1 on.
-const OPERAND_COUNTS: [u8; 12] = [0, 1, 1, 1, 1, 0, 0, 0, 1, 0, 0, 1];
+/// standard_opcode_lengths under the opcode base 13: how many operands each standard opcode has, from opcode 1 to 12
+/// (DWARF 5 sections 6.2.4 and 6.2.5.2). Lower opcode bases have the first of them.
+pub const OPERAND_COUNTS: [u8; 12] = [0, 1, 1, 1, 1, 0, 0, 0, 1, 0, 0, 1];
 
 // The first of the lengths that are reserved (DWARF 5 section 7.4).
 const FIRST_RESERVED: u32 = 0xffff_fff0;

@@ -15,7 +15,7 @@ mod table;
 mod tests;
 
 pub use cursor::Cursor;
-pub use head::Head;
+pub use head::{Head, OPERAND_COUNTS};
 pub use opcode::{Opcode, ReadOpcode, read_opcode};
 pub use place::Place;
 pub use registers::{Registers, Row};

@@ -6,3 +6,4 @@ pub mod Operands
 pub mod AddressWays
 pub mod Remainders
 pub mod RowWays
+pub mod NearWays

@@ -13,14 +13,14 @@ use Rattle.line_step.specs.Search.{IsRemainderFor}
 use Rattle.line_step.proofs.Parts.{line_none, line_some, line_opcode, zero_or}
 use Rattle.line_step.proofs.Powers.{half_some}
 
-fits_of : (z : ℤ) → FitsSignedLen z (least_signed_len z)
+pub fits_of : (z : ℤ) → FitsSignedLen z (least_signed_len z)
 fits_of z = (signed_lens.is_least z).enough
 
-some_len : (z : ℤ) → 1 ≤ least_signed_len z
+pub some_len : (z : ℤ) → 1 ≤ least_signed_len z
 some_len z = (fits_of z).some
 
 -- a number below 0 takes at most the bytes of a lower one
-neg_rises : (z w : ℤ) → z ≤ℤ pos 0 → w ≤ℤ z → advance_line_bytes z ≤ advance_line_bytes w
+pub neg_rises : (z w : ℤ) → z ≤ℤ pos 0 → w ≤ℤ z → advance_line_bytes z ≤ advance_line_bytes w
 neg_rises z w neg low =
     elim (zero_or z) [
       | inl none ↦ omega (arith, ap advance_line_bytes none, line_none)
@@ -33,7 +33,7 @@ neg_rises z w neg low =
     ]
 
 -- the same of a number above 0 and a higher one
-pos_rises : (z w : ℤ) → pos 0 ≤ℤ z → z ≤ℤ w → least_signed_len z ≤ least_signed_len w
+pub pos_rises : (z w : ℤ) → pos 0 ≤ℤ z → z ≤ℤ w → least_signed_len z ≤ least_signed_len w
 pos_rises z w some high =
     let fits = fits_of w in
     let half = half_some (least_signed_len w) in

@@ -16,11 +16,11 @@ use Rattle.line_step.specs.Search.{IsRemainderFor, IsLinePart, IsOfPart, IsBestO
 use Rattle.line_step.proofs.Parts.{line_opcode}
 use Rattle.line_step.proofs.Remainders.{near_len}
 
-div_rises : (s t range : ℕ) → 0 < range → s ≤ t → s / range ≤ t / range
+pub div_rises : (s t range : ℕ) → 0 < range → s ≤ t → s / range ≤ t / range
 div_rises s t range some h = le-div (s / range) t range some (omega (arith, div-mul-le_self s range))
 
 -- a special opcode by its address part and its remainder
-opcode_is : (s range part : ℕ) → s / range ≡ part → part * range + s % range ≡ s
+pub opcode_is : (s range part : ℕ) → s / range ≡ part → part * range + s % range ≡ s
 opcode_is s range part same =
     let e : part * range ≡ s / range * range = ap (λ x. x * range) (sym same) in
     omega (arith, e, div-add-mod s range)

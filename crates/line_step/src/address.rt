@@ -1,5 +1,5 @@
 // The least bytes that advance an address.
-ghost use Rattle.std.specs.Prelude.{◌≡◌, ◌≤◌, ◌<◌, ◌+◌, ◌*◌, ◌^◌, ℕ, IfSome, IsNone};
+ghost use Rattle.std.specs.Prelude.{◌≡◌, ◌≢◌, ◌≤◌, ◌<◌, ◌+◌, ◌*◌, ◌/◌, ◌^◌, ℕ, IfSome, IsNone};
 ghost use Rattle.leb_codec.specs.LineCosts.{IsLeastCost, AdvanceWithin, AdvanceForm, advance_pc_bytes};
 ghost use Rattle.line_step.specs.Ways.{IsAddressWay};
 ghost use Rattle.line_step.specs.Search.{IsOperandFor, IsBestWith, IsBestBefore};
@@ -145,6 +145,22 @@ pub fn advance_way(range: u8, min: u8, distance: u64) -> AddressWay
     best
 }
 
+// The least bytes of a distance of so few instructions that the operand of advance_pc has one byte.
+fn near_bytes(range: u8, instructions: u64) -> u32
+    requires { 0 < range }
+    ensures none { instructions ≡ 0 → result ≡ 0 }
+    ensures once { instructions ≡ 242 / range → instructions ≢ 0 → result ≡ 1 }
+    ensures short { instructions ≢ 242 / range → instructions ≢ 0 → result ≡ 2 }
+{
+    if instructions == 0 {
+        0
+    } else if instructions == u64::from(LAST_SPECIAL / range) {
+        1
+    } else {
+        2
+    }
+}
+
 /// The least number of bytes that advance the address by a distance `d`, in bytes, modulo 2^64. `range` is line_range and
 /// `min` is minimum_instruction_length, neither of them 0 (DWARF 5 section 6.2.5).
 pub fn advance(range: u8, min: u8, d: u64) -> u32
@@ -153,5 +169,10 @@ pub fn advance(range: u8, min: u8, d: u64) -> u32
     ensures least { IsLeastCost (AdvanceWithin range min d) result }
     ensures few { result ≤ 11 }
 {
+    let scale = u64::from(min);
+    let instructions = d / scale;
+    if d % scale == 0 && instructions < 128 {
+        return near_bytes(range, instructions);
+    }
     advance_way(range, min, d).bytes
 }

@@ -1,0 +1,6 @@
+use Rattle.std.proofs.Common.{◌+◌}
+use Rattle.line_params.specs.PairSearch.{IsBestTried}
+use Rattle.line_params.proofs.search.best_choice.Given as goal
+
+abbrev pub invariant-loop-below : goal.invariant-loop-below
+invariant-loop-below l = IsBestTried l.head l.counted (l.below + 1) l.best

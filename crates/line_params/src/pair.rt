@@ -1,0 +1,61 @@
+// The pair under which a program is shortest.
+ghost use Rattle.std.specs.Prelude.{◌≡◌, ◌<◌, length, IfOk};
+ghost use Rattle.line_machine.specs.Class.{AreRows};
+ghost use Rattle.line_params.specs.Steps.{steps_of};
+ghost use Rattle.line_params.specs.Pairs.{IsLeastPair};
+
+use crate::count::count_steps;
+use crate::search::best_choice;
+use crate::sums::BASES;
+use dw_base::NoMemory;
+use line_machine::{Head, Row};
+use std::alloc::Global;
+
+// The most rows: their bytes are counted in 64 bits.
+const MOST_ROWS: usize = u32::MAX as usize;
+
+/// The two fields of a header by which special opcodes step (DWARF 5 section 6.2.4).
+#[derive(Clone, Copy, Debug, PartialEq, Eq)]
+pub struct Pair {
+    /// line_base
+    pub base: i8,
+    /// line_range, which isn't 0.
+    pub range: u8,
+}
+
+/// The pair of line_base and line_range under which the steps of `rows` cost least, with the minimum_instruction_length
+/// of `head` and the opcode_base 13. Of several it is the pair of `head`, or else the one with the least line_range, and
+/// among those the one with the least line_base.
+///
+/// The rows are such as a program gives: the last ends a sequence, or there is none; a row that ends one has an address
+/// alone; and the line of another is below 2^32. Neither minimum_instruction_length nor line_range is 0. `NoMemory` may
+/// come wherever memory is wanting, and comes for more than 2^32 - 1 rows.
+pub fn least_pair(alloc: Global, head: &Head, rows: &[Row]) -> Result<Pair, NoMemory>
+    requires rows { AreRows rows.now }
+    requires scale { 0 < head.now.min }
+    requires range { 0 < head.now.range }
+    ensures pair { IfOk result (λ pair. IsLeastPair head.now (steps_of rows.now) pair) }
+{
+    if rows.len() > MOST_ROWS {
+        return Err(NoMemory);
+    }
+    let counted = match count_steps(alloc, rows) {
+        Ok(counted) => counted,
+        Err(error) => return Err(error),
+    };
+    let mut sums = match zeros(alloc, BASES) {
+        Ok(sums) => sums,
+        Err(error) => return Err(error),
+    };
+    Ok(best_choice(head, &counted, &mut sums).pair)
+}
+
+// So many zeros.
+fn zeros(alloc: Global, count: usize) -> Result<Vec<u64>, NoMemory>
+    ensures { IfOk result (λ sums. length sums.items ≡ count) }
+{
+    match vec![in alloc; 0u64; count] {
+        Ok(sums) => Ok(sums),
+        Err(_) => Err(NoMemory),
+    }
+}
