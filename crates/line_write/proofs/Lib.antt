@@ -1,8 +1,7 @@
-pub mod Counting
-pub mod KeptRows
-pub mod Patching
+pub mod ActsAlike
+pub mod Pieces
+pub mod Putting
 pub mod ReadBack
-pub mod ShortestLaws
+pub mod RowLaws
 pub mod Tiling
 pub mod Writing
-pub mod Written

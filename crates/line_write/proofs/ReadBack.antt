@@ -1,221 +1,312 @@
 -- A unit that was written is read back.
-use Rattle.std.proofs.Common.{◌≡◌, ◌≤◌, ◌<◌, ◌+◌, ◌-◌, ◌++◌, ◌∙◌, ℕ, List, length, take, drop, get_or, sym, ap, refl, subst, arith, inl, inr}
-use Rattle.std.specs.Prelude.{slice_index, not, nat_eq}
-use Rattle.std.specs.Int.{w8, cast_signed}
-use Rattle.std.proofs.lemmas.List.{append_assoc, length-append, length-take-le, length-drop, take-append-le, drop-append-le, take-take, drop-take, drop-drop, drop_at, take_all, get_or-take, get_or-drop}
-use Rattle.byteorder.specs.Endian.{little_bytes, little_from}
-use Rattle.byteorder.specs.Numbers.{length-bytes_low_first, little_number-reads_back}
+use Rattle.std.proofs.Common.{◌≡◌, ◌≤◌, ◌<◌, ◌+◌, ◌-◌, ◌++◌, ◌∙◌, ℕ, ℤ, pos, List, [], ◌∷◌, length, take, drop, sym, ap, refl, arith, inl, inr}
+use Rattle.std.specs.Prelude.{slice_index, negsuc, neg_ℤ, ◌≤ℤ◌, FitsSigned}
+use Rattle.std.specs.Int.{w8, cast_signed, cast_unsigned}
+use Rattle.std.proofs.lemmas.Int.{ints, to_z-of_z}
+use Rattle.std.proofs.lemmas.List.{length-append, take-take}
+use Rattle.byteorder.specs.Endian.{little_bytes}
+use Rattle.byteorder.specs.Numbers.{length-bytes_low_first}
 use Rattle.line_machine.specs.Numbers.{number_at}
-use Rattle.line_machine.specs.Opcodes.{IsBase}
-use Rattle.line_machine.specs.Rows.{GivesRows}
-use Rattle.line_machine.specs.Heads.{unit_length, header_length, opcode_base, standard_opcode_lengths, operand_counts, unit_end, tables_at, program_at, LeavesSection, HasNumbers, HasHead, head_at, program_of}
+use Rattle.line_machine.specs.Heads.{unit_length, version, header_length, minimum_instruction_length, default_is_stmt, line_base, line_range, opcode_base, standard_opcode_lengths, operand_counts, unit_end, tables_at, program_at, LeavesSection, HasNumbers, HasHead, head_at, program_of}
+use Rattle.line_machine.specs.Class.{Encoding, IsPair}
 use Rattle.line_machine.proofs.Parts.{length_part, number_part}
-use Rattle.line_write.specs.Programs.{header_of, IsRewrittenUnit}
-use Rattle.line_write.specs.Meaning.{ProgramMeaning, HasMeaning, tables_of}
-use Rattle.line_write.proofs.KeptRows.{ActsAs, gives_as, shortened_gives, shortened_len}
-
--- a part of a list that stands in another is a part of the other
-part : (p q m j n : ℕ) (section bytes tail : List ℕ) → drop p bytes ≡ take m (drop q section) ++ tail → m ≤ length (drop q section) → j + n ≤ m → take n (drop (p + j) bytes) ≡ take n (drop (q + j) section)
-part p q m j n section bytes tail e room within =
-    let size : length (take m (drop q section)) ≡ m = length-take-le m (drop q section) room in
-    let size2 : length (drop j (take m (drop q section))) ≡ length (take m (drop q section)) - j = length-drop j (take m (drop q section)) in
-    let a : drop (p + j) bytes ≡ drop j (take m (drop q section)) ++ tail = sym (drop-drop j p bytes) ∙ ap (drop j) e ∙ drop-append-le j (take m (drop q section)) tail (omega arith) in
-    let b : take n (drop j (take m (drop q section)) ++ tail) ≡ take n (drop j (take m (drop q section))) = take-append-le n (drop j (take m (drop q section))) tail (omega arith) in
-    let k : m ≡ j + (m - j) = omega arith in
-    let c : drop j (take m (drop q section)) ≡ take (m - j) (drop j (drop q section)) = ap (λ z. drop j (take z (drop q section))) k ∙ drop-take j (m - j) (drop q section) in
-    let d : take n (take (m - j) (drop j (drop q section))) ≡ take n (drop j (drop q section)) = take-take n (m - j) (drop j (drop q section)) (omega arith) in
-    ap (take n) a ∙ b ∙ ap (take n) c ∙ d ∙ ap (take n) (drop-drop j q section)
-
--- an element is the first of the part that begins with it
-first_of : (l : List ℕ) (i : ℕ) → slice_index l i ≡ slice_index (take 1 (drop i l)) 0
-first_of l i =
-    let e : i + 0 ≡ i = omega arith in
-    sym (get_or-take 1 (drop i l) 0 0 (omega arith) ∙ get_or-drop i l 0 0 ∙ ap (λ k. get_or l k 0) e)
+use Rattle.line_write.specs.Programs.{version_of, instruction_of, tables_of, counted, header_of, body_of}
+use Rattle.line_write.proofs.Pieces.{Holds, held_front, held_after, held_inside, held_all, held_byte, held_number, part_byte, number_back}
 
 -- where the parts of a header end
 pub record Bounds (section : List ℕ) (at : ℕ) : Type 0 where
   pub tables : at + 17 + opcode_base section at ≤ at + 12 + header_length section at
   pub program : at + 12 + header_length section at ≤ at + 4 + unit_length section at
   pub inside : at + 4 + unit_length section at ≤ length section
-  pub small : unit_length section at < 4294967280
   pub low : 9 < opcode_base section at
-  pub high : opcode_base section at < 14
 
 pub bounds : (section : List ℕ) (at : ℕ) → HasHead section at → Bounds section at
 bounds section at rules =
     let no : ¬ (length section < at + 4 + unit_length section at) = λ z. rules.here (inr (inl z)) in
-    let no2 : ¬ (4294967280 ≤ unit_length section at) = λ z. rules.here (inr (inr z)) in
     record {
       tables = rules.lengths.before_program;
       program = rules.lengths.in_unit;
       inside = omega arith;
-      small = omega arith;
       low = rules.numbers.based.0;
-      high = rules.numbers.based.1;
     }
 
--- What a unit that was written is, where it stands in bytes after a front.
-pub record IsReadBack (section : List ℕ) (at : ℕ) (bytes : List ℕ) (place : ℕ) (unit : List ℕ) : Type 0 where
-  pub has : HasHead bytes place
-  pub len : unit_end bytes place - place ≡ length unit
-  pub means : (meaning : ProgramMeaning) → HasMeaning section (head_at section at) meaning → HasMeaning bytes (head_at bytes place) meaning
+-- PIECES OF A UNIT
 
--- the bytes of a header and its tables, and of the new program, are no more than those of before
-pub body_small : (section : List ℕ) (at : ℕ) (unit : List ℕ) → HasHead section at → (u : IsRewrittenUnit section (head_at section at) unit) → length (header_of section (head_at section at) ++ u.program) ≤ unit_length section at
-body_small section at unit rules u =
-    let b = bounds section at rules in
-    let from : ℕ = at + 12 + header_length section at in
-    let left : length (drop (at + 4) section) ≡ length section - (at + 4) = length-drop (at + 4) section in
-    let mid : length (header_of section (head_at section at)) ≡ from - (at + 4) = length-take-le (from - (at + 4)) (drop (at + 4) section) (omega arith) in
-    let sum : from + (at + 4 + unit_length section at - from) ≤ length section = omega arith in
-    let old : length (program_of section (head_at section at)) ≡ at + 4 + unit_length section at - from = length_part from (at + 4 + unit_length section at - from) section sum in
-    let new : length u.program ≤ length (program_of section (head_at section at)) = shortened_len (opcode_base section at) (program_of section (head_at section at)) u.program u.shortened in
-    let all : length (header_of section (head_at section at) ++ u.program) ≡ length (header_of section (head_at section at)) + length u.program = length-append (header_of section (head_at section at)) u.program in
+abbrev header_with : List ℕ → List ℕ → ℕ → ℕ → List ℕ
+header_with instruction tables base range = instruction ++ (base ∷ range ∷ 13 ∷ (operand_counts ++ tables))
+
+abbrev body_with : List ℕ → List ℕ → List ℕ → ℕ → ℕ → List ℕ → List ℕ
+body_with version instruction tables base range program = version ++ (counted (header_with instruction tables base range) ++ program)
+
+module _ (instruction tables : List ℕ) (base range : ℕ) where
+  pub header_size : length instruction ≡ 3 → length (header_with instruction tables base range) ≡ 18 + length tables
+  header_size three =
+      let fields : length (header_with instruction tables base range) ≡ length instruction + length (base ∷ range ∷ 13 ∷ (operand_counts ++ tables)) =
+      length-append instruction (base ∷ range ∷ 13 ∷ (operand_counts ++ tables)) in
+      let counts : length (base ∷ range ∷ 13 ∷ (operand_counts ++ tables)) ≡ 15 + length tables = length-append (base ∷ range ∷ 13 ∷ operand_counts) tables in
+      omega arith
+
+pub counted_size : (bytes : List ℕ) → length (counted bytes) ≡ 4 + length bytes
+counted_size bytes =
+    let four : length (little_bytes 4 (length bytes)) ≡ 4 = length-bytes_low_first 0 4 (length bytes) in
+    let all : length (counted bytes) ≡ length (little_bytes 4 (length bytes)) + length bytes = length-append (little_bytes 4 (length bytes)) bytes in
     omega arith
 
--- bytes from a place on are those of a section from another on
-module _ (section : List ℕ) (at : ℕ) (bytes : List ℕ) (p m : ℕ) (tail : List ℕ) (dropped : drop (p + 4) bytes ≡ take m (drop (at + 4) section) ++ tail) (room : m ≤ length (drop (at + 4) section)) where
-  field : (k n : ℕ) → 4 ≤ k → k + n ≤ 4 + m → take n (drop (p + k) bytes) ≡ take n (drop (at + k) section)
-  field k n low high =
-      let a : p + k ≡ p + 4 + (k - 4) = omega arith in
-      let b : at + 4 + (k - 4) ≡ at + k = omega arith in
-      ap (λ z. take n (drop z bytes)) a ∙ part (p + 4) (at + 4) m (k - 4) n section bytes tail dropped room (omega arith) ∙ ap (λ z. take n (drop z section)) b
+pub body_size : (version instruction tables program : List ℕ) (base range : ℕ) → length version ≡ 4 → length instruction ≡ 3 → length (body_with version instruction tables base range program) ≡ 26 + length tables + length program
+body_size version instruction tables program base range four three =
+    let header : List ℕ = header_with instruction tables base range in
+    let a : length (version ++ (counted header ++ program)) ≡ length version + length (counted header ++ program) = length-append version (counted header ++ program) in
+    let b : length (counted header ++ program) ≡ length (counted header) + length program = length-append (counted header) program in
+    let c : length (counted header) ≡ 4 + length header = counted_size header in
+    let d : length header ≡ 18 + length tables = header_size instruction tables base range three in
+    omega arith
 
-  byte : (k : ℕ) → 4 ≤ k → k + 1 ≤ 4 + m → slice_index bytes (p + k) ≡ slice_index section (at + k)
-  byte k low high = first_of bytes (p + k) ∙ ap (λ z. slice_index z 0) (field k 1 low high) ∙ sym (first_of section (at + k))
+module _ (bytes : List ℕ) (p : ℕ) (version_ instruction tables program : List ℕ) (base range : ℕ)
+    (four : length version_ ≡ 4) (three : length instruction ≡ 3)
+    (here : Holds bytes p (counted (body_with version_ instruction tables base range program)))
+    (small : length (body_with version_ instruction tables base range program) < 4294967280) where
+  header_size_is : length (header_with instruction tables base range) ≡ 18 + length tables
+  header_size_is = header_size instruction tables base range three
 
-  number : (n k : ℕ) → 4 ≤ k → k + n ≤ 4 + m → number_at n (p + k) bytes ≡ number_at n (at + k) section
-  number n k low high = number_part n (p + k) bytes ∙ ap (number_at n 0) (field k n low high) ∙ sym (number_part n (at + k) section)
+  body_size_is : length (body_with version_ instruction tables base range program) ≡ 26 + length tables + length program
+  body_size_is = body_size version_ instruction tables program base range four three
 
--- a header whose length is another is one
-module _ (section : List ℕ) (at : ℕ) (bytes : List ℕ) (p : ℕ) (new rest : List ℕ) (rules : HasHead section at) (b : Bounds section at)
-    (dropped : drop (p + 4) bytes ≡ take (8 + header_length section at) (drop (at + 4) section) ++ (new ++ rest))
-    (counted : unit_length bytes p ≡ 8 + header_length section at + length new)
-    (small : unit_length bytes p ≤ unit_length section at)
-    (size : p + 4 + unit_length bytes p ≤ length bytes) where
-  room : 8 + header_length section at ≤ length (drop (at + 4) section)
-  room = let left : length (drop (at + 4) section) ≡ length section - (at + 4) = length-drop (at + 4) section in omega arith
+  -- a length that was written is read back
+  length_back : (place : ℕ) (part : List ℕ) → length part < 4294967280 → Holds bytes place (counted part) → number_at 4 place bytes ≡ length part
+  length_back place part few h =
+      let size : length (little_bytes 4 (length part)) ≡ 4 = length-bytes_low_first 0 4 (length part) in
+      held_number bytes place (little_bytes 4 (length part)) (held_front bytes place (little_bytes 4 (length part)) part h) 4 (omega arith)
+      ∙ number_back 4 (length part) (omega arith)
 
-  byte_at_ : (k : ℕ) → 4 ≤ k → k + 1 ≤ 4 + (8 + header_length section at) → slice_index bytes (p + k) ≡ slice_index section (at + k)
-  byte_at_ = byte section at bytes p (8 + header_length section at) (new ++ rest) dropped room
+  pub at_version : Holds bytes (p + 4) (body_with version_ instruction tables base range program)
+  at_version =
+      let body : List ℕ = body_with version_ instruction tables base range program in
+      held_after bytes p 4 (p + 4) (little_bytes 4 (length body)) body here (length-bytes_low_first 0 4 (length body)) refl
 
-  same_base : opcode_base bytes p ≡ opcode_base section at
-  same_base = byte_at_ 17 (omega arith) (omega arith)
+  at_length : Holds bytes (p + 8) (counted (header_with instruction tables base range) ++ program)
+  at_length = held_after bytes (p + 4) 4 (p + 8) version_ (counted (header_with instruction tables base range) ++ program) at_version four (omega arith)
 
-  same_header_length : header_length bytes p ≡ header_length section at
-  same_header_length = number section at bytes p (8 + header_length section at) (new ++ rest) dropped room 4 8 (omega arith) (omega arith)
+  pub at_header : Holds bytes (p + 12) (header_with instruction tables base range)
+  at_header =
+      let header : List ℕ = header_with instruction tables base range in
+      held_after bytes (p + 8) 4 (p + 12) (little_bytes 4 (length header)) header (held_front bytes (p + 8) (counted header) program at_length) (length-bytes_low_first 0 4 (length header)) (omega arith)
 
-  same_version : number_at 2 (p + 4) bytes ≡ number_at 2 (at + 4) section
-  same_version = number section at bytes p (8 + header_length section at) (new ++ rest) dropped room 2 4 (omega arith) (omega arith)
+  pub at_pair : Holds bytes (p + 15) (base ∷ range ∷ 13 ∷ (operand_counts ++ tables))
+  at_pair = held_after bytes (p + 12) 3 (p + 15) instruction (base ∷ range ∷ 13 ∷ (operand_counts ++ tables)) at_header three (omega arith)
 
-  lengths_same : standard_opcode_lengths bytes p ≡ standard_opcode_lengths section at
-  lengths_same =
-      ap (λ z. take (z - 1) (drop (p + 18) bytes)) same_base
-      ∙ field section at bytes p (8 + header_length section at) (new ++ rest) dropped room 18 (opcode_base section at - 1) (omega arith) (omega arith)
+  pub at_counts : Holds bytes (p + 18) (operand_counts ++ tables)
+  at_counts = held_after bytes (p + 15) 3 (p + 18) (base ∷ range ∷ 13 ∷ []) (operand_counts ++ tables) at_pair refl (omega arith)
+
+  pub at_tables : (place : ℕ) → p + 30 ≡ place → Holds bytes place tables
+  at_tables place e = held_after bytes (p + 18) 12 place operand_counts tables at_counts refl (omega arith)
+
+  pub at_program : (place : ℕ) → p + 30 + length tables ≡ place → Holds bytes place program
+  at_program place e =
+      let header : List ℕ = header_with instruction tables base range in
+      let size : length (counted header) ≡ 4 + length header = counted_size header in
+      let size2 : length header ≡ 18 + length tables = header_size_is in
+      held_after bytes (p + 8) (22 + length tables) place (counted header) program at_length (omega arith) (omega arith)
+
+  pub unit_length_read : unit_length bytes p ≡ 26 + length tables + length program
+  unit_length_read = length_back p (body_with version_ instruction tables base range program) small here ∙ body_size_is
+
+  pub header_length_read : header_length bytes p ≡ 18 + length tables
+  header_length_read =
+      let header : List ℕ = header_with instruction tables base range in
+      let size : length header ≡ 18 + length tables = header_size_is in
+      let all : length (body_with version_ instruction tables base range program) ≡ 26 + length tables + length program = body_size_is in
+      length_back (p + 8) header (omega arith) (held_front bytes (p + 8) (counted header) program at_length) ∙ size
+
+  pub unit_inside : p + 30 + length tables + length program ≤ length bytes
+  unit_inside =
+      let body : List ℕ = body_with version_ instruction tables base range program in
+      let inside : p + length (counted body) ≤ length bytes = held_inside bytes p (counted body) here in
+      let size : length (counted body) ≡ 4 + length body = counted_size body in
+      let size2 : length body ≡ 26 + length tables + length program = body_size_is in
+      omega arith
+
+-- WHAT IS READ BACK
+
+-- What a unit is that was written at a place for the unit at another, with an encoding.
+pub record IsReadBack (section : List ℕ) (at : ℕ) (e : Encoding) (bytes : List ℕ) (p : ℕ) : Type 0 where
+  pub has : HasHead bytes p
+  pub end : unit_end bytes p ≡ p + length (counted (body_of section (head_at section at) e))
+  pub program : program_of bytes (head_at bytes p) ≡ e.bytes
+  pub tables : tables_of bytes (head_at bytes p) ≡ tables_of section (head_at section at)
+  pub min : minimum_instruction_length bytes p ≡ minimum_instruction_length section at
+  pub is_stmt : default_is_stmt bytes p ≡ default_is_stmt section at
+  pub base : line_base bytes p ≡ e.base
+  pub range : line_range bytes p ≡ e.range
+  pub opcode_base : opcode_base bytes p ≡ 13
+
+-- a signed byte is read back
+signed_byte : (base : ℤ) → neg_ℤ (pos 128) ≤ℤ base → base ≤ℤ pos 127 → FitsSigned w8 base
+signed_byte (pos n) low high = record { sfits = omega (arith, ints, high) }
+signed_byte (negsuc n) low high = record { sfits = omega (arith, ints, low) }
+
+pub byte_back : (base : ℤ) → neg_ℤ (pos 128) ≤ℤ base → base ≤ℤ pos 127 → cast_signed w8 (cast_unsigned w8 base) ≡ base
+byte_back base low high = to_z-of_z w8 base (signed_byte base low high)
+
+-- how many bytes the parts of a unit have
+pub record Sizes (section : List ℕ) (at : ℕ) : Type 0 where
+  pub version : length (version_of section (head_at section at)) ≡ 4
+  pub instruction : length (instruction_of section (head_at section at)) ≡ 3
+  pub tables : length (tables_of section (head_at section at)) ≡ header_length section at - (5 + opcode_base section at)
+
+pub sizes : (section : List ℕ) (at : ℕ) → HasHead section at → Sizes section at
+sizes section at rules =
+    let b = bounds section at rules in
+    let from : ℕ = tables_at section at in
+    let count : program_at section at - from ≡ header_length section at - (5 + opcode_base section at) = omega arith in
+    record {
+      version = length_part (at + 4) 4 section (omega arith);
+      instruction = length_part (at + 12) 3 section (omega arith);
+      tables = length_part from (program_at section at - from) section (omega arith) ∙ count;
+    }
+
+module _ (section : List ℕ) (at : ℕ) (e : Encoding) (bytes : List ℕ) (p : ℕ) (rules : HasHead section at) (pair : IsPair e.base e.range)
+    (here : Holds bytes p (counted (body_of section (head_at section at) e)))
+    (small : length (body_of section (head_at section at) e) < 4294967280) where
+  old : Sizes section at
+  old = sizes section at rules
+
+  abbrev v : List ℕ
+  v = version_of section (head_at section at)
+
+  abbrev i : List ℕ
+  i = instruction_of section (head_at section at)
+
+  abbrev t : List ℕ
+  t = tables_of section (head_at section at)
+
+  abbrev b : ℕ
+  b = cast_unsigned w8 e.base
+
+  length_is : unit_length bytes p ≡ 26 + length t + length e.bytes
+  length_is = unit_length_read bytes p v i t e.bytes b e.range old.version old.instruction here small
+
+  header_is : header_length bytes p ≡ 18 + length t
+  header_is = header_length_read bytes p v i t e.bytes b e.range old.version old.instruction here small
+
+  body : Holds bytes (p + 4) (body_of section (head_at section at) e)
+  body = at_version bytes p v i t e.bytes b e.range old.version old.instruction here small
+
+  header : Holds bytes (p + 12) (header_of section (head_at section at) e.base e.range)
+  header = at_header bytes p v i t e.bytes b e.range old.version old.instruction here small
+
+  fields : Holds bytes (p + 15) (b ∷ e.range ∷ 13 ∷ (operand_counts ++ t))
+  fields = at_pair bytes p v i t e.bytes b e.range old.version old.instruction here small
+
+  counts : Holds bytes (p + 18) (operand_counts ++ t)
+  counts = at_counts bytes p v i t e.bytes b e.range old.version old.instruction here small
+
+  inside : p + 30 + length t + length e.bytes ≤ length bytes
+  inside = unit_inside bytes p v i t e.bytes b e.range old.version old.instruction here small
+
+  -- the fields that are kept
+  version_byte : (k place from : ℕ) → k < 4 → p + 4 + k ≡ place → at + 4 + k ≡ from → slice_index bytes place ≡ slice_index section from
+  version_byte k place from lt f g =
+      let four : length v ≡ 4 = old.version in
+      held_byte bytes (p + 4) v (held_front bytes (p + 4) v (counted (header_of section (head_at section at) e.base e.range) ++ e.bytes) body) k place (omega arith) f
+      ∙ part_byte 4 (at + 4) k section lt ∙ ap (slice_index section) g
+
+  instruction_byte : (k place from : ℕ) → k < 3 → p + 12 + k ≡ place → at + 12 + k ≡ from → slice_index bytes place ≡ slice_index section from
+  instruction_byte k place from lt f g =
+      let three : length i ≡ 3 = old.instruction in
+      held_byte bytes (p + 12) i (held_front bytes (p + 12) i (b ∷ e.range ∷ 13 ∷ (operand_counts ++ t)) header) k place (omega arith) f
+      ∙ part_byte 3 (at + 12) k section lt ∙ ap (slice_index section) g
+
+  version_is : version bytes p ≡ version section at
+  version_is =
+      let four : length v ≡ 4 = old.version in
+      held_number bytes (p + 4) v (held_front bytes (p + 4) v (counted (header_of section (head_at section at) e.base e.range) ++ e.bytes) body) 2 (omega arith)
+      ∙ number_part 2 0 v ∙ ap (number_at 2 0) (take-take 2 4 (drop (at + 4) section) (omega arith)) ∙ sym (number_part 2 (at + 4) section)
+
+  min_is : minimum_instruction_length bytes p ≡ minimum_instruction_length section at
+  min_is = instruction_byte 0 (p + 12) (at + 12) (omega arith) (omega arith) (omega arith)
+
+  stmt_is : default_is_stmt bytes p ≡ default_is_stmt section at
+  stmt_is = instruction_byte 2 (p + 14) (at + 14) (omega arith) (omega arith) (omega arith)
+
+  -- the fields that are new
+  pair_byte : (k place : ℕ) → k < 3 → p + 15 + k ≡ place → slice_index bytes place ≡ slice_index (b ∷ e.range ∷ 13 ∷ (operand_counts ++ t)) k
+  pair_byte k place lt f = held_byte bytes (p + 15) (b ∷ e.range ∷ 13 ∷ (operand_counts ++ t)) fields k place (omega arith) f
+
+  range_is : line_range bytes p ≡ e.range
+  range_is = pair_byte 1 (p + 16) (omega arith) (omega arith)
+
+  base_is : line_base bytes p ≡ e.base
+  base_is = ap (cast_signed w8) (pair_byte 0 (p + 15) (omega arith) (omega arith)) ∙ byte_back e.base pair.base_from pair.base_to
+
+  opcode_base_is : opcode_base bytes p ≡ 13
+  opcode_base_is = pair_byte 2 (p + 17) (omega arith) (omega arith)
+
+  lengths_are : standard_opcode_lengths bytes p ≡ take (opcode_base bytes p - 1) operand_counts
+  lengths_are =
+      let twelve : take 12 (drop (p + 18) bytes) ≡ operand_counts = held_all bytes (p + 18) operand_counts (held_front bytes (p + 18) operand_counts t counts) 12 refl in
+      ap (λ z. take (z - 1) (drop (p + 18) bytes)) opcode_base_is ∙ twelve ∙ ap (λ z. take (z - 1) operand_counts) (sym opcode_base_is)
 
   numbers : HasNumbers bytes p
   numbers = record {
-    of_version = same_version ∙ rules.numbers.of_version;
-    of_address_size = byte_at_ 6 (omega arith) (omega arith) ∙ rules.numbers.of_address_size;
-    of_segments = byte_at_ 7 (omega arith) (omega arith) ∙ rules.numbers.of_segments;
-    scaled = λ e. rules.numbers.scaled (sym (byte_at_ 12 (omega arith) (omega arith)) ∙ e);
-    of_operations = byte_at_ 13 (omega arith) (omega arith) ∙ rules.numbers.of_operations;
-    ranged = λ e. rules.numbers.ranged (sym (byte_at_ 16 (omega arith) (omega arith)) ∙ e);
-    based = subst IsBase (sym same_base) rules.numbers.based;
+    of_version = version_is ∙ rules.numbers.of_version;
+    of_address_size = version_byte 2 (p + 6) (at + 6) (omega arith) (omega arith) (omega arith) ∙ rules.numbers.of_address_size;
+    of_segments = version_byte 3 (p + 7) (at + 7) (omega arith) (omega arith) (omega arith) ∙ rules.numbers.of_segments;
+    scaled = λ z. rules.numbers.scaled (sym min_is ∙ z);
+    of_operations = instruction_byte 1 (p + 13) (at + 13) (omega arith) (omega arith) (omega arith) ∙ rules.numbers.of_operations;
+    ranged = λ z. let some : 1 ≤ e.range = pair.range_from in let none : line_range bytes p ≡ 0 = z in let same : line_range bytes p ≡ e.range = range_is in absurd (omega arith);
+    based = let same : opcode_base bytes p ≡ 13 = opcode_base_is in (omega arith, omega arith);
   }
 
   stays : ¬ LeavesSection bytes p
-  stays (inl short) = absurd (omega arith)
-  stays (inr (inl long)) = absurd (omega arith)
-  stays (inr (inr reserved)) = absurd (omega arith)
+  stays (inl short) = let all : p + 30 + length t + length e.bytes ≤ length bytes = inside in absurd (omega arith)
+  stays (inr (inl long)) =
+      let all : p + 30 + length t + length e.bytes ≤ length bytes = inside in
+      let size : unit_length bytes p ≡ 26 + length t + length e.bytes = length_is in
+      absurd (omega arith)
+  stays (inr (inr reserved)) =
+      let size : unit_length bytes p ≡ 26 + length t + length e.bytes = length_is in
+      let size2 : length (body_of section (head_at section at) e) ≡ 26 + length t + length e.bytes = body_size v i t e.bytes b e.range old.version old.instruction in
+      absurd (omega arith)
 
-  header_read : HasHead bytes p
-  header_read =
-      let base : opcode_base bytes p ≡ opcode_base section at = same_base in
-      let length_ : header_length bytes p ≡ header_length section at = same_header_length in
+  has : HasHead bytes p
+  has =
+      let size : unit_length bytes p ≡ 26 + length t + length e.bytes = length_is in
+      let size2 : header_length bytes p ≡ 18 + length t = header_is in
+      let base : opcode_base bytes p ≡ 13 = opcode_base_is in
       record {
         here = stays;
         numbers = numbers;
-        lengths = record {
-          before_program = omega arith;
-          in_unit = omega arith;
-          counted = lengths_same ∙ rules.lengths.counted ∙ ap (λ z. take (z - 1) operand_counts) (sym same_base);
-        };
+        lengths = record { before_program = omega arith; in_unit = omega arith; counted = lengths_are };
       }
 
-  program_read : program_of bytes (head_at bytes p) ≡ new
-  program_read =
-      let length_ : header_length bytes p ≡ header_length section at = same_header_length in
-      let mid : length (take (8 + header_length section at) (drop (at + 4) section)) ≡ 8 + header_length section at = length-take-le (8 + header_length section at) (drop (at + 4) section) room in
-      let from : program_at bytes p ≡ p + 4 + (8 + header_length section at) = omega arith in
-      let len : unit_end bytes p - program_at bytes p ≡ length new = omega arith in
-      let left : drop (program_at bytes p) bytes ≡ new ++ rest =
-      ap (λ z. drop z bytes) from ∙ sym (drop-drop (8 + header_length section at) (p + 4) bytes) ∙ ap (drop (8 + header_length section at)) dropped
-      ∙ drop_at (take (8 + header_length section at) (drop (at + 4) section)) (new ++ rest) (8 + header_length section at) mid in
-      ap (λ z. take z (drop (program_at bytes p) bytes)) len ∙ ap (take (length new)) left ∙ take-append-le (length new) new rest (omega arith) ∙ take_all (length new) new (omega arith)
+  program_is : program_of bytes (head_at bytes p) ≡ e.bytes
+  program_is =
+      let size : unit_length bytes p ≡ 26 + length t + length e.bytes = length_is in
+      let size2 : header_length bytes p ≡ 18 + length t = header_is in
+      let place : p + 30 + length t ≡ program_at bytes p = omega arith in
+      held_all bytes (program_at bytes p) e.bytes (at_program bytes p v i t e.bytes b e.range old.version old.instruction here small (program_at bytes p) place) (unit_end bytes p - program_at bytes p) (omega arith)
 
-  tables_read : tables_of bytes (head_at bytes p) ≡ tables_of section (head_at section at)
-  tables_read =
-      let base : opcode_base bytes p ≡ opcode_base section at = same_base in
-      let length_ : header_length bytes p ≡ header_length section at = same_header_length in
-      let from : tables_at bytes p ≡ p + (17 + opcode_base section at) = omega arith in
-      let from2 : at + (17 + opcode_base section at) ≡ tables_at section at = omega arith in
-      let len : program_at bytes p - tables_at bytes p ≡ program_at section at - tables_at section at = omega arith in
-      ap (λ z. take z (drop (tables_at bytes p) bytes)) len ∙ ap (λ z. take (program_at section at - tables_at section at) (drop z bytes)) from
-      ∙ field section at bytes p (8 + header_length section at) (new ++ rest) dropped room (17 + opcode_base section at) (program_at section at - tables_at section at) (omega arith) (omega arith)
-      ∙ ap (λ z. take (program_at section at - tables_at section at) (drop z section)) from2
+  tables_are : tables_of bytes (head_at bytes p) ≡ t
+  tables_are =
+      let size : header_length bytes p ≡ 18 + length t = header_is in
+      let base : opcode_base bytes p ≡ 13 = opcode_base_is in
+      let place : p + 30 ≡ tables_at bytes p = omega arith in
+      held_all bytes (tables_at bytes p) t (at_tables bytes p v i t e.bytes b e.range old.version old.instruction here small (tables_at bytes p) place) (program_at bytes p - tables_at bytes p) (omega arith)
 
-  acts : ActsAs (head_at section at) (head_at bytes p)
-  acts = record {
-    min = sym (byte_at_ 12 (omega arith) (omega arith));
-    stmt = ap (λ z. not (nat_eq z 0)) (sym (byte_at_ 14 (omega arith) (omega arith)));
-    base = ap (cast_signed w8) (sym (byte_at_ 15 (omega arith) (omega arith)));
-    range = sym (byte_at_ 16 (omega arith) (omega arith));
-    opcode_base = sym same_base;
-  }
-
-  meaning_read : (meaning : ProgramMeaning) → GivesRows (head_at section at) new meaning.rows → HasMeaning section (head_at section at) meaning → HasMeaning bytes (head_at bytes p) meaning
-  meaning_read meaning gives means = record {
-    min = means.min ∙ sym (byte_at_ 12 (omega arith) (omega arith));
-    is_stmt = means.is_stmt ∙ sym (byte_at_ 14 (omega arith) (omega arith));
-    base = means.base ∙ ap (cast_signed w8) (sym (byte_at_ 15 (omega arith) (omega arith)));
-    range = means.range ∙ sym (byte_at_ 16 (omega arith) (omega arith));
-    opcode_base = means.opcode_base ∙ sym same_base;
-    tables = means.tables ∙ sym tables_read;
-    rows = subst (λ (z : List ℕ). GivesRows (head_at bytes p) z meaning.rows) (sym program_read) (gives_as (head_at section at) (head_at bytes p) new meaning.rows acts gives);
-  }
-
--- a unit that was written is read back
-pub unit_read_back : (section : List ℕ) (at : ℕ) (unit front rest bytes : List ℕ) → HasHead section at → IsRewrittenUnit section (head_at section at) unit → bytes ≡ front ++ (unit ++ rest) → IsReadBack section at bytes (length front) unit
-unfolding number_at
-unit_read_back section at unit front rest bytes rules u whole =
-    let p : ℕ = length front in
-    let b = bounds section at rules in
-    let mid : List ℕ = header_of section (head_at section at) in
-    let body : List ℕ = mid ++ u.program in
-    let four : List ℕ = little_bytes 4 (length body) in
-    let m : at + 12 + header_length section at - (at + 4) ≡ 8 + header_length section at = omega arith in
-    let mid_is : mid ≡ take (8 + header_length section at) (drop (at + 4) section) = ap (λ z. take z (drop (at + 4) section)) m in
-    let left : length (drop (at + 4) section) ≡ length section - (at + 4) = length-drop (at + 4) section in
-    let mid_len : length mid ≡ 8 + header_length section at = ap length mid_is ∙ length-take-le (8 + header_length section at) (drop (at + 4) section) (omega arith) in
-    let body_len : length body ≡ length mid + length u.program = length-append mid u.program in
-    let few : length body ≤ unit_length section at = body_small section at unit rules u in
-    let four_len : length four ≡ 4 = length-bytes_low_first 0 4 (length body) in
-    let unit_is : unit ++ rest ≡ four ++ (body ++ rest) = ap (λ z. z ++ rest) u.whole ∙ append_assoc four body rest in
-    let at_unit : drop p bytes ≡ four ++ (body ++ rest) = ap (drop p) whole ∙ drop_at front (unit ++ rest) p refl ∙ unit_is in
-    let at_body : drop (p + 4) bytes ≡ body ++ rest = sym (drop-drop 4 p bytes) ∙ ap (drop 4) at_unit ∙ drop_at four (body ++ rest) 4 four_len in
-    let dropped : drop (p + 4) bytes ≡ take (8 + header_length section at) (drop (at + 4) section) ++ (u.program ++ rest) =
-    at_body ∙ append_assoc mid u.program rest ∙ ap (λ z. z ++ (u.program ++ rest)) mid_is in
-    let field_is : unit_length bytes p ≡ length body = ap (little_from 0 4) at_unit ∙ little_number-reads_back 4 (length body) (body ++ rest) (omega arith) in
-    let unit_len : length unit ≡ length four + length body = ap length u.whole ∙ length-append four body in
-    let all : length bytes ≡ length front + length (unit ++ rest) = ap length whole ∙ length-append front (unit ++ rest) in
-    let all2 : length (unit ++ rest) ≡ length unit + length rest = length-append unit rest in
-    let counted : unit_length bytes p ≡ 8 + header_length section at + length u.program = omega arith in
-    let small : unit_length bytes p ≤ unit_length section at = omega arith in
-    let size : p + 4 + unit_length bytes p ≤ length bytes = omega arith in
-    record {
-      has = header_read section at bytes p u.program rest rules b dropped counted small size;
-      len = omega arith;
-      means = λ meaning means.
-          meaning_read section at bytes p u.program rest rules b dropped counted small size meaning (shortened_gives (head_at section at) (program_of section (head_at section at)) u.program meaning.rows rules.numbers.based means.rows u.shortened) means;
-    }
+  -- a unit that was written is read back
+  pub unit_read_back : IsReadBack section at e bytes p
+  unit_read_back =
+      let size : unit_length bytes p ≡ 26 + length t + length e.bytes = length_is in
+      let size2 : length (body_of section (head_at section at) e) ≡ 26 + length t + length e.bytes = body_size v i t e.bytes b e.range old.version old.instruction in
+      let size3 : length (counted (body_of section (head_at section at) e)) ≡ 4 + length (body_of section (head_at section at) e) = counted_size (body_of section (head_at section at) e) in
+      record {
+        has = has;
+        end = omega arith;
+        program = program_is;
+        tables = tables_are;
+        min = min_is;
+        is_stmt = stmt_is;
+        base = base_is;
+        range = range_is;
+        opcode_base = opcode_base_is;
+      }

@@ -1,6 +1,5 @@
 pub mod Faults
-pub mod Kept
 pub mod Laws
+pub mod Least
 pub mod Meaning
 pub mod Programs
-pub mod Shortest

@@ -1,32 +1,23 @@
 -- What the line number programs of a section mean: for each its head fields, its tables and its rows.
-use Rattle.std.specs.Prelude.{◌≡◌, ℕ, ℤ, List, [], ◌∷◌, take, drop, ⊤}
+use Rattle.std.specs.Prelude.{◌≡◌, ℕ, List, [], ◌∷◌, ⊤}
 use Rattle.line_machine.specs.declared.head.Head.{Head}
 use Rattle.line_machine.specs.declared.registers.Row.{Row}
 use Rattle.line_machine.specs.Rows.{GivesRows}
-use Rattle.line_machine.specs.Heads.{minimum_instruction_length, default_is_stmt, line_base, line_range, opcode_base, program_of}
-use Rattle.line_write.specs.Programs.{Tile}
+use Rattle.line_machine.specs.Heads.{minimum_instruction_length, default_is_stmt, program_of}
+use Rattle.line_write.specs.Programs.{Tile, tables_of}
 
--- what a program means, with the three fields by which its opcodes are chosen
+-- What a program means. The three fields by which its opcodes are chosen, line_base, line_range and opcode_base, aren't
+-- part of it.
 pub record ProgramMeaning : Type 0 where
   pub min : ℕ
   pub is_stmt : ℕ
-  pub base : ℤ
-  pub range : ℕ
-  pub opcode_base : ℕ
   pub tables : List ℕ
   pub rows : List Row
-
--- the bytes of the directory and file tables
-abbrev pub tables_of : List ℕ → Head → List ℕ
-tables_of section head = take head.tables.len (drop head.tables.at section)
 
 -- The program of a head means this.
 pub record HasMeaning (section : List ℕ) (head : Head) (meaning : ProgramMeaning) : Type 0 where
   pub min : meaning.min ≡ minimum_instruction_length section head.at
   pub is_stmt : meaning.is_stmt ≡ default_is_stmt section head.at
-  pub base : meaning.base ≡ line_base section head.at
-  pub range : meaning.range ≡ line_range section head.at
-  pub opcode_base : meaning.opcode_base ≡ opcode_base section head.at
   pub tables : meaning.tables ≡ tables_of section head
   pub rows : GivesRows head (program_of section head) meaning.rows
 

@@ -1,13 +1,14 @@
 -- The line number programs of a section (DWARF 5 section 6.2.4), one after the other, and how each is written anew.
-use Rattle.std.specs.Prelude.{◌≡◌, ◌+◌, ◌-◌, ℕ, List, [], ◌∷◌, ◌++◌, length, take, drop}
+use Rattle.std.specs.Prelude.{◌≡◌, ◌+◌, ℕ, ℤ, List, [], ◌∷◌, ◌++◌, length, take, drop}
+use Rattle.std.specs.Int.{w8, cast_unsigned}
 use Rattle.byteorder.specs.Endian.{little_bytes}
 use Rattle.spelled.specs.Spelled.{Joined}
 use Rattle.line_machine.specs.declared.head.Head.{Head}
-use Rattle.line_machine.specs.declared.opcode.Opcode.{Opcode}
-use Rattle.line_machine.specs.Opcodes.{SpellsOpcode}
-use Rattle.line_machine.specs.Heads.{IsHead, program_of}
-use Rattle.line_write.specs.Shortest.{ShortestOpcode}
-use Rattle.line_write.specs.Kept.{IsKept}
+use Rattle.line_machine.specs.declared.registers.Row.{Row}
+use Rattle.line_machine.specs.Rows.{GivesRows}
+use Rattle.line_machine.specs.Heads.{IsHead, program_of, operand_counts}
+use Rattle.line_machine.specs.Class.{Encoding, IsTaken}
+use Rattle.line_params.specs.Order.{AreInOrder}
 
 -- The units of the heads stand in the section one after the other, from a place up to another.
 abbrev pub Follow : List ℕ → List Head → ℕ → ℕ → Type 0
@@ -18,23 +19,41 @@ Follow section (head ∷ heads) at end = (head.at ≡ at) × IsHead section head
 abbrev pub Tile : List ℕ → List Head → Type 0
 Tile section heads = Follow section heads 0 (length section)
 
--- the bytes of a unit after its length up to its program: the other fields of its header, and its tables
-abbrev pub header_of : List ℕ → Head → List ℕ
-header_of section head = take (head.program.at - (head.at + 4)) (drop (head.at + 4) section)
+-- the bytes of version, address_size and segment_selector_size
+abbrev pub version_of : List ℕ → Head → List ℕ
+version_of section head = take 4 (drop (head.at + 4) section)
 
--- The new program is the kept opcodes of the old one, each in its shortest bytes.
-pub record IsShortened (base : ℕ) (old new : List ℕ) : Type 0 where
-  pub opcodes : List Opcode
-  pub spelled : Joined (SpellsOpcode base) opcodes old
-  pub kept : List Opcode
-  pub front : IsKept opcodes kept
-  pub written : Joined (ShortestOpcode base) kept new
+-- the bytes of minimum_instruction_length, maximum_operations_per_instruction and default_is_stmt
+abbrev pub instruction_of : List ℕ → Head → List ℕ
+instruction_of section head = take 3 (drop (head.at + 12) section)
 
--- The unit is the head's, but for its program and its length.
+-- the bytes of the directory and file tables
+abbrev pub tables_of : List ℕ → Head → List ℕ
+tables_of section head = take head.tables.len (drop head.tables.at section)
+
+-- bytes after their number, which has four bytes, the lowest first
+abbrev pub counted : List ℕ → List ℕ
+counted bytes = little_bytes 4 (length bytes) ++ bytes
+
+-- What header_length counts: the old fields and tables, with another line_base, which is a signed byte, another
+-- line_range, the opcode_base 13 and the lengths of the twelve standard opcodes.
+abbrev pub header_of : List ℕ → Head → ℤ → ℕ → List ℕ
+header_of section head base range =
+    instruction_of section head ++ (cast_unsigned w8 base ∷ range ∷ 13 ∷ (operand_counts ++ tables_of section head))
+
+-- what unit_length counts: the rest of the header, and the program
+abbrev pub body_of : List ℕ → Head → Encoding → List ℕ
+body_of section head e = version_of section head ++ (counted (header_of section head e.base e.range) ++ e.bytes)
+
+-- The unit is the head's with the encoding that is taken for its rows, whose opcodes stand in the order that line_params
+-- states.
 pub record IsRewrittenUnit (section : List ℕ) (head : Head) (unit : List ℕ) : Type 0 where
-  pub program : List ℕ
-  pub shortened : IsShortened head.opcode_base (program_of section head) program
-  pub whole : unit ≡ little_bytes 4 (length (header_of section head ++ program)) ++ (header_of section head ++ program)
+  pub rows : List Row
+  pub given : GivesRows head (program_of section head) rows
+  pub encoding : Encoding
+  pub taken : IsTaken head rows encoding
+  pub order : AreInOrder head.stmt encoding.base encoding.range head.min rows encoding.bytes
+  pub whole : unit ≡ counted (body_of section head encoding)
 
 -- The bytes are the units of the section, each written anew, in their order.
 abbrev pub AreRewritten : List ℕ → List ℕ → Type 0

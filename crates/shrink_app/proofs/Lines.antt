@@ -1,5 +1,5 @@
 -- The section with line number programs, and the files in which it is written anew.
-use Rattle.std.proofs.Common.{◌≡◌, ◌≢◌, ◌≤◌, ◌<◌, ◌+◌, ◌-◌, ◌^◌, ℕ, zero, suc, List, [], ◌∷◌, length, drop, Bool, true, false, sym, ◌∙◌, ap, refl, subst, arith, inl, inr}
+use Rattle.std.proofs.Common.{◌≡◌, ◌≢◌, ◌≤◌, ◌<◌, ◌+◌, ◌-◌, ◌*◌, ◌^◌, ℕ, zero, suc, List, [], ◌∷◌, length, drop, Bool, true, false, sym, ◌∙◌, ap, refl, subst, arith, inl, inr}
 use Rattle.std.specs.Prelude.{◌==◌, ◌||◌, ◌&&◌, not, if◌then◌else◌, codes, slice_range, nat_le}
 use Rattle.std.specs.List.{All}
 use Rattle.std.proofs.lemmas.List.{length-take, length-drop}
@@ -19,11 +19,11 @@ use Rattle.elf_place.specs.Layout.{IsLaidOut, Stand}
 use Rattle.elf_place.specs.Same.{SameImage}
 use Rattle.elf_place.proofs.BodyLaws.{body_after-kept}
 use Rattle.line_machine.specs.Faults.{IsFaulty}
-use Rattle.line_write.specs.Faults.{LinesFault}
+use Rattle.line_write.specs.Faults.{LinesFault, total_limit}
 use Rattle.line_write.specs.Meaning.{SameLines}
-use Rattle.line_write.specs.Programs.{AreRewritten}
-use Rattle.shrink_app.specs.File.{is_lines, HasLinesFault, Same, IsShortest, body_in}
-use Rattle.shrink_app.specs.Bodies.{IsShortened, AreNewBodies}
+use Rattle.line_write.specs.Least.{LeastLines, OrderedLines}
+use Rattle.shrink_app.specs.File.{is_lines, HasLinesFault, Same, HasLeastLines, HasOrderedLines, body_in}
+use Rattle.shrink_app.specs.Bodies.{IsShrunk, AreNewBodies}
 
 -- NAMES
 
@@ -117,8 +117,8 @@ plain true = refl
 plain false = refl
 
 module _ (file : List ℕ) (read : IsRead file Narrow) (i : ℕ) (s : IsLineSection file i) where
-  pub new_body : (new : NewBody) → new.section ≡ i → SameLines (body_of file i) new.bytes.items → AreRewritten (body_of file i) new.bytes.items → length new.bytes.items ≤ length (body_of file i) → AreNewBodies file (new ∷ [])
-  new_body new e means shortest short =
+  pub new_body : (new : NewBody) → new.section ≡ i → SameLines (body_of file i) new.bytes.items → LeastLines (body_of file i) new.bytes.items → OrderedLines (body_of file i) new.bytes.items → length new.bytes.items ≤ 2 * length (body_of file i) + 68 * total_limit → AreNewBodies file (new ∷ [])
+  new_body new e means least order bound =
       let few : length file ≤ 2 ^ 30 = read.small.bytes in
       let end : offset_of file i + length (body_of file i) ≤ length file = s.end in
       record {
@@ -127,11 +127,12 @@ module _ (file : List ℕ) (read : IsRead file Narrow) (i : ℕ) (s : IsLineSect
         small = omega arith;
         names = λ some. plain (new.section == names_index file) ∙ ap (λ z. z == names_index file) e ∙ s.nameless;
         lines = λ k lt. plain (new.section == k) ∙ ap (λ z. z == k) e ∙ s.only k lt;
-        shortened = All-cons (IsShortened file) new [] (record {
+        shrunk = All-cons (IsShrunk file) new [] (record {
           named = ap (is_lines file) e ∙ s.named;
           means = subst (λ (z : ℕ). SameLines (body_of file z) new.bytes.items) (sym e) means;
-          shortest = subst (λ (z : ℕ). AreRewritten (body_of file z) new.bytes.items) (sym e) shortest;
-        }) (All-nil (IsShortened file));
+          least = subst (λ (z : ℕ). LeastLines (body_of file z) new.bytes.items) (sym e) least;
+          order = subst (λ (z : ℕ). OrderedLines (body_of file z) new.bytes.items) (sym e) order;
+        }) (All-nil (IsShrunk file));
       }
 
   pub lines_faultless : ¬ IsFaulty (LinesFault (body_of file i)) → HasLinesFault file → ⊥
@@ -165,8 +166,8 @@ stand_as new f g same (i ∷ order) start end (p, rest) =
     (record { place = p.place; gap = p.gap; size = p.size ∙ ap length e; body = p.body ∙ e }, stand_as new f g same order (offset_of new i + size_of new i) end rest)
 
 module _ (file written : List ℕ) (bodies : List NewBody) (b : AreNewBodies file bodies) where
-  holds : All (λ (new : NewBody). body_of written new.section ≡ new.bytes.items) bodies → (i : ℕ) → i < section_count file → is_lines file i ≡ true → IsFound (IsShortened file) (λ new. body_of written new.section ≡ new.bytes.items) i
-  holds news i lt e = found (IsShortened file) (λ new. body_of written new.section ≡ new.bytes.items) bodies i (b.lines i lt ∙ e) b.shortened news
+  holds : All (λ (new : NewBody). body_of written new.section ≡ new.bytes.items) bodies → (i : ℕ) → i < section_count file → is_lines file i ≡ true → IsFound (IsShrunk file) (λ new. body_of written new.section ≡ new.bytes.items) i
+  holds news i lt e = found (IsShrunk file) (λ new. body_of written new.section ≡ new.bytes.items) bodies i (b.lines i lt ∙ e) b.shrunk news
 
   pub shrunk_same : SameImage (has_new_body bodies) file written → All (λ (new : NewBody). body_of written new.section ≡ new.bytes.items) bodies → Same file written
   shrunk_same image news = record {
@@ -182,16 +183,22 @@ module _ (file written : List ℕ) (bodies : List NewBody) (b : AreNewBodies fil
         subst (λ (z : List ℕ). SameLines (body_of file i) z) (sym bytes) (subst (λ (z : ℕ). SameLines (body_of file z) h.body.bytes.items) h.here h.one.means);
   }
 
-  pub shrunk_shortest : All (λ (new : NewBody). body_of written new.section ≡ new.bytes.items) bodies → IsShortest file written
-  shrunk_shortest news = λ i lt e.
+  pub shrunk_least : All (λ (new : NewBody). body_of written new.section ≡ new.bytes.items) bodies → HasLeastLines file written
+  shrunk_least news = λ i lt e.
       let h = holds news i lt e in
       let bytes : body_of written i ≡ h.body.bytes.items = ap (body_of written) (sym h.here) ∙ h.other in
-      subst (λ (z : List ℕ). AreRewritten (body_of file i) z) (sym bytes) (subst (λ (z : ℕ). AreRewritten (body_of file z) h.body.bytes.items) h.here h.one.shortest)
+      subst (λ (z : List ℕ). LeastLines (body_of file i) z) (sym bytes) (subst (λ (z : ℕ). LeastLines (body_of file z) h.body.bytes.items) h.here h.one.least)
+
+  pub shrunk_ordered : All (λ (new : NewBody). body_of written new.section ≡ new.bytes.items) bodies → HasOrderedLines file written
+  shrunk_ordered news = λ i lt e.
+      let h = holds news i lt e in
+      let bytes : body_of written i ≡ h.body.bytes.items = ap (body_of written) (sym h.here) ∙ h.other in
+      subst (λ (z : List ℕ). OrderedLines (body_of file i) z) (sym bytes) (subst (λ (z : ℕ). OrderedLines (body_of file z) h.body.bytes.items) h.here h.one.order)
 
   -- a section without line number programs gets no new body
   spared : (i : ℕ) → is_lines file i ≡ false → has_new_body bodies i ≡ false
   spared i e = other_name (has_new_body bodies i) (λ has.
-      let h = found (IsShortened file) (IsShortened file) bodies i has b.shortened b.shortened in
+      let h = found (IsShrunk file) (IsShrunk file) bodies i has b.shrunk b.shrunk in
       true≢false (sym (ap (is_lines file) (sym h.here) ∙ h.one.named) ∙ e))
 
   body_is : (lines : Bool) (i : ℕ) → is_lines file i ≡ lines → body_of written i ≡ body_after file bodies i → body_after file bodies i ≡ (if lines then body_of written i else body_of file i)

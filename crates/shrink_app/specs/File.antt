@@ -13,7 +13,7 @@ use Rattle.elf_place.specs.Layout.{IsLaidOut}
 use Rattle.line_machine.specs.Faults.{IsFaulty}
 use Rattle.line_write.specs.Faults.{LinesFault}
 use Rattle.line_write.specs.Meaning.{SameLines}
-use Rattle.line_write.specs.Programs.{AreRewritten}
+use Rattle.line_write.specs.Least.{LeastLines, OrderedLines}
 
 -- the section of this number has the name .debug_line, whose line number programs are written anew
 abbrev pub is_lines : List ℕ → ℕ → Bool
@@ -33,8 +33,8 @@ abbrev pub IsUnbuiltSection : List ℕ → ℕ → Type 0
 IsUnbuiltSection file place =
     (i : ℕ) × (i < section_count file) × (place ≡ offset_of file i) × (is_listed (name_of file i) ≡ true) × (is_lines file i ≡ false)
 
--- A fault of this kind stands at this place of the file. Past the limit of bytes the limit decides, whatever else the
--- first bytes hold.
+-- A fault of this kind stands at this place of the file. Of an ELF-64 file past the limit of bytes nothing else is said,
+-- and no section's place is named.
 abbrev pub Faulty : List ℕ → Kind → ℕ → Type 0
 Faulty file NotElf64 place = (place ≡ 0) × ¬ IsElf64 file
 Faulty file Unbuilt place =
@@ -50,10 +50,15 @@ pub record Same (file written : List ℕ) : Type 0 where
   pub image : SameImage (is_lines file) file written
   pub lines : (i : ℕ) → i < section_count file → is_lines file i ≡ true → SameLines (body_of file i) (body_of written i)
 
--- the line number programs are written with each number in its shortest form and without opcodes after the last sequence
-abbrev pub IsShortest : List ℕ → List ℕ → Type 0
-IsShortest file written =
-    (i : ℕ) → i < section_count file → is_lines file i ≡ true → AreRewritten (body_of file i) (body_of written i)
+-- each line number program is written as the least that gives its rows
+abbrev pub HasLeastLines : List ℕ → List ℕ → Type 0
+HasLeastLines file written =
+    (i : ℕ) → i < section_count file → is_lines file i ≡ true → LeastLines (body_of file i) (body_of written i)
+
+-- the opcodes of each line number program stand in the order that is stated for them
+abbrev pub HasOrderedLines : List ℕ → List ℕ → Type 0
+HasOrderedLines file written =
+    (i : ℕ) → i < section_count file → is_lines file i ≡ true → OrderedLines (body_of file i) (body_of written i)
 
 -- the body that a section is to have in the written file: its own, but for one whose programs are written anew
 abbrev pub body_in : List ℕ → List ℕ → ℕ → List ℕ

@@ -4,12 +4,12 @@ ghost use Rattle.dw_base.specs.declared.fault.Reach.TheVariants.{Narrow};
 ghost use Rattle.line_machine.specs.Faults.{IsRefusedFor};
 ghost use Rattle.elf_sections.specs.Faults.{IsRead};
 ghost use Rattle.shrink_app.specs.Bodies.{AreNewBodies, IsRefusedAtStart};
-ghost use Rattle.shrink_app.specs.File.{IsUnbuiltSection, HasLinesFault, IsValid, Same, IsShortest, IsPlaced, NamesFault};
+ghost use Rattle.shrink_app.specs.File.{IsUnbuiltSection, HasLinesFault, IsValid, Same, HasLeastLines, HasOrderedLines, IsPlaced, NamesFault};
 
 use dw_base::{Fault, Kind, Reach, Refusal};
 use elf_place::{NewBody, place};
 use elf_sections::{Image, is_listed};
-use line_write::shorten_lines;
+use line_write::shrink_lines;
 use std::alloc::Global;
 
 // Whether a section of this name holds line number programs.
@@ -43,7 +43,7 @@ fn new_bodies(alloc: Global, image: &Image<'_>) -> Result<Vec<NewBody>, Refusal>
     let Some(section) = image.find(b".debug_line".as_slice()) else {
         return Ok(bodies);
     };
-    let bytes = match shorten_lines(alloc, image.body(section), image.offset(section)) {
+    let bytes = match shrink_lines(alloc, image.body(section), image.offset(section)) {
         Ok(bytes) => bytes,
         Err(refusal) => return Err(refusal),
     };
@@ -61,12 +61,14 @@ fn new_bodies(alloc: Global, image: &Image<'_>) -> Result<Vec<NewBody>, Refusal>
 /// since no other is rewritten yet; where both are so either is answered, but past the limit the first. Where memory is
 /// wanting the answer is NoMemory.
 ///
-/// In the written file each line number program keeps its header, its tables and its rows, and each of its LEB128
-/// numbers has its shortest form (DWARF 5 sections 6.2 and 7.6). All other sections keep their bytes.
+/// In the written file each line number program keeps its rows, its tables and the fields of its header, but for its
+/// lengths, line_base, line_range and opcode_base: it is the shortest program that gives these rows under any line_base
+/// and line_range, with the opcode_base 13 (DWARF 5 section 6.2). All other sections keep their bytes.
 pub fn rewrite(alloc: Global, file: &[u8]) -> Result<Vec<u8>, Refusal>
     ensures valid { IfOk result (λ _. IsValid file.now) }
     ensures same { IfOk result (λ written. Same file.now written.items) }
-    ensures shortest { IfOk result (λ written. IsShortest file.now written.items) }
+    ensures least { IfOk result (λ written. HasLeastLines file.now written.items) }
+    ensures order { IfOk result (λ written. HasOrderedLines file.now written.items) }
     ensures placed { IfOk result (λ written. IsPlaced file.now written.items) }
     ensures refused { IfErr result (λ refusal. NamesFault file.now refusal) }
 {

@@ -2,7 +2,7 @@
 ghost use Rattle.std.specs.Prelude.{◌≡◌, ◌≢◌, ◌≤◌, ◌<◌, ◌+◌, ◌^◌, ◌⊎◌, ℕ, List, [], ◌++◌, length, Some, OnOk};
 ghost use Rattle.std.specs.Option.{ForSome};
 ghost use Rattle.dw_base.specs.Host.{Rose};
-ghost use Rattle.shrink_app.specs.File.{IsValid, Same, IsShortest, IsPlaced};
+ghost use Rattle.shrink_app.specs.File.{IsValid, Same, HasLeastLines, HasOrderedLines, IsPlaced};
 ghost use Rattle.shrink_app.specs.Run.{HasReadCause, HasWriteCause, Writes, LeavesFiles, EndsByFault};
 
 use crate::ending::Ending;
@@ -16,7 +16,8 @@ use std::alloc::Global;
 pub fn shrink<H: Host>(alloc: Global, input: &str, output: &str, host: &mut H) -> Result<(), Ending>
     ensures valid { OnOk result (ForSome (H.bytes host.old input.now) IsValid) }
     ensures same { OnOk result (Writes Same (H.bytes host.old) (H.bytes host.new) input.now output.now) }
-    ensures shortest { OnOk result (Writes IsShortest (H.bytes host.old) (H.bytes host.new) input.now output.now) }
+    ensures least { OnOk result (Writes HasLeastLines (H.bytes host.old) (H.bytes host.new) input.now output.now) }
+    ensures order { OnOk result (Writes HasOrderedLines (H.bytes host.old) (H.bytes host.new) input.now output.now) }
     ensures placed { OnOk result (Writes IsPlaced (H.bytes host.old) (H.bytes host.new) input.now output.now) }
     ensures refused { EndsByFault (H.bytes host.old input.now) result }
     ensures files { LeavesFiles (H.bytes host.old) (H.bytes host.new) result }

@@ -74,24 +74,52 @@ const NO_ROWS: [u8; 34] = [
     0, 0, 1, 0, 0, 0, 0,
 ];
 
-// One in which an operand is padded, and the same without padding.
+// One of two rows, and the same with a padded operand. With the range 49 const_add_pc advances by 4.
+const TWO_ROWS: [u8; 52] = [
+    0x30, 0, 0, 0, 5, 0, 8, 0, 0x16, 0, 0, 0, 1, 1, 1, 0xfb, 0x0e, 0x0d, 0, 1, 1, 1, 1, 0, 0, 0, 1,
+    0, 0, 1, 0, 0, 0, 0, 0, 9, 2, 0, 0x10, 0, 0, 0, 0, 0, 0, 1, 0x4c, 2, 4, 0, 1, 1,
+];
+
 const PADDED: [u8; 53] = [
     0x31, 0, 0, 0, 5, 0, 8, 0, 0x16, 0, 0, 0, 1, 1, 1, 0xfb, 0x0e, 0x0d, 0, 1, 1, 1, 1, 0, 0, 0, 1,
     0, 0, 1, 0, 0, 0, 0, 0, 9, 2, 0, 0x10, 0, 0, 0, 0, 0, 0, 1, 0x4c, 2, 0x84, 0, 0, 1, 1,
 ];
 
-const SHORT: [u8; 52] = [
-    0x30, 0, 0, 0, 5, 0, 8, 0, 0x16, 0, 0, 0, 1, 1, 1, 0xfb, 0x0e, 0x0d, 0, 1, 1, 1, 1, 0, 0, 0, 1,
-    0, 0, 1, 0, 0, 0, 0, 0, 9, 2, 0, 0x10, 0, 0, 0, 0, 0, 0, 1, 0x4c, 2, 4, 0, 1, 1,
+const LEAST_TWO_ROWS: [u8; 43] = [
+    0x27, 0, 0, 0, 5, 0, 8, 0, 0x16, 0, 0, 0, 1, 1, 1, 0xd4, 0x31, 0x0d, 0, 1, 1, 1, 1, 0, 0, 0, 1,
+    0, 0, 1, 0, 0, 0, 0, 2, 0x80, 0x20, 1, 0xff, 8, 0, 1, 1,
+];
+
+// One whose address passes 2^64 from the first row to the second.
+const WRAP: [u8; 56] = [
+    0x34, 0, 0, 0, 5, 0, 8, 0, 0x16, 0, 0, 0, 1, 1, 1, 0xfb, 0x0e, 0x0d, 0, 1, 1, 1, 1, 0, 0, 0, 1,
+    0, 0, 1, 0, 0, 0, 0, 0, 9, 2, 0xff, 0xff, 0xff, 0xff, 0xff, 0xff, 0xff, 0xff, 1, 2, 4, 3, 1, 1,
+    2, 4, 0, 1, 1,
+];
+
+const LEAST_WRAP: [u8; 51] = [
+    0x2f, 0, 0, 0, 5, 0, 8, 0, 0x16, 0, 0, 0, 1, 1, 1, 0xd3, 0x31, 0x0d, 0, 1, 1, 1, 1, 0, 0, 0, 1,
+    0, 0, 1, 0, 0, 0, 0, 0, 9, 2, 0xff, 0xff, 0xff, 0xff, 0xff, 0xff, 0xff, 0xff, 1, 0xff, 8, 0, 1,
+    1,
+];
+
+// The one of a small compiled file.
+const SAMPLE: [u8; 76] = [
+    0x48, 0, 0, 0, 5, 0, 8, 0, 0x2a, 0, 0, 0, 1, 1, 1, 0xfb, 0x0e, 0x0d, 0, 1, 1, 1, 1, 0, 0, 0, 1,
+    0, 0, 1, 1, 1, 0x1f, 1, 4, 0, 0, 0, 2, 1, 0x1f, 2, 0x0f, 2, 0, 0, 0, 0, 0, 0, 0, 0, 0, 0, 5, 7,
+    0, 9, 2, 0, 0x10, 0x40, 0, 0, 0, 0, 0, 1, 5, 0x0a, 0x4b, 2, 0x0c, 0, 1, 1,
+];
+
+const LEAST_SAMPLE: [u8; 69] = [
+    0x41, 0, 0, 0, 5, 0, 8, 0, 0x2a, 0, 0, 0, 1, 1, 1, 0xef, 0x13, 0x0d, 0, 1, 1, 1, 1, 0, 0, 0, 1,
+    0, 0, 1, 1, 1, 0x1f, 1, 4, 0, 0, 0, 2, 1, 0x1f, 2, 0x0f, 2, 0, 0, 0, 0, 0, 0, 0, 0, 0, 0, 5, 7,
+    2, 0x80, 0xa0, 0x80, 2, 1, 5, 0x0a, 0x6b, 8, 0, 1, 1,
 ];
 
 // What a file holds.
 #[derive(Clone, Copy)]
 enum Held {
     NoSections,
-    NoRows,
-    PaddedLines,
-    ShortLines,
     Texts,
     LinesAndTexts,
     CutLines,
@@ -103,12 +131,9 @@ enum Held {
 fn bytes_of(alloc: Global, held: Held) -> Result<Vec<u8>, AllocError> {
     match held {
         Held::NoSections => elf_file(alloc, &[]),
-        Held::NoRows => elf_file(alloc, &[(".debug_line", &NO_ROWS)]),
-        Held::PaddedLines => elf_file(alloc, &[(".debug_line", &PADDED)]),
-        Held::ShortLines => elf_file(alloc, &[(".debug_line", &SHORT)]),
         Held::Texts => elf_file(alloc, &[(".debug_str", &[0])]),
-        Held::LinesAndTexts => elf_file(alloc, &[(".debug_line", &SHORT), (".debug_str", &[0])]),
-        Held::CutLines => elf_file(alloc, &[(".debug_line", &SHORT[..51])]),
+        Held::LinesAndTexts => elf_file(alloc, &[(".debug_line", &TWO_ROWS), (".debug_str", &[0])]),
+        Held::CutLines => elf_file(alloc, &[(".debug_line", &TWO_ROWS[..51])]),
         Held::HighByteFirst => {
             let mut bytes = elf_file(alloc, &[])?;
             if let Some(byte) = bytes.get_mut(5) {
@@ -138,7 +163,7 @@ fn files_in_memory(rt: HostRuntime) -> Result<(), Fail> {
     let alloc = rt.alloc();
     assert_eq!(rt; bytes_of(alloc, Held::NoSections)?.len(), 208);
     // the words, the input, the calls that fail, the status, what is said, the output, which has two bytes before
-    let rows: [(&[&str], Option<Held>, &[u64], u8, &str, Held); 12] = [
+    let rows: [(&[&str], Option<Held>, &[u64], u8, &str, Held); 10] = [
         (
             &["shrink", "a", "b"],
             Some(Held::NoSections),
@@ -146,22 +171,6 @@ fn files_in_memory(rt: HostRuntime) -> Result<(), Fail> {
             0,
             "",
             Held::NoSections,
-        ),
-        (
-            &["shrink", "a", "b"],
-            Some(Held::NoRows),
-            &[],
-            0,
-            "",
-            Held::NoRows,
-        ),
-        (
-            &["shrink", "a", "b"],
-            Some(Held::PaddedLines),
-            &[],
-            0,
-            "",
-            Held::ShortLines,
         ),
         (
             &["shrink", "a", "b"],
@@ -242,6 +251,55 @@ fn files_in_memory(rt: HostRuntime) -> Result<(), Fail> {
         assert_eq!(rt; run(alloc, &words, &mut host), status, "{said}");
         assert_eq!(rt; host.said().as_slice(), said.as_bytes());
         assert_eq!(rt; host.file("b").ok_or("no b")?.as_slice(), output.as_slice());
+    }
+    Ok(())
+}
+
+// A program of 1,048,576 rows, each at address 0 and 1,000 lines after the one before. Under every pair a row costs 4 bytes.
+fn many_rows(alloc: Global) -> Result<Vec<u8>, AllocError> {
+    let length: u32 = 30 + 4_194_307;
+    let mut section = length.to_le_bytes().to_vec(alloc)?;
+    section.extend_from_slice(&NO_ROWS[4..])?;
+    for _ in 0..1 << 20 {
+        section.extend_from_slice(&[3, 0xe8, 7, 1])?;
+    }
+    section.extend_from_slice(&[0, 1, 1])?;
+    Ok(section)
+}
+
+// What is written for a file with these line number programs, or nothing where it isn't done.
+fn written_for(alloc: Global, section: &[u8]) -> Result<Vec<u8>, AllocError> {
+    let mut files = Vec::new(alloc);
+    files.push(NamedFile {
+        name: String::from_str(alloc, "a")?,
+        bytes: elf_file(alloc, &[(".debug_line", section)])?,
+    })?;
+    add_file(alloc, &mut files, "b", Held::TwoBytes)?;
+    let mut host = MemHost::new(alloc, files, Vec::new(alloc));
+    let words = words_of(alloc, &["shrink", "a", "b"])?;
+    let status = run(alloc, &words, &mut host);
+    match host.file("b") {
+        Some(bytes) if status == 0 => bytes.as_slice().to_vec(alloc),
+        _ => Ok(Vec::new(alloc)),
+    }
+}
+
+#[test]
+fn line_programs(rt: HostRuntime) -> Result<(), Fail> {
+    let alloc = rt.alloc();
+    let many = many_rows(alloc)?;
+    let table: [(&[u8], &[u8]); 6] = [
+        (&NO_ROWS, &NO_ROWS),
+        (&TWO_ROWS, &LEAST_TWO_ROWS),
+        (&PADDED, &LEAST_TWO_ROWS),
+        (&WRAP, &LEAST_WRAP),
+        (&SAMPLE, &LEAST_SAMPLE),
+        (&many, &many),
+    ];
+    for (section, least) in table {
+        let written = written_for(alloc, section)?;
+        let want = elf_file(alloc, &[(".debug_line", least)])?;
+        assert_eq!(rt; written.as_slice(), want.as_slice());
     }
     Ok(())
 }

@@ -1,5 +1,5 @@
 use Rattle.std.proofs.Common.{length, ◌-◌}
-use Rattle.line_write.proofs.Tiling.{Rewriting}
+use Rattle.line_write.proofs.Writing.{Rewriting}
 use Rattle.line_write.proofs.lines.rewrite.Given as goal
 
 abbrev pub invariant-loop-at : goal.invariant-loop-at

@@ -10,11 +10,12 @@ returns-in-Ok-push-clause-bodies c =
     let first = rw c.as_slice.ensures at c.in-Some.ensures in
     let s = line_section file c.requires c.in-Some.section first in
     let means = rw c.body.ensures at c.in-Ok.ensures.means in
-    let shortest = rw c.body.ensures at c.in-Ok.ensures.shortest in
-    let short = rw c.body.ensures at c.in-Ok.ensures.short in
+    let least = rw c.body.ensures at c.in-Ok.ensures.least in
+    let order = rw c.body.ensures at c.in-Ok.ensures.order in
+    let bound = rw c.body.ensures at c.in-Ok.ensures.bound in
     let new : NewBody = record { section = c.in-Some.section; bytes = c.in-Ok.bytes } in
     let items : c.push.new.self.items ≡ new ∷ [] = c.in-Ok-push.ensures.items ∙ ap (λ z. z ++ new ∷ []) c.new-bodies.ensures.items in
-    subst (λ (z : List NewBody). AreNewBodies file z) (sym items) (new_body file c.requires c.in-Some.section s new refl means shortest short)
+    subst (λ (z : List NewBody). AreNewBodies file z) (sym items) (new_body file c.requires c.in-Some.section s new refl means least order bound)
 
 pub returns-in-Ok-push-clause-faultless : goal.returns-in-Ok-push-clause-faultless
 returns-in-Ok-push-clause-faultless c =

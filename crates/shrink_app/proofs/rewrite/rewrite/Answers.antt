@@ -1,5 +1,5 @@
 use Rattle.shrink_app.proofs.Rewrites.{valid_image}
-use Rattle.shrink_app.proofs.Lines.{shrunk_same, shrunk_shortest, shrunk_placed}
+use Rattle.shrink_app.proofs.Lines.{shrunk_same, shrunk_least, shrunk_ordered, shrunk_placed}
 use Rattle.shrink_app.proofs.rewrite.rewrite.Goals as goal
 
 pub returns-clause-valid : goal.returns-clause-valid
@@ -16,11 +16,17 @@ returns-clause-same c =
     let same = rw read.0 at c.in_ok-place.ensures.same in
     shrunk_same c.args.file.now c.in_ok-place.field-0.items c.in-Ok.bodies.items made (same made.names) c.in_ok-place.ensures.bodies
 
-pub returns-clause-shortest : goal.returns-clause-shortest
-returns-clause-shortest c =
+pub returns-clause-least : goal.returns-clause-least
+returns-clause-least c =
     let read = c.in_ok-image.ensures.read in
     let made = rw read.0 at c.in-Ok.ensures.bodies in
-    shrunk_shortest c.args.file.now c.in_ok-place.field-0.items c.in-Ok.bodies.items made c.in_ok-place.ensures.bodies
+    shrunk_least c.args.file.now c.in_ok-place.field-0.items c.in-Ok.bodies.items made c.in_ok-place.ensures.bodies
+
+pub returns-clause-order : goal.returns-clause-order
+returns-clause-order c =
+    let read = c.in_ok-image.ensures.read in
+    let made = rw read.0 at c.in-Ok.ensures.bodies in
+    shrunk_ordered c.args.file.now c.in_ok-place.field-0.items c.in-Ok.bodies.items made c.in_ok-place.ensures.bodies
 
 pub returns-clause-placed : goal.returns-clause-placed
 returns-clause-placed c =

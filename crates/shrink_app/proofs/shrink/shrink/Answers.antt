@@ -1,6 +1,6 @@
 use Rattle.std.proofs.Common.{sym}
 use Rattle.std.proofs.lemmas.Result.{err_from_is_err_and, on_ok_weaker}
-use Rattle.shrink_app.specs.File.{Same, IsShortest, IsPlaced}
+use Rattle.shrink_app.specs.File.{Same, HasLeastLines, HasOrderedLines, IsPlaced}
 use Rattle.shrink_app.proofs.Shrinks.{refusal_named, valid_read, front_written, no_fault}
 use Rattle.shrink_app.proofs.shrink.shrink.Goals as goal
 
@@ -22,12 +22,19 @@ returns-clause-same g c =
     let bytes = g.H.Host.bytes in
     on_ok_weaker c.write_file.result (λ put. front_written Same (bytes c.args.host.now) (bytes c.read_file.new.host) (bytes c.write_file.new.host) c.args.input.now c.args.output.now c.in_ok-file.file.items c.deref-2.result.now c.in_ok-file.ensures.read valid holds (c.read_file.ensures.files c.args.output.now) put) c.write_file.ensures.written
 
-pub returns-clause-shortest : goal.returns-clause-shortest
-returns-clause-shortest g c =
+pub returns-clause-least : goal.returns-clause-least
+returns-clause-least g c =
     let valid = rw c.deref.ensures.value at c.in_ok-written.ensures.valid in
-    let holds = rw (c.deref.ensures.value, sym c.deref-2.ensures.value) at c.in_ok-written.ensures.shortest in
+    let holds = rw (c.deref.ensures.value, sym c.deref-2.ensures.value) at c.in_ok-written.ensures.least in
     let bytes = g.H.Host.bytes in
-    on_ok_weaker c.write_file.result (λ put. front_written IsShortest (bytes c.args.host.now) (bytes c.read_file.new.host) (bytes c.write_file.new.host) c.args.input.now c.args.output.now c.in_ok-file.file.items c.deref-2.result.now c.in_ok-file.ensures.read valid holds (c.read_file.ensures.files c.args.output.now) put) c.write_file.ensures.written
+    on_ok_weaker c.write_file.result (λ put. front_written HasLeastLines (bytes c.args.host.now) (bytes c.read_file.new.host) (bytes c.write_file.new.host) c.args.input.now c.args.output.now c.in_ok-file.file.items c.deref-2.result.now c.in_ok-file.ensures.read valid holds (c.read_file.ensures.files c.args.output.now) put) c.write_file.ensures.written
+
+pub returns-clause-order : goal.returns-clause-order
+returns-clause-order g c =
+    let valid = rw c.deref.ensures.value at c.in_ok-written.ensures.valid in
+    let holds = rw (c.deref.ensures.value, sym c.deref-2.ensures.value) at c.in_ok-written.ensures.order in
+    let bytes = g.H.Host.bytes in
+    on_ok_weaker c.write_file.result (λ put. front_written HasOrderedLines (bytes c.args.host.now) (bytes c.read_file.new.host) (bytes c.write_file.new.host) c.args.input.now c.args.output.now c.in_ok-file.file.items c.deref-2.result.now c.in_ok-file.ensures.read valid holds (c.read_file.ensures.files c.args.output.now) put) c.write_file.ensures.written
 
 pub returns-clause-placed : goal.returns-clause-placed
 returns-clause-placed g c =

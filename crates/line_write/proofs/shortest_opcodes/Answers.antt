@@ -1,5 +1,0 @@
-use Rattle.line_write.proofs.ShortestLaws.{shortest_spell, none_shorter, spelled_have_codes}
-use Rattle.line_write.proofs.shortest_opcodes.Goals as goal
-
-pub returns : goal.returns
-returns c = record { spell = shortest_spell; least = none_shorter; codes = spelled_have_codes }
