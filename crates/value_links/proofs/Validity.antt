@@ -1,0 +1,101 @@
+-- Which fault decides, and that a file that means something is valid.
+use Rattle.std.proofs.Common.{◌≤◌, ◌<◌, inl, inr, ℕ, List, [], ◌∷◌, length, refl, arith}
+use Rattle.std.specs.List.{All, sum_by}
+use Rattle.std.proofs.lemmas.List.Elements.{All-head, All-tail}
+use Rattle.std.proofs.lemmas.List.Sums.{sum_by-cons}
+use Rattle.dw_base.specs.declared.fault.Kind.{Kind}
+use Rattle.dw_base.specs.declared.fault.Kind.TheVariants.{NotElf64, Companion, Limit, Unbuilt}
+use Rattle.dw_base.specs.declared.fault.Reach.{Reach}
+use Rattle.elf_sections.specs.Faults.{file_limit, IsRead}
+use Rattle.elf_sections.proofs.Faultless.{no_fault}
+use Rattle.line_machine.specs.Faults.{row_limit}
+use Rattle.line_write.proofs.Tiling.{AreGiven, lines_whole}
+use Rattle.value_links.specs.Sections.{debug_info, debug_abbrev, debug_line}
+use Rattle.value_links.specs.Reading.{ProgramRead, Reading, line_heads, HasRows}
+use Rattle.value_links.specs.Faults.{FaultOfFile, FaultOfNames, FaultOfPrograms, FaultOfUnits, Pass, order_of, FaultOfPass}
+use Rattle.value_links.specs.Faults.Pass.{OfFile, OfNames, OfPrograms, OfUnits, OfLinks, OfLists}
+use Rattle.value_links.specs.Laws.{IsImageInOrder, AreProgramsInOrder, AreUnitsInOrder, FirstFaultsDecide, MeaningFilesAreValid}
+use Rattle.value_links.proofs.ValidUnits.{info_faultless, tables_faultless}
+use Rattle.value_links.proofs.ValidLinks.{links_whole}
+
+file_faultless : (file : List ℕ) (reach : Reach) → IsRead file reach → (kind : Kind) (place : ℕ) → FaultOfFile file reach kind place → ⊥
+file_faultless file reach read NotElf64 place (here, other) = other read.elf
+file_faultless file reach read Limit place f = elim f [
+  | inl long ↦ let few : length file ≤ file_limit reach = read.small.bytes in let past : file_limit reach < length file = long.1 in absurd (omega arith)
+  | inr other ↦ no_fault file reach read Limit place other.1
+]
+file_faultless file reach read Companion place f = f
+file_faultless file reach read kind place f = no_fault file reach read kind place f.1
+
+names_faultless : (file : List ℕ) (reach : Reach) → IsImageInOrder file reach → (kind : Kind) (place : ℕ) → FaultOfNames file reach kind place → ⊥
+names_faultless file reach order Companion place (elf, f) = no_fault file reach order.image Companion place f
+names_faultless file reach order Unbuilt place (elf, (i, inside, here, lists)) = order.names i inside lists
+names_faultless file reach order kind place f = f
+
+abbrev row_count : ProgramRead → ℕ
+row_count p = length p.rows
+
+given : (section : List ℕ) (programs : List ProgramRead) → All (HasRows section) programs → All (λ (p : ProgramRead). length p.rows ≤ row_limit) programs → AreGiven section (line_heads programs) (sum_by row_count programs)
+given section [] rows few = refl
+given section (p ∷ programs) rows few =
+    (p.rows, sum_by row_count programs, All-head (HasRows section) p programs rows, All-head (λ (q : ProgramRead). length q.rows ≤ row_limit) p programs few, given section programs (All-tail (HasRows section) p programs rows) (All-tail (λ (q : ProgramRead). length q.rows ≤ row_limit) p programs few), sum_by-cons row_count p programs)
+
+programs_faultless : (file : List ℕ) (reach : Reach) (r : Reading) → AreProgramsInOrder file reach r → (kind : Kind) (place : ℕ) → FaultOfPrograms file kind place → ⊥
+programs_faultless file reach r order kind place (inner, here, f) =
+    let programs = order.programs in
+    lines_whole (debug_line file) (line_heads r.programs) (sum_by row_count r.programs) programs.tiled (given (debug_line file) r.programs programs.given order.few.each) order.few.all (kind, inner, f)
+
+units_faultless : (file : List ℕ) (reach : Reach) (r : Reading) → AreUnitsInOrder file reach r → (kind : Kind) (place : ℕ) → FaultOfUnits file kind place → ⊥
+units_faultless file reach r order kind place f =
+    let units = order.units in
+    elim f [
+      | inl entries ↦ info_faultless (debug_info file) (debug_abbrev file) r.units units.tiled units.each units.within kind entries.0 entries.2
+      | inr tables ↦ tables_faultless (debug_info file) (debug_abbrev file) r.units units.tiled units.each units.within order.built kind tables.0 tables.2
+    ]
+
+-- the passes before one have no fault
+abbrev HaveNone : ℕ → List ℕ → Reach → Type 0
+HaveNone n file reach = (pass : Pass) (kind : Kind) (place : ℕ) → order_of pass < n → FaultOfPass pass file reach kind place → ⊥
+
+before_file : (file : List ℕ) (reach : Reach) → HaveNone 1 file reach
+before_file file reach OfFile kind place less f = absurd (omega arith)
+before_file file reach pass kind place less f = absurd (omega arith)
+
+before_names : (file : List ℕ) (reach : Reach) → ((kind : Kind) (place : ℕ) → FaultOfFile file reach kind place → ⊥) → HaveNone 2 file reach
+before_names file reach none OfFile kind place less f = none kind place f
+before_names file reach none pass kind place less f = absurd (omega arith)
+
+before_programs : (file : List ℕ) (reach : Reach) → IsImageInOrder file reach → HaveNone 3 file reach
+before_programs file reach order OfFile kind place less f = file_faultless file reach order.image kind place f
+before_programs file reach order OfNames kind place less f = names_faultless file reach order kind place f
+before_programs file reach order pass kind place less f = absurd (omega arith)
+
+before_units : (file : List ℕ) (reach : Reach) (r : Reading) → AreProgramsInOrder file reach r → HaveNone 4 file reach
+before_units file reach r order OfFile kind place less f = before_programs file reach order.before OfFile kind place (omega arith) f
+before_units file reach r order OfNames kind place less f = before_programs file reach order.before OfNames kind place (omega arith) f
+before_units file reach r order OfPrograms kind place less f = programs_faultless file reach r order kind place f
+before_units file reach r order pass kind place less f = absurd (omega arith)
+
+before_links : (file : List ℕ) (reach : Reach) (r : Reading) → AreUnitsInOrder file reach r → HaveNone 5 file reach
+before_links file reach r order OfFile kind place less f = before_units file reach r order.before OfFile kind place (omega arith) f
+before_links file reach r order OfNames kind place less f = before_units file reach r order.before OfNames kind place (omega arith) f
+before_links file reach r order OfPrograms kind place less f = before_units file reach r order.before OfPrograms kind place (omega arith) f
+before_links file reach r order OfUnits kind place less f = units_faultless file reach r order kind place f
+before_links file reach r order pass kind place less f = absurd (omega arith)
+
+pub first_faults : FirstFaultsDecide
+first_faults = record {
+  file = λ file reach kind place f. record { pass = OfFile; fault = f; first = before_file file reach };
+  names = λ file reach kind place none f. record { pass = OfNames; fault = f; first = before_names file reach none };
+  programs = λ file reach kind place order f. record { pass = OfPrograms; fault = f; first = before_programs file reach order };
+  units = λ file reach r kind place order f. record { pass = OfUnits; fault = f; first = before_units file reach r order };
+  links = λ file reach r kind place order f. record { pass = OfLinks; fault = f; first = before_links file reach r order };
+}
+
+pub valid_meaning : MeaningFilesAreValid
+valid_meaning file reach r debug order read means no_unread OfFile kind place f = file_faultless file reach order.before.before.image kind place f
+valid_meaning file reach r debug order read means no_unread OfNames kind place f = names_faultless file reach order.before.before kind place f
+valid_meaning file reach r debug order read means no_unread OfPrograms kind place f = programs_faultless file reach r order.before kind place f
+valid_meaning file reach r debug order read means no_unread OfUnits kind place f = units_faultless file reach r order kind place f
+valid_meaning file reach r debug order read means no_unread OfLinks kind place f = links_whole file r debug read means no_unread reach kind place f
+valid_meaning file reach r debug order read means no_unread OfLists kind place f = f

@@ -1,0 +1,158 @@
+-- Worked rows of the definitions.
+use Rattle.std.proofs.Common.{◌≡◌, ◌<◌, ◌+◌, ℕ, zero, suc, List, [], ◌∷◌, get_or, ap, refl, inr, arith}
+use Rattle.std.specs.Prelude.{true, false, pos}
+use Rattle.dw_base.specs.declared.fault.Kind.TheVariants.{UnitHead as AHead}
+use Rattle.leb_codec.specs.Leb.{Uleb}
+use Rattle.entry_read.specs.Faults.{FaultHead}
+use Rattle.form_codec.specs.Forms.{number}
+use Rattle.entry_read.specs.Heads.{unit_end, version, HasHead}
+use Rattle.value_links.specs.Values.{HasValueAt}
+use Rattle.form_codec.specs.declared.value.Value.TheVariants.{LocalRef}
+use Rattle.form_codec.specs.Forms.Meaning.{InUnit, Expression}
+use Rattle.entry_arena.specs.declared.entry.ChainEnd.{ChainEnd}
+use Rattle.entry_arena.specs.declared.entry.Target.TheVariants.{Entry as TheEntry, ChainEnd as TheEnd}
+use Rattle.value_links.specs.Attributes.{offset_class}
+use Rattle.value_links.specs.Attributes.OffsetClass.{LinePtr, RngList, LocList, RngListsPtr, LocListsPtr, AddrPtr, StrOffsetsPtr, MacPtr, Views, NoOffset}
+use Rattle.value_links.specs.Reading.{UnitRead, Reading}
+use Rattle.value_links.specs.Resolved.{Resolves}
+use Rattle.value_links.specs.Resolved.Resolved.{Refers}
+use Rattle.value_links.specs.Faults.{IsTargetless, IsUnread}
+
+-- the classes of attributes by their numbers; DW_AT_name has none
+stmt_list_is : offset_class 0x10 ≡ LinePtr
+stmt_list_is = refl
+
+start_scope_is : offset_class 0x2c ≡ RngList
+start_scope_is = refl
+
+frame_base_is : offset_class 0x40 ≡ LocList
+frame_base_is = refl
+
+rnglists_base_is : offset_class 0x74 ≡ RngListsPtr
+rnglists_base_is = refl
+
+loclists_base_is : offset_class 0x8c ≡ LocListsPtr
+loclists_base_is = refl
+
+addr_base_is : offset_class 0x73 ≡ AddrPtr
+addr_base_is = refl
+
+str_offsets_base_is : offset_class 0x72 ≡ StrOffsetsPtr
+str_offsets_base_is = refl
+
+macros_is : offset_class 0x79 ≡ MacPtr
+macros_is = refl
+
+locviews_is : offset_class 0x2137 ≡ Views
+locviews_is = refl
+
+name_is : offset_class 0x03 ≡ NoOffset
+name_is = refl
+
+-- The unit `0f 00 00 00 05 00 01 08 00 00 00 00 01 02 12 00 00 00 00` at 19 after another one: a root whose child has one
+-- reference by DW_FORM_ref4, to the code 0 that ends the children of the root.
+unit : UnitRead
+unit = record {
+  head = record { at = 19; len = 19; kind = 1; table = 0; extra = 0; type_at = 0 };
+  table = record { decls = []; specs = []; end = 0 };
+  forest = record {
+    section = [];
+    entries = record { at = 31; len = 1; depth = 0; decl = 0; first = 0; count = 0 } ∷ record { at = 32; len = 5; depth = 1; decl = 1; first = 0; count = 1 } ∷ [];
+    values = LocalRef 18 ∷ [];
+    ends = record { entry = 0; at = 37 } ∷ [];
+  };
+}
+
+abbrev reading : Reading
+unfolding unit
+reading = record { programs = []; units = unit ∷ unit ∷ []; sets = [] }
+
+-- the end of a chain is a target, which counts from the first byte of the unit
+chain_end_is : Resolves reading 1 1 0x01 (InUnit 18) (Refers 1 (TheEnd 0))
+unfolding unit
+chain_end_is = (TheEnd 0, (0, omega arith, refl), refl)
+
+-- and so is an entry
+entry_is : Resolves reading 1 1 0x49 (InUnit 13) (Refers 1 (TheEntry 1))
+unfolding unit
+entry_is = (TheEntry 1, (omega arith, refl), refl)
+
+differ : (a b : ChainEnd) → a.at ≡ 37 → b.at ≡ 38 → a ≡ b → ⊥
+differ a b x y same = let place : a.at ≡ b.at = ap (λ (e : ChainEnd). e.at) same in absurd (omega arith)
+
+-- one byte further no entry and no code 0 stands: the next unit begins there
+nothing_is : IsTargetless reading 1 (InUnit 19)
+unfolding unit
+nothing_is (TheEntry zero, (inside, here)) = absurd (omega arith)
+nothing_is (TheEntry (suc zero), (inside, here)) = absurd (omega arith)
+nothing_is (TheEntry (suc (suc id)), (inside, here)) = absurd (omega arith)
+nothing_is (TheEnd id, (zero, inside, here)) = absurd (differ (record { entry = 0; at = 37 }) (record { entry = id; at = 38 }) refl refl here)
+nothing_is (TheEnd id, (suc k, inside, here)) = absurd (omega arith)
+
+-- two bytes of expressions: DW_OP_convert isn't read yet, DW_OP_lit0 is kept
+convert_is : IsUnread (Expression (0x30 ∷ 0xa8 ∷ []))
+convert_is = (0xa8, (1, omega arith, refl), (8, omega arith, refl))
+
+-- The same unit at the section's first byte, with its bytes and its table, and 13 in place of 12 in its reference, which so has
+-- no target. Its value stands at 14: the header has 12 bytes, and each code one.
+faulty : UnitRead
+faulty = record {
+  head = record { at = 0; len = 19; kind = 1; table = 0; extra = 0; type_at = 0 };
+  table = record {
+    decls = record { at = 0; code = 1; tag = 17; children = true; first = 0; count = 0 } ∷ record { at = 5; code = 2; tag = 52; children = false; first = 0; count = 1 } ∷ [];
+    specs = record { name = 1; form = 19; constant = pos 0 } ∷ [];
+    end = 13;
+  };
+  forest = record {
+    section = 15 ∷ 0 ∷ 0 ∷ 0 ∷ 5 ∷ 0 ∷ 1 ∷ 8 ∷ 0 ∷ 0 ∷ 0 ∷ 0 ∷ 1 ∷ 2 ∷ 19 ∷ 0 ∷ 0 ∷ 0 ∷ 0 ∷ [];
+    entries = record { at = 12; len = 1; depth = 0; decl = 0; first = 0; count = 0 } ∷ record { at = 13; len = 5; depth = 1; decl = 1; first = 0; count = 1 } ∷ [];
+    values = LocalRef 19 ∷ [];
+    ends = record { entry = 0; at = 18 } ∷ [];
+  };
+}
+
+code_2 : Uleb 2 (2 ∷ [])
+code_2 = ((record { filled = omega arith; byte = small; more = λ k h. absurd (omega arith); last = last }, refl), omega arith)
+  where
+    small : (k : ℕ) → k < 1 → get_or (2 ∷ []) k 0 < 256
+    small zero h = omega arith
+    small (suc k) h = absurd (omega arith)
+
+    last : (k : ℕ) → k + 1 ≡ 1 → get_or (2 ∷ []) k 0 < 128
+    last zero h = omega arith
+    last (suc k) h = absurd (omega arith)
+
+reference_at : HasValueAt faulty 1 0 1 (InUnit 19) 14
+unfolding faulty
+reference_at = record {
+  known = omega arith;
+  earlier_columns = [];
+  column = record { name = 1; form = 19; constant = pos 0 };
+  later_columns = [];
+  columns = refl;
+  earlier = [];
+  value = LocalRef 19;
+  later = [];
+  values = refl;
+  numbered = refl;
+  values_at = 14;
+  coded = record { order = omega arith; inside = omega arith; spelled = code_2 };
+  valued = refl;
+  named = refl;
+  meant = refl;
+}
+
+abbrev of_version_4 : List ℕ
+of_version_4 = 8 ∷ 0 ∷ 0 ∷ 0 ∷ 4 ∷ 0 ∷ 1 ∷ 8 ∷ 0 ∷ 0 ∷ 0 ∷ 0 ∷ []
+
+end_is : unit_end of_version_4 0 ≡ 12
+unfolding number
+end_is = refl
+
+version_is : version of_version_4 0 ≡ 4
+unfolding number
+version_is = refl
+
+-- a header of version 4 is UnitHead at its unit's first byte
+version_4 : FaultHead of_version_4 0 AHead 0
+version_4 = (refl, omega arith, inr (let end : unit_end of_version_4 0 ≡ 12 = end_is in omega arith, λ (h : HasHead of_version_4 0). let five : version of_version_4 0 ≡ 5 = h.of_version in let four : version of_version_4 0 ≡ 4 = version_is in absurd (omega arith)))

@@ -1,0 +1,89 @@
+-- What the debug sections of a file mean: all that a consumer reads of them, by numbers and without places.
+use Rattle.std.specs.Prelude.{◌≡◌, ◌≢◌, ◌<◌, ℕ, List, length, map, Bool, Option, Some, None, slice_index_or}
+use Rattle.std.specs.List.{AllZip}
+use Rattle.line_write.specs.Meaning.{ProgramMeaning, HaveMeanings}
+use Rattle.form_codec.specs.Forms.{Meaning}
+use Rattle.entry_arena.specs.Forests.{Described, described_by}
+use Rattle.entry_read.specs.Heads.{type_unit}
+use Rattle.companions.specs.declared.set.ArangeSet.{ArangeSet}
+use Rattle.value_links.specs.Sections.{debug_line}
+use Rattle.value_links.specs.Reading.{UnitRead, Reading, line_heads, IsReading, declarations, unit_at}
+use Rattle.value_links.specs.Resolved.{Resolved, Resolves, IsTypeEntry}
+
+-- an entry: how many it stands below, its tag, whether it has children, and its attributes, each a name and a value
+-- (DWARF 5 sections 2.1 to 2.3)
+pub record EntryMeaning : Type 0 where
+  pub depth : ℕ
+  pub tag : ℕ
+  pub children : Bool
+  pub attributes : List (ℕ × Resolved)
+
+-- a unit: its type, its signature or dwo_id, the number of the entry of its type, and its entries in preorder (DWARF 5
+-- sections 3.1 and 7.5.1). The second is 0 where the header has neither, and the third None where it isn't a type unit.
+pub record UnitMeaning : Type 0 where
+  pub unit_type : ℕ
+  pub signature : ℕ
+  pub type_entry : Option ℕ
+  pub forest : List EntryMeaning
+
+-- a set of address ranges: the number of the unit that it names (DWARF 5 section 6.1.2)
+pub record SetMeaning : Type 0 where
+  pub unit : ℕ
+
+-- The debug meaning of a file: its line number programs, its units and its sets of address ranges, each in their order. What
+-- further sections mean is a field more.
+pub record Debug : Type 0 where
+  pub programs : List ProgramMeaning
+  pub units : List UnitMeaning
+  pub aranges : List SetMeaning
+
+-- the entries of a unit, with their values as they stand
+abbrev pub described : UnitRead → List Described
+described unit = map (described_by unit.forest.section (declarations unit) unit.forest.values) unit.forest.entries
+
+-- the attribute has its name, and its value is what the one that stands there means
+pub record MeansAttribute (r : Reading) (u id : ℕ) (stands : ℕ × Meaning) (attribute : ℕ × Resolved) : Type 0 where
+  pub name : attribute.0 ≡ stands.0
+  pub value : Resolves r u id stands.0 stands.1 attribute.1
+
+-- the entry is the one that stands there, with its values resolved
+pub record MeansEntry (r : Reading) (u id : ℕ) (stands : Described) (entry : EntryMeaning) : Type 0 where
+  pub depth : entry.depth ≡ stands.depth
+  pub tag : entry.tag ≡ stands.tag
+  pub children : entry.children ≡ stands.children
+  pub attributes : AllZip (MeansAttribute r u id) stands.attributes entry.attributes
+
+-- a type unit has the entry of its type, and no other unit has one
+abbrev pub MeansType : Reading → ℕ → Option ℕ → Type 0
+MeansType r u (Some id) = ((unit_at r u).head.kind ≡ type_unit) × IsTypeEntry r u id
+MeansType r u None = (unit_at r u).head.kind ≢ type_unit
+
+-- there are as many entries, and each means the one with its number
+pub record MeanEntries (r : Reading) (u : ℕ) (entries : List EntryMeaning) : Type 0 where
+  pub count : length entries ≡ length (described (unit_at r u))
+  pub each : (id : ℕ) (d : Described) (e : EntryMeaning) → id < length entries → MeansEntry r u id (slice_index_or (described (unit_at r u)) id d) (slice_index_or entries id e)
+
+-- the unit with a number means this
+pub record MeansUnit (r : Reading) (u : ℕ) (unit : UnitMeaning) : Type 0 where
+  pub unit_type : unit.unit_type ≡ (unit_at r u).head.kind
+  pub signature : unit.signature ≡ (unit_at r u).head.extra
+  pub type_entry : MeansType r u unit.type_entry
+  pub forest : MeanEntries r u unit.forest
+
+-- there are as many units, and each means the one with its number
+pub record MeanUnits (r : Reading) (units : List UnitMeaning) : Type 0 where
+  pub count : length units ≡ length r.units
+  pub each : (u : ℕ) (d : UnitMeaning) → u < length units → MeansUnit r u (slice_index_or units u d)
+
+abbrev pub set_meaning : ArangeSet → SetMeaning
+set_meaning set = record { unit = set.unit }
+
+-- what is read means this
+pub record MeansDebug (file : List ℕ) (r : Reading) (debug : Debug) : Type 0 where
+  pub programs : HaveMeanings (debug_line file) (line_heads r.programs) debug.programs
+  pub units : MeanUnits r debug.units
+  pub aranges : debug.aranges ≡ map set_meaning r.sets
+
+-- the file means this
+abbrev pub Means : List ℕ → Debug → Type 0
+Means file debug = (r : Reading) × IsReading file r × MeansDebug file r debug

@@ -1,0 +1,271 @@
+-- The faults of a file, as conditions on its bytes, in the order in which they decide: passes over the file, of which the
+-- first that has a fault refuses it. The place of a fault is an offset in the file.
+use Rattle.std.specs.Prelude.{◌≡◌, ◌≤◌, ◌<◌, ◌+◌, ◌^◌, ◌⊎◌, ℕ, List, [], ◌∷◌, ◌++◌, length, drop, map, Bool, ◌||◌, bytes_eq}
+use Rattle.std.specs.List.{All, Contains}
+use Rattle.dw_base.specs.declared.fault.Kind.{Kind}
+use Rattle.dw_base.specs.declared.fault.Kind.TheVariants.{NotElf64, Companion, Limit, Target as NoTarget, Pointer, NoBase, Unbuilt}
+use Rattle.dw_base.specs.declared.fault.Reach.{Reach}
+use Rattle.dw_base.specs.declared.fault.Refusal.{Refusal}
+use Rattle.dw_base.specs.declared.fault.Refusal.TheVariants.{Refused, NoMemory}
+use Rattle.elf_sections.specs.Elf.{IsElf64}
+use Rattle.elf_sections.specs.Names.{name_of}
+use Rattle.elf_sections.specs.Faults.{file_limit, ImageFault, SomeSection}
+use Rattle.line_write.specs.Faults.{LinesFault}
+use Rattle.spelled.specs.Spelled.{StandsAt}
+use Rattle.form_codec.specs.declared.form.Form.TheVariants.{Ref1, Ref2}
+use Rattle.form_codec.specs.Forms.{Meaning, code_of}
+use Rattle.form_codec.specs.Forms.Meaning.{InUnit, InSection, SectionPlace, LocationList, RangeList, Expression}
+use Rattle.abbrev_tables.specs.declared.decl.Spec.{Spec}
+use Rattle.abbrev_tables.specs.Tables.{Declared, SpellsDeclared}
+use Rattle.abbrev_tables.specs.Listings.{Listing, IsTableAt}
+use Rattle.abbrev_tables.specs.Faults.{FaultTable}
+use Rattle.entry_arena.specs.declared.entry.Target.{Target}
+use Rattle.entry_read.specs.declared.head.UnitHead.{UnitHead}
+use Rattle.entry_read.specs.declared.unit.Counts.{Counts}
+use Rattle.entry_read.specs.Heads.{type_unit, Follow, Tile}
+use Rattle.entry_read.specs.Units.{declarations_of}
+use Rattle.entry_read.specs.Faults.{FaultHeads, FaultUnit}
+use Rattle.companions.specs.Faults.{FaultSets}
+use Rattle.value_links.specs.Sections.{offset_named, debug_info, debug_abbrev, debug_line, debug_aranges, info_name, abbrev_name, line_name, aranges_name, rnglists_name, loclists_name}
+use Rattle.value_links.specs.Attributes.{OffsetClass, offset_class, rnglists_base, loclists_base}
+use Rattle.value_links.specs.Attributes.OffsetClass.{LinePtr, RngList, LocList, RngListsPtr, LocListsPtr, AddrPtr, StrOffsetsPtr, MacPtr, Views, NoOffset}
+use Rattle.value_links.specs.Reading.{UnitRead, Reading, unit_heads, unit_at, counts_of, AreWithin, IsUnitRead, IsReadToLinks}
+use Rattle.value_links.specs.Resolved.{IsLocalTarget, IsSectionTarget, IsTypeEntry, IsProgramAt}
+use Rattle.value_links.specs.Values.{HasValueAt, GivesBase}
+
+-- a fault of a section, which counts from the section's first byte, stands at a place of the file
+abbrev pub FaultIn : List ℕ → List ℕ → (Kind → ℕ → Type 0) → Kind → ℕ → Type 0
+FaultIn file name FaultOf kind place = (inner : ℕ) × (place ≡ offset_named file name + inner) × FaultOf kind inner
+
+-- FIRST PASS: the ELF header, its tables, and the sections that these tell
+
+-- A file past its limit of bytes has that fault whatever its first bytes hold. All else is said of ELF-64 files.
+abbrev pub FaultOfFile : List ℕ → Reach → Kind → ℕ → Type 0
+FaultOfFile file reach NotElf64 place = (place ≡ 0) × (¬ IsElf64 file)
+FaultOfFile file reach Limit place = ((place ≡ 0) × (file_limit reach < length file)) ⊎ (IsElf64 file × ImageFault file reach Limit place)
+FaultOfFile file reach Companion place = ⊥
+FaultOfFile file reach kind place = IsElf64 file × ImageFault file reach kind place
+
+-- SECOND PASS: the names of sections
+
+-- a section of range lists or of location lists; neither is rewritten yet
+abbrev pub is_list_section : List ℕ → ℕ → Bool
+is_list_section file i = bytes_eq (name_of file i) rnglists_name || bytes_eq (name_of file i) loclists_name
+
+-- A section goes with debug sections and isn't known, or isn't rewritten yet.
+abbrev pub FaultOfNames : List ℕ → Reach → Kind → ℕ → Type 0
+FaultOfNames file reach Companion place = IsElf64 file × ImageFault file reach Companion place
+FaultOfNames file reach Unbuilt place = IsElf64 file × SomeSection file (is_list_section file) place
+FaultOfNames file reach kind place = ⊥
+
+-- THIRD PASS: line number programs (DWARF 5 section 6.2)
+
+abbrev pub FaultOfPrograms : List ℕ → Kind → ℕ → Type 0
+FaultOfPrograms file kind place = FaultIn file line_name (LinesFault (debug_line file)) kind place
+
+-- FOURTH PASS: headers of units, abbreviation tables, and entries (DWARF 5 section 7.5)
+
+-- the head is that of a unit, which stands after units that are the front of .debug_info
+abbrev pub IsUnitOf : List ℕ → UnitHead → Type 0
+IsUnitOf info head = (before : List UnitHead) × (end : ℕ) × Follow info (before ++ head ∷ []) 0 end
+
+-- A unit's debug_abbrev_offset names no place in .debug_abbrev. It is said of the unit's first byte.
+abbrev pub FaultOffset : List ℕ → List ℕ → Kind → ℕ → Type 0
+FaultOffset info abbrevs Pointer place = (head : UnitHead) × IsUnitOf info head × (length abbrevs ≤ head.table) × (place ≡ head.at)
+FaultOffset info abbrevs kind place = ⊥
+
+-- a unit names the abbreviation table at a place
+abbrev pub IsTablePlace : List ℕ → List ℕ → ℕ → Type 0
+IsTablePlace info abbrevs at = (head : UnitHead) × IsUnitOf info head × (head.table ≡ at) × (at < length abbrevs)
+
+-- the code of a declaration is above 2 ^ 32 - 1
+abbrev pub HasWideCode : Declared → Type 0
+HasWideCode d = 2 ^ 32 ≤ d.code
+
+-- a column of it has the form DW_FORM_ref1 or DW_FORM_ref2
+abbrev pub HasShortReference : Declared → Type 0
+HasShortReference d = (column : Spec) × Contains d.columns column × ((column.form ≡ code_of Ref1) ⊎ (column.form ≡ code_of Ref2))
+
+-- A declaration stands at a place of a table, and can't be written yet.
+pub record IsUnbuiltDeclaration (rest : List ℕ) (at : ℕ) : Type 0 where
+  pub before : List Declared
+  pub d : Declared
+  pub stands : StandsAt SpellsDeclared rest before d at
+  pub unbuilt : HasWideCode d ⊎ HasShortReference d
+
+-- the faults of the bytes from a table's first byte on
+abbrev pub FaultRest : List ℕ → Kind → ℕ → Type 0
+FaultRest rest Unbuilt at = IsUnbuiltDeclaration rest at
+FaultRest rest kind at = FaultTable kind at rest
+
+-- A table that a unit names has a fault.
+abbrev pub FaultTables : List ℕ → List ℕ → Kind → ℕ → Type 0
+FaultTables info abbrevs kind place = (at : ℕ) × (inner : ℕ) × IsTablePlace info abbrevs at × (place ≡ at + inner) × FaultRest (drop at abbrevs) kind inner
+
+-- A unit has a fault in its entries, by the declarations of its table, and with so many entries and values before it.
+pub record FaultEntries (info abbrevs : List ℕ) (before : Counts) (head : UnitHead) (kind : Kind) (place : ℕ) : Type 0 where
+  pub table : Listing
+  pub stands : IsTableAt abbrevs head.table table
+  pub fault : FaultUnit info head (declarations_of table) before kind place
+
+-- The units before an entry keep the limits of all entries and all values, and with the entry a limit is passed.
+pub record PassesUnitTotal (info abbrevs : List ℕ) (place : ℕ) : Type 0 where
+  pub before : List UnitRead
+  pub head : UnitHead
+  pub end : ℕ
+  pub front : Follow info (unit_heads before ++ head ∷ []) 0 end
+  pub each : All (IsUnitRead info abbrevs) before
+  pub within : AreWithin before
+  pub passes : FaultEntries info abbrevs (counts_of before) head Limit place
+
+-- Some unit has a fault in its entries. Only a limit asks how many entries and values stand before it.
+abbrev pub FaultUnits : List ℕ → List ℕ → Kind → ℕ → Type 0
+FaultUnits info abbrevs Limit place = PassesUnitTotal info abbrevs place
+FaultUnits info abbrevs kind place = (head : UnitHead) × (before : Counts) × IsUnitOf info head × FaultEntries info abbrevs before head kind place
+
+-- a fault of .debug_info
+abbrev pub InfoFault : List ℕ → List ℕ → Kind → ℕ → Type 0
+InfoFault info abbrevs kind place = FaultHeads info kind place ⊎ (FaultOffset info abbrevs kind place ⊎ FaultUnits info abbrevs kind place)
+
+abbrev pub FaultOfUnits : List ℕ → Kind → ℕ → Type 0
+FaultOfUnits file kind place =
+    FaultIn file info_name (InfoFault (debug_info file) (debug_abbrev file)) kind place
+    ⊎ FaultIn file abbrev_name (FaultTables (debug_info file) (debug_abbrev file)) kind place
+
+-- FIFTH PASS: what values refer to (DWARF 5 section 7.5.5), expressions, and sets of address ranges
+
+-- a reference that no entry and no end of a chain is the target of
+abbrev pub IsTargetless : Reading → ℕ → Meaning → Type 0
+IsTargetless r u (InUnit n) = ¬ ((target : Target) × IsLocalTarget r u n target)
+IsTargetless r u (InSection n) = ¬ ((unit : ℕ) × (target : Target) × IsSectionTarget r n unit target)
+IsTargetless r u meaning = ⊥
+
+-- A section offset names nothing that its class allows: no line number program; no list, no view numbers and no offsets of
+-- lists, since no section has them yet; or its attribute has no class. The offsets that are kept as numbers name nothing
+-- that is looked up.
+abbrev pub NamesNothing : Reading → ℕ → ℕ → OffsetClass → ℕ → Type 0
+NamesNothing r u id LinePtr n = ¬ ((p : ℕ) × IsProgramAt r n p)
+NamesNothing r u id RngList n = Unit {0}
+NamesNothing r u id LocList n = Unit {0}
+NamesNothing r u id RngListsPtr n = Unit {0}
+NamesNothing r u id LocListsPtr n = Unit {0}
+NamesNothing r u id AddrPtr n = ⊥
+NamesNothing r u id StrOffsetsPtr n = ⊥
+NamesNothing r u id MacPtr n = ⊥
+NamesNothing r u id Views n = Unit {0}
+NamesNothing r u id NoOffset n = Unit {0}
+
+-- A section offset names nothing, or an index counts the lists of a base that names nothing.
+abbrev pub IsDangling : Reading → ℕ → ℕ → ℕ → Meaning → Type 0
+IsDangling r u id name (SectionPlace n) = NamesNothing r u id (offset_class name) n
+IsDangling r u id name (LocationList i) = GivesBase (unit_at r u) loclists_base
+IsDangling r u id name (RangeList i) = GivesBase (unit_at r u) rnglists_base
+IsDangling r u id name meaning = ⊥
+
+-- an index needs a base that the root doesn't give
+abbrev pub IsBaseless : Reading → ℕ → Meaning → Type 0
+IsBaseless r u (LocationList i) = ¬ GivesBase (unit_at r u) loclists_base
+IsBaseless r u (RangeList i) = ¬ GivesBase (unit_at r u) rnglists_base
+IsBaseless r u meaning = ⊥
+
+-- The opcodes of the operations that name an entry: DW_OP_call2, DW_OP_call4, DW_OP_call_ref, DW_OP_implicit_pointer,
+-- DW_OP_const_type, DW_OP_regval_type, DW_OP_deref_type, DW_OP_xderef_type, DW_OP_convert, DW_OP_reinterpret (DWARF 5
+-- section 7.7.1), DW_OP_GNU_parameter_ref and DW_OP_GNU_variable_value. Operations aren't read yet. So an expression in
+-- which one of these bytes stands anywhere, be it an operand, isn't rewritten.
+abbrev pub unread_opcodes : List ℕ
+unread_opcodes = 0x98 ∷ 0x99 ∷ 0x9a ∷ 0xa0 ∷ 0xa4 ∷ 0xa5 ∷ 0xa6 ∷ 0xa7 ∷ 0xa8 ∷ 0xa9 ∷ 0xfa ∷ 0xfd ∷ []
+
+-- an expression has one of these bytes
+abbrev pub IsUnread : Meaning → Type 0
+IsUnread (Expression bytes) = (byte : ℕ) × Contains bytes byte × Contains unread_opcodes byte
+IsUnread meaning = ⊥
+
+-- the fault of the value of an attribute with a name, in an entry `id` of the unit `u`, both by their numbers
+abbrev pub FaultValue : Reading → ℕ → ℕ → ℕ → Meaning → Kind → Type 0
+FaultValue r u id name meaning NoTarget = IsTargetless r u meaning
+FaultValue r u id name meaning Pointer = IsDangling r u id name meaning
+FaultValue r u id name meaning NoBase = IsBaseless r u meaning
+FaultValue r u id name meaning Unbuilt = IsUnread meaning
+FaultValue r u id name meaning kind = ⊥
+
+-- A value of the unit with a number has a fault. The place is the value's first byte.
+pub record FaultAttribute (r : Reading) (u : ℕ) (kind : Kind) (place : ℕ) : Type 0 where
+  pub id : ℕ
+  pub number : ℕ
+  pub name : ℕ
+  pub meaning : Meaning
+  pub stands : HasValueAt (unit_at r u) id number name meaning place
+  pub fault : FaultValue r u id name meaning kind
+
+-- the field type_offset of a type unit, after the 12 bytes that all headers have and the 8 of the signature (DWARF 5 section
+-- 7.5.1.3)
+abbrev pub type_offset_at : UnitHead → ℕ
+type_offset_at head = head.at + 20
+
+-- The type_offset of a type unit names no entry of the unit. The place is that of the field.
+abbrev pub FaultType : Reading → ℕ → Kind → ℕ → Type 0
+FaultType r u NoTarget place = ((unit_at r u).head.kind ≡ type_unit) × (¬ ((id : ℕ) × IsTypeEntry r u id)) × (place ≡ type_offset_at (unit_at r u).head)
+FaultType r u kind place = ⊥
+
+-- Something in a unit refers to what isn't there, or isn't read yet.
+pub record FaultLinks (file : List ℕ) (reach : Reach) (kind : Kind) (place : ℕ) : Type 0 where
+  pub r : Reading
+  pub read : IsReadToLinks file r
+  pub u : ℕ
+  pub inside : u < length r.units
+  pub fault : FaultAttribute r u kind place ⊎ FaultType r u kind place
+
+-- A set of address ranges has a fault, where the units of .debug_info are known.
+abbrev pub FaultAranges : List ℕ → Kind → ℕ → Type 0
+FaultAranges file kind place = (heads : List UnitHead) × Tile (debug_info file) heads × FaultSets (debug_aranges file) (map (λ (head : UnitHead). head.at) heads) kind place
+
+abbrev pub FaultOfLinks : List ℕ → Reach → Kind → ℕ → Type 0
+FaultOfLinks file reach kind place = FaultIn file info_name (FaultLinks file reach) kind place ⊎ FaultIn file aranges_name (FaultAranges file) kind place
+
+-- THE PASSES
+
+-- the passes by what they look at, in their order
+pub data Pass : Type 0 where
+  OfFile : Pass
+  OfNames : Pass
+  OfPrograms : Pass
+  OfUnits : Pass
+  OfLinks : Pass
+  OfLists : Pass
+
+abbrev pub order_of : Pass → ℕ
+order_of OfFile = 1
+order_of OfNames = 2
+order_of OfPrograms = 3
+order_of OfUnits = 4
+order_of OfLinks = 5
+order_of OfLists = 6
+
+-- A pass has a fault of a kind at a place. No section has lists yet.
+abbrev pub FaultOfPass : Pass → List ℕ → Reach → Kind → ℕ → Type 0
+FaultOfPass OfFile file reach kind place = FaultOfFile file reach kind place
+FaultOfPass OfNames file reach kind place = FaultOfNames file reach kind place
+FaultOfPass OfPrograms file reach kind place = FaultOfPrograms file kind place
+FaultOfPass OfUnits file reach kind place = FaultOfUnits file kind place
+FaultOfPass OfLinks file reach kind place = FaultOfLinks file reach kind place
+FaultOfPass OfLists file reach kind place = ⊥
+
+-- no pass before this one has a fault
+abbrev pub IsFirst : Pass → List ℕ → Reach → Type 0
+IsFirst pass file reach = (earlier : Pass) (kind : Kind) (place : ℕ) → order_of earlier < order_of pass → FaultOfPass earlier file reach kind place → ⊥
+
+-- The file is faulty: a fault of this kind stands at this place, in the first pass that has any. Of several faults in that
+-- pass each may be named.
+pub record Faulty (file : List ℕ) (reach : Reach) (kind : Kind) (place : ℕ) : Type 0 where
+  pub pass : Pass
+  pub fault : FaultOfPass pass file reach kind place
+  pub first : IsFirst pass file reach
+
+-- no pass has a fault
+abbrev pub IsValid : List ℕ → Reach → Type 0
+IsValid file reach = (pass : Pass) (kind : Kind) (place : ℕ) → FaultOfPass pass file reach kind place → ⊥
+
+-- a refusal names a fault of the file, or memory was wanting
+abbrev pub NamesFault : List ℕ → Reach → Refusal → Type 0
+NamesFault file reach (Refused fault) = Faulty file reach fault.kind fault.place
+NamesFault file reach NoMemory = Unit {0}

@@ -1,0 +1,94 @@
+-- Laws of readings, meanings and faults.
+use Rattle.std.specs.Prelude.{◌≡◌, ◌≢◌, ◌≤◌, ◌<◌, ◌⊎◌, ℕ, List, length, true}
+use Rattle.std.specs.List.{All, sum_by}
+use Rattle.dw_base.specs.declared.fault.Kind.{Kind}
+use Rattle.dw_base.specs.declared.fault.Kind.TheVariants.{Unbuilt}
+use Rattle.dw_base.specs.declared.fault.Reach.{Reach}
+use Rattle.elf_sections.specs.Elf.{section_count}
+use Rattle.elf_sections.specs.Faults.{IsRead}
+use Rattle.line_machine.specs.Faults.{row_limit}
+use Rattle.line_write.specs.Faults.{total_limit}
+use Rattle.form_codec.specs.Forms.{Meaning}
+use Rattle.abbrev_tables.specs.Tables.{Declared}
+use Rattle.value_links.specs.Reading.{ProgramRead, UnitRead, Reading, declarations, unit_at, AreProgramsOf, AreUnitsOf, IsReadToLinks, IsReading}
+use Rattle.value_links.specs.Values.{HasValueAt}
+use Rattle.value_links.specs.Resolved.{Resolved, Resolves}
+use Rattle.value_links.specs.Debug.{Debug, MeansDebug, Means}
+use Rattle.value_links.specs.Faults.{is_list_section, HasWideCode, HasShortReference, FaultValue, FaultOfFile, FaultOfNames, FaultOfPrograms, FaultOfUnits, FaultOfLinks, Faulty, IsValid}
+
+-- A file is read in one way.
+abbrev pub OneReading : Type 0
+OneReading = (file : List ℕ) (r s : Reading) → IsReading file r → IsReading file s → r ≡ s
+
+-- The value of an attribute means one thing.
+abbrev pub OneMeaning : Type 0
+OneMeaning =
+    (file : List ℕ) (r : Reading) (u id name : ℕ) (meaning : Meaning) (v w : Resolved) → IsReadToLinks file r → u < length r.units → Resolves r u id name meaning v → Resolves r u id name meaning w → v ≡ w
+
+-- A file means one thing.
+abbrev pub OneDebug : Type 0
+OneDebug = (file : List ℕ) (a b : Debug) → Means file a → Means file b → a ≡ b
+
+-- Never both: what means something has no fault but that it can't be written yet.
+abbrev pub ResolvedHaveNoFault : Type 0
+ResolvedHaveNoFault =
+    (r : Reading) (u id name : ℕ) (meaning : Meaning) (v : Resolved) (kind : Kind) → kind ≢ Unbuilt → Resolves r u id name meaning v → FaultValue r u id name meaning kind → ⊥
+
+-- What means nothing has a fault.
+abbrev pub ResolvedOrFaulty : Type 0
+ResolvedOrFaulty =
+    (r : Reading) (u id name : ℕ) (meaning : Meaning) → ((v : Resolved) × Resolves r u id name meaning v) ⊎ ((kind : Kind) × FaultValue r u id name meaning kind)
+
+-- A valid file that is read means something.
+abbrev pub ValidFilesMean : Type 0
+ValidFilesMean = (file : List ℕ) (reach : Reach) (r : Reading) → IsReading file r → IsValid file reach → (debug : Debug) × MeansDebug file r debug
+
+-- no section has lists
+abbrev pub HasNoLists : List ℕ → Type 0
+HasNoLists file = (i : ℕ) → i < section_count file → is_list_section file i ≢ true
+
+-- the rows of programs keep the limits of one program and of all
+pub record HaveFewRows (programs : List ProgramRead) : Type 0 where
+  pub each : All (λ (p : ProgramRead). length p.rows ≤ row_limit) programs
+  pub all : sum_by (λ (p : ProgramRead). length p.rows) programs ≤ total_limit
+
+-- a declaration that can be written
+pub record IsBuilt (d : Declared) : Type 0 where
+  pub code : ¬ HasWideCode d
+  pub columns : ¬ HasShortReference d
+
+-- all declarations that units name can be written
+abbrev pub AreBuilt : List UnitRead → Type 0
+AreBuilt units = All (λ (u : UnitRead). All IsBuilt (declarations u)) units
+
+-- no value of what is read waits for a later version of this program
+abbrev pub HasNoUnread : Reading → Type 0
+HasNoUnread r = (u id number name : ℕ) (meaning : Meaning) (place : ℕ) → u < length r.units → HasValueAt (unit_at r u) id number name meaning place → FaultValue r u id name meaning Unbuilt → ⊥
+
+-- the first two passes find the image of a file in order, the third its programs too, and the fourth its units
+pub record IsImageInOrder (file : List ℕ) (reach : Reach) : Type 0 where
+  pub image : IsRead file reach
+  pub names : HasNoLists file
+
+pub record AreProgramsInOrder (file : List ℕ) (reach : Reach) (r : Reading) : Type 0 where
+  pub before : IsImageInOrder file reach
+  pub programs : AreProgramsOf file r.programs
+  pub few : HaveFewRows r.programs
+
+pub record AreUnitsInOrder (file : List ℕ) (reach : Reach) (r : Reading) : Type 0 where
+  pub before : AreProgramsInOrder file reach r
+  pub units : AreUnitsOf file r.units
+  pub built : AreBuilt r.units
+
+-- A fault of a pass is one of the file, where the passes before it find all in order.
+pub record FirstFaultsDecide : Type 0 where
+  pub file : (file : List ℕ) (reach : Reach) (kind : Kind) (place : ℕ) → FaultOfFile file reach kind place → Faulty file reach kind place
+  pub names : (file : List ℕ) (reach : Reach) (kind : Kind) (place : ℕ) → ((k : Kind) (p : ℕ) → FaultOfFile file reach k p → ⊥) → FaultOfNames file reach kind place → Faulty file reach kind place
+  pub programs : (file : List ℕ) (reach : Reach) (kind : Kind) (place : ℕ) → IsImageInOrder file reach → FaultOfPrograms file kind place → Faulty file reach kind place
+  pub units : (file : List ℕ) (reach : Reach) (r : Reading) (kind : Kind) (place : ℕ) → AreProgramsInOrder file reach r → FaultOfUnits file kind place → Faulty file reach kind place
+  pub links : (file : List ℕ) (reach : Reach) (r : Reading) (kind : Kind) (place : ℕ) → AreUnitsInOrder file reach r → FaultOfLinks file reach kind place → Faulty file reach kind place
+
+-- A file of which all is read, that means something and waits for nothing is valid.
+abbrev pub MeaningFilesAreValid : Type 0
+MeaningFilesAreValid =
+    (file : List ℕ) (reach : Reach) (r : Reading) (debug : Debug) → AreUnitsInOrder file reach r → IsReading file r → MeansDebug file r debug → HasNoUnread r → IsValid file reach

@@ -1,0 +1,10 @@
+pub mod Sections
+pub mod Attributes
+pub mod Reading
+pub mod Values
+pub mod Resolved
+pub mod Debug
+pub mod Faults
+pub mod Same
+pub mod World
+pub mod Laws

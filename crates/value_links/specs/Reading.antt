@@ -1,0 +1,121 @@
+-- What is read of the debug sections of a file. Places count from the first byte of the section in which they stand.
+use Rattle.std.specs.Prelude.{◌≡◌, ◌<◌, ℕ, List, [], length, map, slice_index_or, false, pos}
+use Rattle.std.specs.List.{All, sum_by}
+use Rattle.line_machine.specs.declared.head.Head.{Head}
+use Rattle.line_machine.specs.declared.registers.Row.{Row}
+use Rattle.line_machine.specs.Heads.{program_of}
+use Rattle.line_machine.specs.Rows.{GivesRows}
+use Rattle.line_write.specs.Programs.{Tile as ProgramsTile}
+use Rattle.abbrev_tables.specs.Tables.{Declared}
+use Rattle.abbrev_tables.specs.Listings.{Listing, IsTableAt}
+use Rattle.entry_arena.specs.Arena.{Arena, nothing_of}
+use Rattle.entry_read.specs.declared.head.UnitHead.{UnitHead}
+use Rattle.entry_read.specs.declared.unit.Counts.{Counts}
+use Rattle.entry_read.specs.Heads.{Tile as UnitsTile}
+use Rattle.entry_read.specs.Units.{declarations_of, IsUnitHeld, IsWithin}
+use Rattle.companions.specs.declared.set.ArangeSet.{ArangeSet}
+use Rattle.companions.specs.Aranges.{SetsTile}
+use Rattle.value_links.specs.Sections.{debug_info, debug_abbrev, debug_line, debug_aranges}
+
+-- a line number program: its header and its rows
+pub record ProgramRead : Type 0 where
+  pub head : Head
+  pub rows : List Row
+
+-- a unit: its header, the abbreviation table that the header names, and its entries
+pub record UnitRead : Type 0 where
+  pub head : UnitHead
+  pub table : Listing
+  pub forest : Arena
+
+-- Line number programs, units, and sets of address ranges, each in the order in which they stand. What is read of further
+-- sections is a field more, and so is the length of a section into which attributes only point.
+pub record Reading : Type 0 where
+  pub programs : List ProgramRead
+  pub units : List UnitRead
+  pub sets : List ArangeSet
+
+-- LINE NUMBER PROGRAMS
+
+abbrev pub line_heads : List ProgramRead → List Head
+line_heads programs = map (λ (p : ProgramRead). p.head) programs
+
+-- the program's opcodes give its rows (DWARF 5 section 6.2)
+abbrev pub HasRows : List ℕ → ProgramRead → Type 0
+HasRows section p = GivesRows p.head (program_of section p.head) p.rows
+
+-- the programs are all of .debug_line, one after the other
+pub record AreProgramsOf (file : List ℕ) (programs : List ProgramRead) : Type 0 where
+  pub tiled : ProgramsTile (debug_line file) (line_heads programs)
+  pub given : All (HasRows (debug_line file)) programs
+
+-- the program with a number; past the end there is none, and an empty one stands for it
+abbrev pub no_program : ProgramRead
+no_program = record {
+  head = record { at = 0; len = 0; min = 0; stmt = false; base = pos 0; range = 0; opcode_base = 0; tables = record { at = 0; len = 0 }; program = record { at = 0; len = 0 } };
+  rows = [];
+}
+
+abbrev pub program_at : Reading → ℕ → ProgramRead
+program_at r p = slice_index_or r.programs p no_program
+
+-- UNITS
+
+abbrev pub unit_heads : List UnitRead → List UnitHead
+unit_heads units = map (λ (u : UnitRead). u.head) units
+
+-- where the units begin
+abbrev pub unit_starts : List UnitRead → List ℕ
+unit_starts units = map (λ (u : UnitRead). u.head.at) units
+
+-- how many entries and values units have together
+abbrev pub counts_of : List UnitRead → Counts
+counts_of units = record {
+  entries = sum_by (λ (u : UnitRead). length u.forest.entries) units;
+  values = sum_by (λ (u : UnitRead). length u.forest.values) units;
+}
+
+-- they keep the limits
+abbrev pub AreWithin : List UnitRead → Type 0
+AreWithin units = IsWithin (counts_of []) (counts_of units).entries (counts_of units).values
+
+-- the declarations that the unit's entries name by their codes
+abbrev pub declarations : UnitRead → List Declared
+declarations u = declarations_of u.table
+
+-- The header names a place in .debug_abbrev where the table stands (DWARF 5 section 7.5.3), and the entries are the
+-- unit's, by the declarations of the table.
+pub record IsUnitRead (info abbrevs : List ℕ) (u : UnitRead) : Type 0 where
+  pub named : u.head.table < length abbrevs
+  pub table : IsTableAt abbrevs u.head.table u.table
+  pub section : u.forest.section ≡ info
+  pub entries : IsUnitHeld info u.head (declarations u) u.forest
+
+-- the units are all of .debug_info, one after the other, and keep the limits
+pub record AreUnitsOf (file : List ℕ) (units : List UnitRead) : Type 0 where
+  pub tiled : UnitsTile (debug_info file) (unit_heads units)
+  pub each : All (IsUnitRead (debug_info file) (debug_abbrev file)) units
+  pub within : AreWithin units
+
+-- the unit with a number; past the end there is none, and an empty one stands for it
+abbrev pub no_unit : UnitRead
+no_unit = record {
+  head = record { at = 0; len = 0; kind = 0; table = 0; extra = 0; type_at = 0 };
+  table = record { decls = []; specs = []; end = 0 };
+  forest = nothing_of [];
+}
+
+abbrev pub unit_at : Reading → ℕ → UnitRead
+unit_at r u = slice_index_or r.units u no_unit
+
+-- THE FILE
+
+-- all is read that attributes refer to
+pub record IsReadToLinks (file : List ℕ) (r : Reading) : Type 0 where
+  pub programs : AreProgramsOf file r.programs
+  pub units : AreUnitsOf file r.units
+
+-- all is read: also the sets of .debug_aranges, each of which names a unit by where it begins
+pub record IsReading (file : List ℕ) (r : Reading) : Type 0 where
+  pub parts : IsReadToLinks file r
+  pub sets : SetsTile (debug_aranges file) (unit_starts r.units) r.sets
