@@ -123,8 +123,10 @@ def shown(path):
         for tool, option in (("readelf", "--debug-dump=decodedline"), ("llvm-dwarfdump", "--debug-line"))
         if shutil.which(tool)
     ]
-    # Offsets in the section, the lengths of units and the file's own name are not part of the tables.
-    cut = re.compile(r"total_length: .*|^debug_line\[.*|offset 0x[0-9a-f]+|0x[0-9a-f]{8}: |^.*file format.*$", re.M)
+    # Offsets in the section, lengths, the fields by which opcodes are chosen and the file's own name are not part of the
+    # tables.
+    chosen = "total_length|prologue_length|line_base|line_range|opcode_base|standard_opcode_lengths"
+    cut = re.compile(rf"^ *(?:{chosen}).*\n|^debug_line\[.*|offset 0x[0-9a-f]+|0x[0-9a-f]{{8}}: |^.*file format.*$", re.M)
     tables = [cut.sub("", text.replace(path, "FILE")) for text in texts]
     assert all(len(table.splitlines()) > 20 for table in tables), "no line tables are shown"
     return tables

@@ -3,6 +3,7 @@
 
   bench/make_lines.py FILE [--megabytes N] [--padded] [--wide]
   bench/make_lines.py --elf FILE ..                        the same as the one debug section of an ELF-64 file
+  bench/make_lines.py FILE --programs N [--bytes N]        so many programs of about so many bytes, each drawn anew
 
 --padded: one operand in eight has a byte of padding. --wide: each row has a file and a discriminator of its own, so
 that 200 megabytes have fewer rows than the limit of 2^25; without it 100 megabytes do.
@@ -101,13 +102,18 @@ def main():
     parser = argparse.ArgumentParser(description=__doc__, formatter_class=argparse.RawDescriptionHelpFormatter)
     parser.add_argument("file")
     parser.add_argument("--megabytes", type=int, default=100)
+    parser.add_argument("--programs", type=int)
+    parser.add_argument("--bytes", type=int, default=450, help="of a program; 450 are about 200 rows")
     parser.add_argument("--padded", action="store_true")
     parser.add_argument("--wide", action="store_true")
     parser.add_argument("--elf", action="store_true")
     options = parser.parse_args()
     rng = random.Random(5)
-    block = b"".join(unit(rng, 1 << 20, options.padded, options.wide) for _ in range(min(4, options.megabytes)))
-    section = block * max(1, options.megabytes // 4)
+    if options.programs:
+        section = b"".join(unit(rng, options.bytes, options.padded, options.wide) for _ in range(options.programs))
+    else:
+        block = b"".join(unit(rng, 1 << 20, options.padded, options.wide) for _ in range(min(4, options.megabytes)))
+        section = block * max(1, options.megabytes // 4)
     with open(options.file, "wb") as handle:
         handle.write(elf(b".debug_line", section) if options.elf else section)
 

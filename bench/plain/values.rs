@@ -22,7 +22,7 @@ struct Attribute {
 }
 
 #[derive(Clone, Copy)]
-struct Span {
+pub struct Span {
     // Where the bytes begin; what is added up is their length alone.
     #[allow(dead_code)]
     at: usize,
@@ -30,7 +30,7 @@ struct Span {
 }
 
 #[derive(Clone, Copy)]
-enum Value {
+pub enum Value {
     Address(u64),
     AddressIndex(u64),
     Signed(i64),
@@ -53,9 +53,9 @@ enum Value {
     RangeIndex(u64),
 }
 
-struct Read {
-    value: Value,
-    end: usize,
+pub struct Read {
+    pub value: Value,
+    pub end: usize,
 }
 
 fn drawn_form(draws: &mut Draws) -> u64 {
@@ -115,7 +115,7 @@ fn number<const N: usize>(bytes: &[u8], at: usize) -> Option<(u64, usize)> {
     Some((u64::from_le_bytes(all), at + N))
 }
 
-fn uleb(bytes: &[u8], mut at: usize) -> Option<(u64, usize)> {
+pub fn uleb(bytes: &[u8], mut at: usize) -> Option<(u64, usize)> {
     let mut value = 0u64;
     let mut shift = 0;
     loop {
@@ -131,7 +131,7 @@ fn uleb(bytes: &[u8], mut at: usize) -> Option<(u64, usize)> {
     }
 }
 
-fn sleb(bytes: &[u8], mut at: usize) -> Option<(i64, usize)> {
+pub fn sleb(bytes: &[u8], mut at: usize) -> Option<(i64, usize)> {
     let mut value = 0i64;
     let mut shift = 0;
     loop {
@@ -166,7 +166,7 @@ fn made<T>((held, end): (T, usize), value: impl Fn(T) -> Value) -> Option<Read> 
     Some(Read { value: value(held), end })
 }
 
-fn read_value(bytes: &[u8], at: usize, form: u64, constant: i64) -> Option<Read> {
+pub fn read_value(bytes: &[u8], at: usize, form: u64, constant: i64) -> Option<Read> {
     match form {
         0x01 => made(number::<8>(bytes, at)?, Value::Address),
         0x03 => made(counted(bytes, number::<2>(bytes, at)?)?, Value::Block),
@@ -214,7 +214,7 @@ fn read_value(bytes: &[u8], at: usize, form: u64, constant: i64) -> Option<Read>
     }
 }
 
-fn held(value: Value) -> u64 {
+pub fn held(value: Value) -> u64 {
     match value {
         Value::Signed(number) => number as u64,
         Value::Flag(is_set) => u64::from(is_set),

@@ -1,2 +1,3 @@
 mod Declared
 mod Drawn
+pub mod PairRows

@@ -2,14 +2,18 @@
 #![tactic(auto)]
 
 mod draws;
+mod entries;
 mod layout;
 mod lines;
+mod pairs;
 mod steps;
 mod values;
 mod words;
 
+use entries::totals_of_entries;
 use layout::{SLOT_LIMIT, totals_of_layout};
 use lines::sums_of;
+use pairs::sum_of_pairs;
 use std::io::{self, ErrorKind};
 use std::process::ExitCode;
 use std::{env, fs};
@@ -41,6 +45,13 @@ fn measure_steps(rt: &HostRuntime, count: u64) -> io::Result<()> {
     println!(rt; "{count} steps, sum {}", sum_of_steps(count))
 }
 
+fn measure_pairs(rt: &HostRuntime, count: u32) -> io::Result<()> {
+    match sum_of_pairs(rt.alloc(), count) {
+        Ok(sum) => println!(rt; "{count} pairs, sum {sum}"),
+        Err(_) => Err(ErrorKind::OutOfMemory.into()),
+    }
+}
+
 fn measure_layout(rt: &HostRuntime, count: u32) -> io::Result<()> {
     if count > SLOT_LIMIT {
         return Err(ErrorKind::InvalidInput.into());
@@ -67,16 +78,34 @@ fn measure_values(rt: &HostRuntime, count: u64) -> io::Result<()> {
     }
 }
 
+fn measure_entries(rt: &HostRuntime, file: &str) -> io::Result<()> {
+    let info = fs::read(rt, file)?;
+    let name = format!(in rt.alloc(); "{file}.abbrev")?;
+    let table = fs::read(rt, &name)?;
+    if table.is_empty() {
+        return Err(ErrorKind::InvalidData.into());
+    }
+    match totals_of_entries(rt.alloc(), &info, &table) {
+        Ok(totals) => println!(rt;
+            "{} entries, {} values, sum {}",
+            totals.entries, totals.values, totals.sum
+        ),
+        Err(_) => Err(ErrorKind::InvalidData.into()),
+    }
+}
+
 fn main(rt: HostRuntime) -> io::Result<ExitCode> {
     let words = arguments(&rt)?;
     match work_of(&words) {
         Some(Work::Lines(file)) => measure_lines(&rt, file)?,
         Some(Work::Steps(count)) => measure_steps(&rt, count)?,
+        Some(Work::Pairs(count)) => measure_pairs(&rt, count)?,
         Some(Work::Layout(count)) => measure_layout(&rt, count)?,
         Some(Work::Values(count)) => measure_values(&rt, count)?,
+        Some(Work::Entries(file)) => measure_entries(&rt, file)?,
         None => {
             eprintln!(rt;
-                "usage: measure lines FILE | measure steps COUNT | measure layout COUNT | measure values COUNT"
+                "usage: measure lines FILE | measure steps COUNT | measure pairs COUNT | measure layout COUNT | measure values COUNT | measure entries FILE"
             )?;
             return Ok(ExitCode::from(2));
         }

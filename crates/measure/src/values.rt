@@ -144,8 +144,8 @@ pub fn drawn_entries(alloc: Global, count: u64) -> Result<Entries, NoMemory>
     })
 }
 
-// The number of a value, or the length of its bytes.
-fn held(value: Value) -> u64 {
+/// The number of a value, or the length of its bytes.
+pub fn held(value: Value) -> u64 {
     match value {
         Value::Int(number) => (number.cast_unsigned() & 0xffff_ffff_ffff_ffff) as u64,
         Value::Flag(is_set) => u64::from(is_set),

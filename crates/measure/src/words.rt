@@ -7,10 +7,15 @@ pub enum Work<'a> {
     Lines(&'a str),
     /// So many steps between rows.
     Steps(u64),
+    /// The least pairs of so many line programs.
+    Pairs(u32),
     /// The layout of a unit of so many slots.
     Layout(u32),
     /// So many values of attributes.
     Values(u64),
+    /// The entries of this file, which holds the bytes of a .debug_info section. The table of all units stands in a file
+    /// with the same name and `.abbrev` behind it.
+    Entries(&'a str),
 }
 
 /// What is asked for, where the words are right.
@@ -22,8 +27,10 @@ pub fn work_of(words: &[String]) -> Option<Work<'_>> {
     match verb.as_str() {
         "lines" => Some(Work::Lines(operand)),
         "steps" => Some(Work::Steps(operand.parse().ok()?)),
+        "pairs" => Some(Work::Pairs(operand.parse().ok()?)),
         "layout" => Some(Work::Layout(operand.parse().ok()?)),
         "values" => Some(Work::Values(operand.parse().ok()?)),
+        "entries" => Some(Work::Entries(operand)),
         _ => None,
     }
 }
