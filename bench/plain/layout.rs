@@ -1,16 +1,10 @@
 // The plain rounds that the proved layout is measured against: it draws the same slots and finds their least sizes.
 // Build: rustc -O --edition 2021 -C target-cpu=x86-64-v2 bench/plain/layout.rs -o layout. Run: layout COUNT.
+use draws::Draws;
 use std::env;
 
-// A linear congruential generator: the state is 0 at first, and a draw is the remainder of its upper 31 bits.
-struct Draws(u64);
-
-impl Draws {
-    fn below(&mut self, n: u32) -> u32 {
-        self.0 = self.0.wrapping_mul(6_364_136_223_846_793_005).wrapping_add(1_442_695_040_888_963_407);
-        (self.0 >> 33) as u32 % n
-    }
-}
+#[path = "shared/draws.rs"]
+mod draws;
 
 #[derive(Clone, Copy)]
 struct Slot {

@@ -1,17 +1,16 @@
 // The plain search that the proved least pairs are measured against: it draws the same programs and looks for their pairs.
 // Build: rustc -O --edition 2021 -C target-cpu=x86-64-v2 bench/plain/pairs.rs -o pairs. Run: pairs COUNT.
+use costs::{len_s, line_bytes, operand_bytes};
+use draws::Draws;
 use std::collections::HashMap;
 use std::env;
 
-// A linear congruential generator: the state is 0 at first, and a draw is the remainder of its upper 31 bits.
-struct Draws(u64);
+#[path = "shared/costs.rs"]
+mod costs;
+#[path = "shared/draws.rs"]
+mod draws;
 
 impl Draws {
-    fn below(&mut self, n: u32) -> u32 {
-        self.0 = self.0.wrapping_mul(6_364_136_223_846_793_005).wrapping_add(1_442_695_040_888_963_407);
-        (self.0 >> 33) as u32 % n
-    }
-
     fn near_or_far(&mut self, near: u32, far: u32) -> u32 {
         let bound = if self.below(8) == 0 { far } else { near };
         self.below(bound)
@@ -25,31 +24,6 @@ const LINES: u32 = 1_000_000;
 enum Step {
     Row(i64, u64),
     End(u64),
-}
-
-fn len_u(value: u64) -> u32 {
-    (64 - (value | 1).leading_zeros()).div_ceil(7)
-}
-
-fn len_s(value: i64) -> u32 {
-    let magnitude = if value < 0 { !value } else { value };
-    (65 - magnitude.leading_zeros()).div_ceil(7)
-}
-
-fn operand_bytes(operand: u64) -> u32 {
-    if operand == 0 {
-        0
-    } else {
-        1 + len_u(operand)
-    }
-}
-
-fn line_bytes(operand: i64) -> u32 {
-    if operand == 0 {
-        0
-    } else {
-        1 + len_s(operand)
-    }
 }
 
 // The least bytes that advance the address: over so many fixed_advance_pc and const_add_pc, with one advance_pc.

@@ -1,41 +1,13 @@
 // The plain search that the proved costs of steps are measured against: it draws the same steps and adds up their bytes.
 // Build: rustc -O --edition 2021 -C target-cpu=x86-64-v2 bench/plain/steps.rs -o steps. Run: steps COUNT.
+use costs::{len_s, line_bytes, operand_bytes};
+use draws::Draws;
 use std::env;
 
-// A linear congruential generator: the state is 0 at first, and a draw is the remainder of its upper 31 bits.
-struct Draws(u64);
-
-impl Draws {
-    fn below(&mut self, n: u32) -> u32 {
-        self.0 = self.0.wrapping_mul(6_364_136_223_846_793_005).wrapping_add(1_442_695_040_888_963_407);
-        (self.0 >> 33) as u32 % n
-    }
-}
-
-fn len_u(value: u64) -> u32 {
-    (64 - (value | 1).leading_zeros()).div_ceil(7)
-}
-
-fn len_s(value: i64) -> u32 {
-    let magnitude = if value < 0 { !value } else { value };
-    (65 - magnitude.leading_zeros()).div_ceil(7)
-}
-
-fn operand_bytes(operand: u64) -> u32 {
-    if operand == 0 {
-        0
-    } else {
-        1 + len_u(operand)
-    }
-}
-
-fn line_bytes(operand: i64) -> u32 {
-    if operand == 0 {
-        0
-    } else {
-        1 + len_s(operand)
-    }
-}
+#[path = "shared/costs.rs"]
+mod costs;
+#[path = "shared/draws.rs"]
+mod draws;
 
 // The least bytes that advance the address: over so many fixed_advance_pc and const_add_pc, with one advance_pc. It tries
 // all 44 of them, as the proved search does; to leave the loops early instead takes half of the time.
