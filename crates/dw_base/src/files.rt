@@ -15,7 +15,7 @@ pub struct NamedFile {
     pub bytes: Vec<u8>,
 }
 
-// The place of the first file of this name.
+/// The place of the first file of this name.
 pub fn place_of(files: &[NamedFile], name: &str) -> Option<usize>
     ensures place { MatchOption result (is_there files.now name.now ≡ false) (λ i. IsFirst files.now name.now i) }
 {
@@ -27,7 +27,7 @@ pub fn place_of(files: &[NamedFile], name: &str) -> Option<usize>
     None
 }
 
-// The bytes of the first file of this name.
+/// The bytes of the first file of this name.
 pub fn find<'a>(files: &'a [NamedFile], name: &str) -> Option<&'a Vec<u8>>
     ensures there { IsSome result ↔ IsTrue (is_there files.now name.now) }
     ensures bytes { IfSome result (λ b. content files.now name.now ≡ b.now.items) }
@@ -42,7 +42,7 @@ pub fn find<'a>(files: &'a [NamedFile], name: &str) -> Option<&'a Vec<u8>>
     }
 }
 
-// Puts bytes in the place of those of a file, which is made where it is missing.
+/// Puts bytes in the place of those of a file, which is made where it is missing.
 pub fn replace(
     alloc: Global,
     files: &mut Vec<NamedFile>,
@@ -68,7 +68,7 @@ pub fn replace(
     Ok(())
 }
 
-// Adds bytes at the end of a file, which is made where it is missing.
+/// Adds bytes at the end of a file, which is made where it is missing.
 pub fn extend(
     alloc: Global,
     files: &mut Vec<NamedFile>,
@@ -94,7 +94,7 @@ pub fn extend(
     Ok(())
 }
 
-// Copies what there is of a list from a place on, as much as fits.
+/// Copies what there is of a list from a place on, as much as fits.
 pub fn copy_part(from: &[u8], at: u64, into: &mut [u8]) -> usize
     ensures bound { result ≤ length into.new }
     ensures part { 0 < length into.old → IsPartRead (Some from.now) at into.new result }

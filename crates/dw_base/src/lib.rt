@@ -6,6 +6,7 @@ mod files;
 mod host;
 mod mem_host;
 mod quiet_host;
+mod record;
 #[cfg(test)]
 mod tests;
 
@@ -14,3 +15,4 @@ pub use files::NamedFile;
 pub use host::{Host, Stop};
 pub use mem_host::MemHost;
 pub use quiet_host::QuietHost;
+pub use record::Run;
