@@ -1,13 +1,13 @@
--- The faults of an ELF-64 file that its header, its tables and the names of its sections show. Each stands at a place,
--- an offset in the file.
-use Rattle.std.specs.Prelude.{◌≡◌, ◌≢◌, ◌≤◌, ◌<◌, ◌+◌, ◌-◌, ◌^◌, ◌⊎◌, ℕ, zero, suc, max, min, List, length, Bool, true, false, ◌==◌, ◌||◌, ◌&&◌, not, if◌then◌else◌, nat_lt, bit_and, bytes_eq, codes, ⊤}
+-- The faults of a file that its ELF header, its tables and the names of its sections show. They are looked for in two
+-- passes, of which the first that has a fault decides. Each fault stands at a place, an offset in the file.
+use Rattle.std.specs.Prelude.{◌≡◌, ◌≢◌, ◌≤◌, ◌<◌, ◌+◌, ◌-◌, ◌^◌, ◌⊎◌, ℕ, zero, suc, max, min, List, length, Bool, true, false, ◌==◌, ◌||◌, ◌&&◌, not, if◌then◌else◌, nat_lt, bit_and, bytes_eq, codes}
 use Rattle.dw_base.specs.declared.fault.Fault.{Fault}
 use Rattle.dw_base.specs.declared.fault.Kind.{Kind}
-use Rattle.dw_base.specs.declared.fault.Kind.TheVariants.{NotElf64, FileType, Torn, Overlap, Compressed, Relocated, TwoSections, Placed, Companion, Limit, Unbuilt}
+use Rattle.dw_base.specs.declared.fault.Kind.TheVariants.{NotElf64, FileType, Torn, Overlap, Compressed, Relocated, TwoSections, Placed, Companion, Limit}
 use Rattle.dw_base.specs.declared.fault.Reach.{Reach}
 use Rattle.dw_base.specs.declared.fault.Reach.TheVariants.{Narrow, Wide}
 use Rattle.dw_base.specs.declared.fault.Refusal.{Refusal}
-use Rattle.dw_base.specs.declared.fault.Refusal.TheVariants.{Refused, NoMemory}
+use Rattle.dw_base.specs.Refusals.{IsRefusedFor}
 use Rattle.elf_sections.specs.Elf.{IsElf64, file_type, section_count, section_size, segment_count, segment_size, segments_at, sections_at, names_index, segment_at, header_at, segment_end, section_end, segments_end, offset_of, size_of, kind_of, flags_of, info_of, align_of, has_bytes, body_span, fixed_end_of, is_movable}
 use Rattle.elf_sections.specs.Names.{name_of, IsNamed, is_debug_name, is_zdebug_name, is_written, is_listed}
 
@@ -91,6 +91,13 @@ NamesLackTheirSection file = (names_index file ≢ 0) × (section_count file ≤
 abbrev pub IsHeaderTorn : List ℕ → Type 0
 IsHeaderTorn file = HasOtherSizes file ⊎ (TableLeaves file ⊎ NamesLackTheirSection file)
 
+-- a segment, or a section, has this number, and its header lies in the file
+abbrev pub HasSegment : List ℕ → ℕ → Type 0
+HasSegment file i = (i < segment_count file) × (segment_at file (suc i) ≤ length file)
+
+abbrev pub HasSection : List ℕ → ℕ → Type 0
+HasSection file i = (i < section_count file) × (header_at file (suc i) ≤ length file)
+
 -- the bytes of a segment leave the file
 abbrev pub SegmentLeaves : List ℕ → ℕ → Type 0
 SegmentLeaves file i = length file < segment_end file i
@@ -106,11 +113,11 @@ NameLeaves file i = ¬ IsNamed file i
 -- a thing leaves the file; the place is the first byte of the header that says so
 abbrev pub IsTorn : List ℕ → ℕ → Type 0
 IsTorn file place =
-    ((place ≡ 0) × IsHeaderTorn file) ⊎ (((i : ℕ) × (i < segment_count file) × (place ≡ segment_at file i) × SegmentLeaves file i) ⊎ ((i : ℕ) × (i < section_count file) × (place ≡ header_at file i) × (SectionLeaves file i ⊎ NameLeaves file i)))
+    ((place ≡ 0) × IsHeaderTorn file) ⊎ (((i : ℕ) × HasSegment file i × (place ≡ segment_at file i) × SegmentLeaves file i) ⊎ ((i : ℕ) × HasSection file i × (place ≡ header_at file i) × (SectionLeaves file i ⊎ NameLeaves file i)))
 
 -- a section that passes the test begins at the place
 abbrev pub SomeSection : List ℕ → (ℕ → Bool) → ℕ → Type 0
-SomeSection file test place = (i : ℕ) × (i < section_count file) × (place ≡ offset_of file i) × (test i ≡ true)
+SomeSection file test place = (i : ℕ) × HasSection file i × (place ≡ offset_of file i) × (test i ≡ true)
 
 -- the table of the segments, where there is one, holds a byte of e_shoff
 abbrev pub DoSegmentsOverlap : List ℕ → Type 0
@@ -123,7 +130,7 @@ IsOverlap file place = ((place ≡ segments_at file) × DoSegmentsOverlap file) 
 -- two sections have the same debug name; the place is the later one's
 abbrev pub IsSecondOfName : List ℕ → ℕ → Type 0
 IsSecondOfName file place =
-    (i j : ℕ) × (i < j) × (j < section_count file) × (place ≡ offset_of file j) × (is_debug_name (name_of file j) ≡ true) × (name_of file i ≡ name_of file j)
+    (i j : ℕ) × (i < j) × HasSection file j × (place ≡ offset_of file j) × (is_debug_name (name_of file j) ≡ true) × (name_of file i ≡ name_of file j)
 
 -- a number of the file's header passes its limit, or counts what only section 0 could tell
 abbrev pub IsHeaderTooLarge : List ℕ → Reach → Type 0
@@ -138,9 +145,11 @@ PassesMovableLimit file reach i =
 -- a number passes its limit; the place is 0 for the file and its header, else the section's
 abbrev pub IsLimit : List ℕ → Reach → ℕ → Type 0
 IsLimit file reach place =
-    ((place ≡ 0) × IsHeaderTooLarge file reach) ⊎ (SomeSection file (is_too_long file reach) place ⊎ (SomeSection file (is_overaligned file) place ⊎ ((i : ℕ) × (i < section_count file) × (place ≡ offset_of file i) × PassesMovableLimit file reach i)))
+    ((place ≡ 0) × IsHeaderTooLarge file reach) ⊎ (SomeSection file (is_too_long file reach) place ⊎ (SomeSection file (is_overaligned file) place ⊎ ((i : ℕ) × HasSection file i × (place ≡ offset_of file i) × PassesMovableLimit file reach i)))
 
--- An ELF-64 file has a fault of this kind at this place. A file may have several; which of them is named isn't said here.
+-- FIRST PASS: the ELF header, its tables, and the sections that these tell
+
+-- an ELF-64 file has a fault of this kind at this place
 abbrev pub ImageFault : List ℕ → Reach → Kind → ℕ → Type 0
 ImageFault file reach FileType place = (place ≡ 16) × (file_type file ≢ 2) × (file_type file ≢ 3)
 ImageFault file reach Torn place = IsTorn file place
@@ -149,39 +158,49 @@ ImageFault file reach Compressed place = SomeSection file (is_compressed file) p
 ImageFault file reach Relocated place = SomeSection file (is_debug_relocation file) place
 ImageFault file reach TwoSections place = IsSecondOfName file place
 ImageFault file reach Placed place = SomeSection file (is_misplaced file) place
-ImageFault file reach Companion place = SomeSection file (is_companion file) place
 ImageFault file reach Limit place = IsLimit file reach place
 ImageFault file reach _ place = ⊥
 
--- a fault stands in an ELF-64 file, and whichever limits it is held to
+-- A file past its limit of bytes has that fault whatever its first bytes hold. All else is said of ELF-64 files.
+abbrev pub ElfFault : List ℕ → Reach → Kind → ℕ → Type 0
+ElfFault file reach NotElf64 place = (place ≡ 0) × (¬ IsElf64 file)
+ElfFault file reach Limit place = ((place ≡ 0) × (file_limit reach < length file)) ⊎ (IsElf64 file × ImageFault file reach Limit place)
+ElfFault file reach kind place = IsElf64 file × ImageFault file reach kind place
+
+-- SECOND PASS: the names of sections
+
+-- a section goes with debug sections and isn't known
+abbrev pub NameFault : List ℕ → Kind → ℕ → Type 0
+NameFault file Companion place = IsElf64 file × SomeSection file (is_companion file) place
+NameFault file _ place = ⊥
+
+-- WHICH FAULT IS NAMED
+
+abbrev pub HasNoElfFault : List ℕ → Reach → Type 0
+HasNoElfFault file reach = (kind : Kind) (place : ℕ) → ElfFault file reach kind place → ⊥
+
+abbrev pub HasNoNameFault : List ℕ → Type 0
+HasNoNameFault file = (kind : Kind) (place : ℕ) → NameFault file kind place → ⊥
+
+-- a fault of the first of the two passes that has one; of several in that pass each may be named
+abbrev pub FirstFault : List ℕ → Reach → Kind → ℕ → Type 0
+FirstFault file reach kind place =
+    ElfFault file reach kind place ⊎ (HasNoElfFault file reach × NameFault file kind place)
+
+-- a refusal names such a fault, or memory was wanting
+abbrev pub NamesFirstFault : List ℕ → Reach → Refusal → Type 0
+NamesFirstFault file reach = IsRefusedFor (λ fault. FirstFault file reach fault.kind fault.place)
+
+-- a refusal names a fault of the first pass, or memory was wanting
+abbrev pub NamesElfFault : List ℕ → Reach → Refusal → Type 0
+NamesElfFault file reach = IsRefusedFor (λ fault. ElfFault file reach fault.kind fault.place)
+
+-- a fault of the first pass stands in an ELF-64 file, and whichever limits it is held to
 abbrev pub HasFault : List ℕ → Reach → Fault → Type 0
 HasFault file reach fault = ImageFault file reach fault.kind fault.place
 
 abbrev pub HasFaultAnyway : List ℕ → Fault → Type 0
 HasFaultAnyway file fault = (reach : Reach) → ImageFault file reach fault.kind fault.place
-
--- a refusal of an ELF-64 file names a fault that stands in it, and whichever limits it is held to
-abbrev pub NamesRow : List ℕ → Reach → Refusal → Type 0
-NamesRow file reach (Refused fault) = HasFault file reach fault
-NamesRow file reach NoMemory = ⊤
-
-abbrev pub NamesRowAnyway : List ℕ → Refusal → Type 0
-NamesRowAnyway file refusal = (reach : Reach) → NamesRow file reach refusal
-
--- an ELF-64 file has some fault
-abbrev pub HasImageFault : List ℕ → Reach → Type 0
-HasImageFault file reach = (kind : Kind) × ((place : ℕ) × ImageFault file reach kind place)
-
--- The file is refused for this reason at this place. What its tables show isn't told apart yet: it is said of the whole file.
-abbrev pub IsRefused : List ℕ → Reach → Kind → ℕ → Type 0
-IsRefused file reach NotElf64 place = (place ≡ 0) × (¬ IsElf64 file)
-IsRefused file reach Unbuilt place = (place ≡ 0) × IsElf64 file × HasImageFault file reach
-IsRefused file reach _ place = ⊥
-
--- a refusal names why the file is refused
-abbrev pub NamesFault : List ℕ → Reach → Refusal → Type 0
-NamesFault file reach (Refused fault) = IsRefused file reach fault.kind fault.place
-NamesFault file reach NoMemory = ⊤
 
 -- FILES WITHOUT A FAULT
 
@@ -240,18 +259,41 @@ abbrev pub HasDistinctNames : List ℕ → Type 0
 HasDistinctNames file =
     (i j : ℕ) → i < j → j < section_count file → is_debug_name (name_of file j) ≡ true → name_of file i ≢ name_of file j
 
--- no section of the file has a fault, neither by itself nor beside the others
-pub record IsSound (file : List ℕ) (reach : Reach) : Type 0 where
+-- no section of the file has a fault of the first pass, neither by itself nor beside the others
+pub record IsArranged (file : List ℕ) (reach : Reach) : Type 0 where
   pub apart : ¬ DoSegmentsOverlap file
   pub sections : (i : ℕ) → i < section_count file → IsSectionSound file reach i
-  pub known : (i : ℕ) → i < section_count file → is_companion file i ≡ false
   pub distinct : HasDistinctNames file
   pub movable : movable_bytes file (section_count file) ≤ movable_limit reach
 
--- an ELF-64 file in which no fault stands
+-- all sections are known
+abbrev pub HasKnownSections : List ℕ → Type 0
+HasKnownSections file = (i : ℕ) → i < section_count file → is_companion file i ≡ false
+
+-- no section of the file has a fault of either pass
+pub record IsSound (file : List ℕ) (reach : Reach) : Type 0 where
+  pub apart : ¬ DoSegmentsOverlap file
+  pub sections : (i : ℕ) → i < section_count file → IsSectionSound file reach i
+  pub known : HasKnownSections file
+  pub distinct : HasDistinctNames file
+  pub movable : movable_bytes file (section_count file) ≤ movable_limit reach
+
+-- an ELF-64 file in which no fault of the first pass stands
+pub record IsElfSound (file : List ℕ) (reach : Reach) : Type 0 where
+  pub elf : IsElf64 file
+  pub linked : (file_type file ≡ 2) ⊎ (file_type file ≡ 3)
+  pub small : IsHeaderSmall file reach
+  pub whole : IsWhole file
+  pub arranged : IsArranged file reach
+
+-- an ELF-64 file in which no fault of either pass stands
 pub record IsRead (file : List ℕ) (reach : Reach) : Type 0 where
   pub elf : IsElf64 file
   pub linked : (file_type file ≡ 2) ⊎ (file_type file ≡ 3)
   pub small : IsHeaderSmall file reach
   pub whole : IsWhole file
   pub sound : IsSound file reach
+
+-- A file that is read has no fault of either pass.
+abbrev pub ImagesAreWhole : Type 0
+ImagesAreWhole = (file : List ℕ) (reach : Reach) → IsRead file reach → HasNoElfFault file reach × HasNoNameFault file

@@ -46,7 +46,7 @@ fn loaded_sections_end(file: &[u8]) -> u64
     end
 }
 
-// The end of what may not move.
+/// The end of what may not move.
 pub fn fixed_end(file: &[u8]) -> u64
     requires { HasTables file.now }
     ensures { result ≡ fixed_end_of file.now }

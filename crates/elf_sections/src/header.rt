@@ -8,7 +8,7 @@ use dw_base::{Fault, Kind, Reach};
 
 const MAGIC: [u8; 7] = [0x7f, b'E', b'L', b'F', 2, 1, 1];
 
-// Whether the file begins as an ELF-64 file of low-first numbers.
+/// Whether the file begins as an ELF-64 file of low-first numbers.
 pub fn is_elf64(file: &[u8]) -> bool
     ensures { IsTrue result ↔ IsElf64 file.now }
 {
@@ -25,7 +25,7 @@ fn file_limit(reach: Reach) -> u64
     }
 }
 
-// Whether `len` bytes from a place on lie in the file.
+/// Whether `len` bytes from a place on lie in the file.
 pub fn lies_in(file: &[u8], at: u64, len: u64) -> bool
     ensures { IsTrue result ↔ (at + len ≤ length file.now) }
 {
@@ -133,7 +133,7 @@ fn check_segments(file: &[u8]) -> Result<(), Fault>
     Ok(())
 }
 
-// The header, its two tables, and the bytes of the segments.
+/// The header, its two tables, and the bytes of the segments.
 pub fn check_header(file: &[u8], reach: Reach) -> Result<(), Fault>
     requires { 64 ≤ length file.now }
     ensures fault { IfErr result (λ f. HasFault file.now reach f) }

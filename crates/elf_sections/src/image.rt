@@ -1,15 +1,14 @@
 // A file whose header, tables and names have no fault.
 ghost use Rattle.std.specs.Prelude.{◌≡◌, ◌≤◌, ◌<◌, ℕ, List, length, IfOk, IfErr, OnOk, MatchOption};
-ghost use Rattle.dw_base.specs.declared.fault.Kind.{Kind};
 ghost use Rattle.dw_base.specs.declared.fault.Reach.TheVariants.{Wide};
 ghost use Rattle.elf_sections.specs.Elf.{IsElf64, section_count, segment_count, segments_end, segment_end, loaded_end, offset_of, body_of, header_of, fixed_end_of, is_movable};
 ghost use Rattle.elf_sections.specs.Names.{name_of};
 ghost use Rattle.elf_sections.specs.Sections.{section_of, IsFirstNamed, HasNone};
-ghost use Rattle.elf_sections.specs.Faults.{ImageFault, IsRefused, NamesFault, NamesRow, IsRead};
+ghost use Rattle.elf_sections.specs.Faults.{IsElfSound, IsRead, HasNoElfFault, HasNoNameFault, NamesElfFault, NamesFirstFault};
 
 use crate::header::{check_header, is_elf64};
 use crate::section::Section;
-use crate::sound::check_sound;
+use crate::sound::{check_arranged, check_known};
 use crate::table::SectionTable;
 use dw_base::{Fault, Kind, Reach, Refusal};
 use std::alloc::Global;
@@ -31,46 +30,45 @@ impl<'a> Model for Image<'a> {
     ghost invariant = { λ i. IsRead i.table Wide };
 }
 
+// Reads an ELF-64 file whose header, tables and sections have no fault of the first pass.
+fn read_arranged<'a>(
+    alloc: Global,
+    file: &'a [u8],
+    reach: Reach,
+) -> Result<SectionTable<'a>, Refusal>
+    ensures table { IfOk result (λ table. table ≡ file.entry.now) }
+    ensures sound { OnOk result (IsElfSound file.entry.now reach) }
+    ensures refused { IfErr result (NamesElfFault file.entry.now reach) }
+{
+    if !is_elf64(file) {
+        return Err(Refusal::Refused(Fault {
+            kind: Kind::NotElf64,
+            place: 0,
+        }));
+    }
+    if let Err(fault) = check_header(file, reach) {
+        return Err(Refusal::Refused(fault));
+    }
+    let table = SectionTable::read(alloc, file)?;
+    check_arranged(alloc, &table, reach)?;
+    Ok(table)
+}
+
 impl<'a> Image<'a> {
     /// Reads the header, the tables and the names of a file, which is held to the limits of `reach`.
     ///
-    /// NotElf64 at 0 comes exactly where the file has fewer than 64 bytes or doesn't begin as an ELF-64 file of low-first
-    /// numbers. Unbuilt at 0 comes exactly where it does, but one of FileType, Torn, Overlap, Compressed, Relocated,
-    /// TwoSections, Placed, Companion or Limit holds in it: these aren't told apart yet. NoMemory comes where memory is
-    /// wanting.
+    /// A fault of the first pass comes exactly where there is one: NotElf64 at 0 where the file has fewer than 64 bytes or
+    /// doesn't begin as an ELF-64 file of low-first numbers, and FileType, Torn, Overlap, Compressed, Relocated,
+    /// TwoSections, Placed or Limit, each at the place that docs/FORMATS.md says. Companion comes only where no fault of
+    /// these does. Of several faults in one pass any may be named. NoMemory comes where memory is wanting.
     pub fn read(alloc: Global, file: &'a [u8], reach: Reach) -> Result<Image<'a>, Refusal>
         ensures read { IfOk result (λ image. (image ≡ file.entry.now) × IsRead file.entry.now reach) }
-        ensures faultless { OnOk result ((kind : Kind) (place : ℕ) → ImageFault file.entry.now reach kind place → ⊥) }
-        ensures unrefused { OnOk result ((kind : Kind) (place : ℕ) → IsRefused file.entry.now reach kind place → ⊥) }
-        ensures refused { IfErr result (λ refusal. NamesFault file.entry.now reach refusal) }
+        ensures faultless { OnOk result (HasNoElfFault file.entry.now reach) }
+        ensures known { OnOk result (HasNoNameFault file.entry.now) }
+        ensures refused { IfErr result (λ refusal. NamesFirstFault file.entry.now reach refusal) }
     {
-        if !is_elf64(file) {
-            return Err(Refusal::Refused(Fault {
-                kind: Kind::NotElf64,
-                place: 0,
-            }));
-        }
-        match Image::read_named(alloc, file, reach) {
-            Ok(image) => Ok(image),
-            Err(Refusal::Refused(_)) => Err(Refusal::Refused(Fault {
-                kind: Kind::Unbuilt,
-                place: 0,
-            })),
-            Err(Refusal::NoMemory) => Err(Refusal::NoMemory),
-        }
-    }
-
-    // The same of an ELF-64 file, with each fault's own kind and place.
-    fn read_named(alloc: Global, file: &'a [u8], reach: Reach) -> Result<Image<'a>, Refusal>
-        requires { IsElf64 file.now }
-        ensures read { IfOk result (λ image. (image ≡ file.entry.now) × IsRead file.entry.now reach) }
-        ensures refused { IfErr result (λ refusal. NamesRow file.entry.now reach refusal) }
-    {
-        if let Err(fault) = check_header(file, reach) {
-            return Err(Refusal::Refused(fault));
-        }
-        let table = SectionTable::read(alloc, file)?;
-        if let Err(fault) = check_sound(&table, reach) {
+        let table = read_arranged(alloc, file, reach)?;
+        if let Err(fault) = check_known(&table) {
             return Err(Refusal::Refused(fault));
         }
         Ok(Image { table })

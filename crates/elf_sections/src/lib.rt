@@ -11,9 +11,10 @@ mod numbers;
 mod section;
 mod sound;
 mod table;
+mod texts;
 
 pub use image::Image;
-pub use laws::headers_are_the_abis;
+pub use laws::{headers_are_the_abis, images_whole};
 pub use names::is_listed;
 pub use section::Section;
 

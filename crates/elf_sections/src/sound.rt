@@ -1,12 +1,15 @@
-// Whether each section may stand as it does, by its bytes, its flags and its name.
+// Whether each section may stand as it does, by its bytes, its flags and its name, and whether it is known.
 ghost use Rattle.std.specs.Prelude.{◌≡◌, ◌≢◌, ◌≤◌, ◌<◌, ◌⊎◌, ◌↔◌, ℕ, Bool, false, length, IsTrue, IfErr, OnOk, MatchOption};
-ghost use Rattle.elf_sections.specs.Elf.{section_count, offset_of};
-ghost use Rattle.elf_sections.specs.Faults.{debug_limit, movable_limit, movable_bytes, holds_e_shoff, is_overlapping, is_compressed, is_debug_relocation, is_misplaced, is_companion, is_too_long, is_overaligned, ImageFault, HasFault, HasFaultAnyway, DoSegmentsOverlap, IsSectionSound, HasDistinctNames, IsSound};
+ghost use Rattle.dw_base.specs.Refusals.{IsRefusedFor};
+ghost use Rattle.elf_sections.specs.Elf.{IsElf64, section_count, offset_of};
+ghost use Rattle.elf_sections.specs.Faults.{debug_limit, movable_limit, movable_bytes, holds_e_shoff, is_overlapping, is_compressed, is_debug_relocation, is_misplaced, is_companion, is_too_long, is_overaligned, ImageFault, NameFault, HasFault, HasFaultAnyway, HasSection, DoSegmentsOverlap, IsSectionSound, HasDistinctNames, IsArranged, HasKnownSections};
 
 use crate::names::{is_debug_name, is_listed, is_written, is_zdebug_name};
 use crate::numbers::{u16_at, u64_at};
 use crate::table::SectionTable;
-use dw_base::{Fault, Kind, Reach};
+use dw_base::{Fault, Kind, Reach, Refusal};
+use std::alloc::Global;
+use std::collections::BTreeSet;
 
 const COMPRESSED: u64 = 0x800;
 
@@ -108,7 +111,7 @@ fn is_overaligned(table: &SectionTable, i: u32) -> bool
 // What a section shows by itself, but for a name that isn't known.
 fn fault_of(table: &SectionTable, reach: Reach, i: u32) -> Option<Kind>
     requires { i < section_count table.now }
-    ensures { MatchOption result (IsSectionSound table.now reach i) (λ kind. ImageFault table.now reach kind (offset_of table.now i)) }
+    ensures { MatchOption result (IsSectionSound table.now reach i) (λ kind. HasSection table.now i → ImageFault table.now reach kind (offset_of table.now i)) }
 {
     if is_overlapping(table, i) {
         return Some(Kind::Overlap);
@@ -184,10 +187,59 @@ fn check_movable_bytes(table: &SectionTable, reach: Reach) -> Result<(), Fault>
     Ok(())
 }
 
-// Debug sections that aren't known.
-fn check_known(table: &SectionTable) -> Result<(), Fault>
-    ensures fault { IfErr result (λ f. HasFaultAnyway table.now f) }
-    ensures known { OnOk result ((i : ℕ) → i < section_count table.now → is_companion table.now i ≡ false) }
+// Debug sections of one name. Names are compared by their lengths first: of those that end at one zero byte no two are as
+// long as one another, so that each byte of the names stands in few comparisons.
+fn check_distinct(alloc: Global, table: &SectionTable) -> Result<(), Refusal>
+    ensures fault { IfErr result (IsRefusedFor (HasFaultAnyway table.now)) }
+    ensures distinct { OnOk result (HasDistinctNames table.now) }
+{
+    let mut names = BTreeSet::new(alloc);
+    for i in 0..table.count() {
+        let name = table.name(i);
+        if is_debug_name(name) {
+            match names.insert((name.len(), name)) {
+                Ok(true) => {}
+                Ok(false) => {
+                    return Err(Refusal::Refused(Fault {
+                        kind: Kind::TwoSections,
+                        place: table.offset(i),
+                    }));
+                }
+                Err(_) => return Err(Refusal::NoMemory),
+            }
+        }
+    }
+    Ok(())
+}
+
+// What the sections show but for their names.
+fn check_bodies(table: &SectionTable, reach: Reach) -> Result<(), Fault>
+    ensures fault { IfErr result (λ f. HasFault table.now reach f) }
+    ensures apart { OnOk result (¬ DoSegmentsOverlap table.now) }
+    ensures sections { OnOk result ((i : ℕ) → i < section_count table.now → IsSectionSound table.now reach i) }
+    ensures movable { OnOk result (movable_bytes table.now (section_count table.now) ≤ movable_limit reach) }
+{
+    check_segments_apart(table)?;
+    check_each(table, reach)?;
+    check_movable_bytes(table, reach)
+}
+
+/// Whether the sections may stand as they do: the faults of the first pass that they show, by themselves and beside one
+/// another. NoMemory comes where memory is wanting.
+pub fn check_arranged(alloc: Global, table: &SectionTable, reach: Reach) -> Result<(), Refusal>
+    ensures fault { IfErr result (IsRefusedFor (HasFault table.now reach)) }
+    ensures arranged { OnOk result (IsArranged table.now reach) }
+{
+    if let Err(fault) = check_bodies(table, reach) {
+        return Err(Refusal::Refused(fault));
+    }
+    check_distinct(alloc, table)
+}
+
+/// Whether each section is known, or goes with no debug section: the faults of the second pass.
+pub fn check_known(table: &SectionTable) -> Result<(), Fault>
+    ensures fault { IfErr result (λ f. IsElf64 table.now → NameFault table.now f.kind f.place) }
+    ensures known { OnOk result (HasKnownSections table.now) }
 {
     for i in 0..table.count() {
         if is_companion(table, i) {
@@ -198,34 +250,4 @@ fn check_known(table: &SectionTable) -> Result<(), Fault>
         }
     }
     Ok(())
-}
-
-// Debug sections of one name. The first section of a name is looked for once for each section with a debug name, so
-// that few names must be known by then.
-fn check_distinct(table: &SectionTable) -> Result<(), Fault>
-    ensures fault { IfErr result (λ f. HasFaultAnyway table.now f) }
-    ensures distinct { OnOk result (HasDistinctNames table.now) }
-{
-    for i in 0..table.count() {
-        let name = table.name(i);
-        if is_debug_name(name) && table.find(name) != Some(i) {
-            return Err(Fault {
-                kind: Kind::TwoSections,
-                place: table.offset(i),
-            });
-        }
-    }
-    Ok(())
-}
-
-// All of it.
-pub fn check_sound(table: &SectionTable, reach: Reach) -> Result<(), Fault>
-    ensures fault { IfErr result (λ f. HasFault table.now reach f) }
-    ensures sound { OnOk result (IsSound table.now reach) }
-{
-    check_segments_apart(table)?;
-    check_each(table, reach)?;
-    check_movable_bytes(table, reach)?;
-    check_known(table)?;
-    check_distinct(table)
 }

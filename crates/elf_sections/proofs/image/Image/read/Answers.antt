@@ -1,8 +1,18 @@
-use Rattle.elf_sections.proofs.Faultless.{no_fault, not_refused}
+use Rattle.std.proofs.Common.{inr}
+use Rattle.elf_sections.proofs.Faultless.{elf_whole, read_sound}
+use Rattle.elf_sections.proofs.Reaches.{read-wide}
 use Rattle.elf_sections.proofs.image.Image.read.Goals as goal
 
-pub returns-in-Ok-clause-faultless : goal.returns-in-Ok-clause-faultless
-returns-in-Ok-clause-faultless c = no_fault c.args.file.now c.args.reach c.in-Ok.ensures.read.1
+pub returns-in-Err-clause-refused : goal.returns-in-Err-clause-refused
+returns-in-Err-clause-refused c =
+    let sound = c.in_ok-table.ensures.sound in
+    inr (elf_whole c.args.file.now c.args.reach sound, rw c.in_ok-table.ensures.table at c.in-Err.ensures.fault sound.elf)
 
-pub returns-in-Ok-clause-unrefused : goal.returns-in-Ok-clause-unrefused
-returns-in-Ok-clause-unrefused c = not_refused c.args.file.now c.args.reach c.in-Ok.ensures.read.1
+pub invariant_of-result : goal.invariant_of-result
+invariant_of-result c =
+    let known = rw c.in_ok-table.ensures.table at c.in_default.ensures.known in
+    let read = read_sound c.args.file.now c.args.reach c.in_ok-table.ensures.sound known in
+    rw c.in_ok-table.ensures.table (read-wide c.args.file.now c.args.reach read)
+
+pub returns-clause-faultless : goal.returns-clause-faultless
+returns-clause-faultless c = elf_whole c.args.file.now c.args.reach c.in_ok-table.ensures.sound
