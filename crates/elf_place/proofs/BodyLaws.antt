@@ -1,5 +1,5 @@
 -- Laws of new bodies.
-use Rattle.std.proofs.Common.{◌≡◌, ◌≢◌, ◌<◌, ◌+◌, ℕ, zero, suc, List, [], ◌∷◌, true, false, eqb, Option, Some, None, length, get_or, take, set, refl, sym, ◌∙◌, ap, subst, arith, inl, inr}
+use Rattle.std.proofs.Common.{◌≡◌, ◌≢◌, ◌<◌, ◌+◌, ◌^◌, ◌⊎◌, ℕ, zero, suc, List, [], ◌∷◌, true, false, eqb, Option, Some, None, length, get_or, take, set, refl, sym, ◌∙◌, ap, subst, arith, inl, inr}
 use Rattle.std.specs.List.{All}
 use Rattle.std.proofs.lemmas.Bool.{cases_eq, eq-eqb, ne_eqb, cases_Bool}
 use Rattle.std.proofs.lemmas.List.{get_or-set_same, get_or-set_other, length-set, get_or-take, length-take-le}
@@ -57,4 +57,13 @@ body_after-kept file (new ∷ bodies) i none =
     elim (cases_Bool (eqb new.section i)) [
       | inl is ↦ let both = rw is at none in absurd (cc)
       | inr isnt ↦ let rest = rw isnt at none in rw isnt (body_after-kept file bodies i rest)
+    ]
+
+-- a section has few bytes, or keeps its own
+pub body_after-small : (file : List ℕ) (bodies : List NewBody) (i : ℕ) → All (λ (new : NewBody). length new.bytes.items < 2 ^ 32) bodies → (length (body_after file bodies i) < 2 ^ 32) ⊎ (body_after file bodies i ≡ body_of file i)
+body_after-small file [] i small = inr refl
+body_after-small file (new ∷ bodies) i small =
+    elim (cases_Bool (eqb new.section i)) [
+      | inl is ↦ rw is (inl (small zero new (omega arith)))
+      | inr isnt ↦ rw isnt (body_after-small file bodies i (λ k d lt. small (suc k) d (omega arith)))
     ]

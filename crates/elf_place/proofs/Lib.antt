@@ -5,6 +5,11 @@ pub mod Orders
 pub mod Placed
 pub mod Patches
 pub mod Chains
+pub mod Kept
 pub mod Ranges
+pub mod ReadAgain
 pub mod ReadLaws
+pub mod Sizes
+pub mod Stands
+pub mod Totals
 pub mod WriteLaws

@@ -15,6 +15,11 @@ use Rattle.elf_sections.specs.Elf.{section_count, is_movable, offset_of}
 use Rattle.elf_place.specs.Layout.{IsBefore, IsMovingOrder}
 use Rattle.elf_place.specs.Spots.{movable_among}
 
+-- no section stands before itself
+pub before-apart : (file : List ℕ) (i j : ℕ) → IsBefore file i j → i ≢ j
+before-apart file i j (inl less) = λ same. let offsets : offset_of file i ≡ offset_of file j = ap (offset_of file) same in absurd (omega arith)
+before-apart file i j (inr (tie, less)) = λ same. absurd (omega arith)
+
 -- a pair is that of a movable section among the first n
 pub record IsPlaceOf (file : List ℕ) (n : ℕ) (place : ℕ × ℕ) : Type 0 where
   pub inside : place.1 < n

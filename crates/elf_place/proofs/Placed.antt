@@ -13,7 +13,8 @@ use Rattle.elf_place.specs.Layout.{IsMovingOrder, IsLaidOut}
 use Rattle.elf_place.specs.Same.{SameImage}
 use Rattle.elf_place.specs.Spots.{IsChain, IsWritten}
 use Rattle.elf_place.proofs.BodyLaws.{body_after-Some, body_after-kept}
-use Rattle.elf_place.proofs.WriteLaws.{laid_out, keeps_loaded, keeps_headers, name_of-kept, moving-body, fixed-body, fixed_end_of-kept, is_movable-kept}
+use Rattle.elf_place.proofs.WriteLaws.{laid_out, keeps_loaded, keeps_headers, name_of-kept, moving-body, fixed-body, is_movable-kept}
+use Rattle.elf_place.proofs.Kept.{fixed_end_of-kept}
 
 pub record IsPlaced (file : List ℕ) (bodies : List NewBody) (new : List ℕ) : Type 0 where
   pub laid_out : IsLaidOut file (body_after file bodies) new
@@ -40,6 +41,6 @@ IsPlaced-from file bodies spots end new read some replaceable apart chain moving
       };
       news = λ k d lt. let may = replaceable k d lt in moving-body file bytes spots end new read some chain written moving _ may.inside may.moves ∙ body_after-Some file bodies _ k d apart lt refl;
       kept = kept;
-      fixed_end = fixed_end_of-kept file bytes spots end new read some chain written moving;
+      fixed_end = fixed_end_of-kept file new read some (keeps_loaded file bytes spots end new read some chain written moving) (keeps_headers file bytes spots end new read some chain written moving);
       movable = is_movable-kept file bytes spots end new read some chain written moving;
     }

@@ -58,6 +58,11 @@ module _ (file : List ℕ) (read : IsRead file Wide) (some : section_count file 
   pub segments_end-below : segments_end file ≤ fixed_end_of file
   segments_end-below = rw (fixed_end_of-some file some) (omega arith)
 
+  pub segment_end-below : (i : ℕ) → i < segment_count file → segment_end file i ≤ fixed_end_of file
+  segment_end-below i lt =
+      let above : segment_end file i ≤ greatest (segment_end file) (segment_count file) = greatest-above (segment_end file) (segment_count file) i lt in
+      rw (fixed_end_of-some file some) (omega (arith, above))
+
   -- a movable section is aligned to few bytes
   pub aligned : (i : ℕ) → i < section_count file → IsTrue (is_movable file i) → align_of file i ≤ 4096
   aligned i lt moves =

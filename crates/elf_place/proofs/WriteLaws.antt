@@ -1,22 +1,25 @@
 -- What a file that was written anew has in common with the one before, and where its parts stand.
-use Rattle.std.proofs.Common.{◌≡◌, ◌≢◌, ◌≤◌, ◌<◌, ◌+◌, ◌*◌, ◌++◌, ◌⊎◌, ℕ, zero, suc, max, List, [], ◌∷◌, Bool, true, false, cond, not, ◌&&◌, eqb, leb, length, get_or, take, map, refl, sym, ◌∙◌, ap, subst, arith, inl, inr}
-use Rattle.std.specs.Prelude.{IsTrue, IsFalse, slice_range, slice_index, bit_and}
+use Rattle.std.proofs.Common.{◌≡◌, ◌≢◌, ◌≤◌, ◌<◌, ◌+◌, ◌*◌, ◌++◌, ◌⊎◌, ℕ, List, Bool, true, false, not, ◌&&◌, eqb, leb, length, get_or, take, map, refl, sym, ◌∙◌, ap, subst, arith, inl, inr}
+use Rattle.std.specs.Prelude.{IsTrue, IsFalse, slice_range, slice_index}
 use Rattle.std.specs.List.{All, AllPairs}
-use Rattle.std.proofs.lemmas.Bool.{cases_Bool, cases_lt, and_parts, and_left, and_right, and_from, both_ways, le-leb, eqb-false, ne_eqb}
+use Rattle.std.proofs.lemmas.Bool.{cases_Bool, cases_lt, and_parts, and_from, both_ways, le-leb, eqb-false}
 use Rattle.std.proofs.lemmas.List.{length-take-le, length-append, get_or-take, get_or_append_left, get_or-append-add, get_or-map, length-map}
 use Rattle.dw_base.specs.declared.fault.Reach.TheVariants.{Wide}
 use Rattle.elf_sections.specs.Numbers.{number_at}
-use Rattle.elf_sections.specs.Elf.{section_count, header_at, segment_count, segments_at, segment_at, segments_end, segment_end, loaded_end, greatest, names_index, name_offset, fixed_end_of, offset_of, size_of, align_of, has_bytes, is_loaded, is_movable, body_of}
+use Rattle.elf_sections.specs.Elf.{section_count, header_at, names_index, name_offset, fixed_end_of, offset_of, size_of, has_bytes, is_loaded, is_movable, body_of}
 use Rattle.elf_sections.specs.Faults.{IsRead}
 use Rattle.elf_sections.specs.Names.{name_of, text_at}
 use Rattle.elf_place.specs.declared.spots.Spot.{Spot}
 use Rattle.elf_place.specs.Layout.{IsNextMultiple, IsMovingOrder, IsLaidOut, Stand}
 use Rattle.elf_place.specs.Same.{KeepsLoaded, KeepsHeaders}
 use Rattle.elf_place.specs.Spots.{IsChain, IsWritten, filled, laid, headers_of}
-use Rattle.elf_place.proofs.NumberLaws.{number_at-same, number_at-shift}
+use Rattle.elf_place.proofs.NumberLaws.{number_at-shift}
 use Rattle.elf_place.proofs.Ranges.{same_ranges, length-filled, filled-front, filled-gap, length-headers_of, get_or-headers_of}
 use Rattle.elf_place.proofs.Chains.{IsChain-longer, length-laid, laid-front, body_of-bytes, Tells, Stand-laid}
-use Rattle.elf_place.proofs.ReadLaws.{fixed_end_of-some, fixed_end-within, segments_end-below, segments-apart, fixed-inside, fixed-apart, greatest-same}
+use Rattle.elf_place.proofs.ReadLaws.{fixed_end-within, fixed-inside, fixed-apart}
+use Rattle.elf_place.proofs.Kept.{front-number, name_offset-kept, has_bytes-kept, is_loaded-kept, align-kept, fixed_end_of-kept}
+use Rattle.elf_place.proofs.Orders.{before-apart}
+use Rattle.elf_place.proofs.Stands.{Stand-within}
 
 abbrev pub section_in : Spot → ℕ
 section_in spot = spot.section
@@ -38,11 +41,7 @@ module _ (file : List ℕ) (spots : List Spot) (moving : IsMovingOrder file (map
       let first : get_or (map section_in spots) i 0 ≡ (get_or spots i d).section = get_or-map section_in spots i d 0 (omega arith) in
       let second : get_or (map section_in spots) j 0 ≡ (get_or spots j d).section = get_or-map section_in spots j d 0 lt in
       λ (e : (get_or spots i d).section ≡ (get_or spots j d).section).
-      let same : get_or (map section_in spots) i 0 ≡ get_or (map section_in spots) j 0 = first ∙ e ∙ sym second in
-      elim (moving.sorted i j 0 less (omega arith)) [
-        | inl before ↦ let offsets : offset_of file (get_or (map section_in spots) i 0) ≡ offset_of file (get_or (map section_in spots) j 0) = ap (offset_of file) same in absurd (omega arith)
-        | inr (tie, before) ↦ absurd (omega arith)
-      ]
+      before-apart file (get_or (map section_in spots) i 0) (get_or (map section_in spots) j 0) (moving.sorted i j 0 less (omega arith)) (first ∙ e ∙ sym second)
 
 -- the file before the places are written over
 module _ (file : List ℕ) (bytes : ℕ → List ℕ) (spots : List Spot) (end table : ℕ) (read : IsRead file Wide) (some : section_count file ≢ 0) (chain : IsChain file bytes (fixed_end_of file) spots end) (next : IsNextMultiple end 8 table) where
@@ -94,19 +93,6 @@ module _ (file : List ℕ) (bytes : ℕ → List ℕ) (spots : List Spot) (end t
       ap (λ (n : ℕ). slice_index whole (n + (64 * i + k))) (sym length-front)
       ∙ get_or-append-add (filled body table) (headers_of file (section_count file)) (64 * i + k) 0
       ∙ get_or-headers_of file (section_count file) i k table-inside lt low
-
--- a section of an order stands with its bytes
-Stand-body : (file : List ℕ) (bytes : ℕ → List ℕ) (order : List ℕ) (start end i k : ℕ) → Stand file bytes order start end → k < length order → get_or order k i ≡ i → body_of file i ≡ bytes i
-Stand-body file bytes [] start end i k stand lt is = absurd (omega arith)
-Stand-body file bytes (j ∷ order) start end i zero (here, rest) lt is = subst (λ (n : ℕ). body_of file n ≡ bytes n) is here.body
-Stand-body file bytes (j ∷ order) start end i (suc k) (here, rest) lt is = Stand-body file bytes order (offset_of file j + size_of file j) end i k rest (omega arith) is
-
--- a section of an order stands at the start or after it
-Stand-after : (file : List ℕ) (bytes : ℕ → List ℕ) (order : List ℕ) (start end i k : ℕ) → Stand file bytes order start end → k < length order → get_or order k i ≡ i → start ≤ offset_of file i
-Stand-after file bytes [] start end i k stand lt is = absurd (omega arith)
-Stand-after file bytes (j ∷ order) start end i zero (here, rest) lt is = subst (λ (n : ℕ). start ≤ offset_of file n) is here.place.from
-Stand-after file bytes (j ∷ order) start end i (suc k) (here, rest) lt is =
-    omega (arith, here.place.from, Stand-after file bytes order (offset_of file j + size_of file j) end i k rest (omega arith) is)
 
 -- the file after it
 module _ (file : List ℕ) (bytes : ℕ → List ℕ) (spots : List Spot) (end : ℕ) (new : List ℕ) (read : IsRead file Wide) (some : section_count file ≢ 0) (chain : IsChain file bytes (fixed_end_of file) spots end) (written : IsWritten file bytes spots end new) (moving : IsMovingOrder file (map section_in spots)) where
@@ -177,24 +163,11 @@ module _ (file : List ℕ) (bytes : ℕ → List ℕ) (spots : List Spot) (end :
       let second : header_at file i + (p + k) ≡ header_at file i + p + k = omega arith in
       ap (slice_index new) first ∙ same k lt ∙ ap (slice_index file) second)
 
-  number-kept : (n i p : ℕ) → i < section_count file → (p + n ≤ 24) ⊎ (40 ≤ p) → p + n ≤ 64 → number_at n (header_at new i + p) new ≡ number_at n (header_at file i + p) file
-  number-kept n i p lt place low =
-      number-from n i p (λ k inside. header-kept i (p + k) lt (elim place [ inl below ↦ inl (omega arith) | inr above ↦ inr (omega arith) ]) (omega arith))
-
   pub offset-kept : (i : ℕ) → i < section_count file → IsFalse (is_movable file i) → offset_of new i ≡ offset_of file i
   offset-kept i lt stays = number-from 8 i 24 (λ k inside. fixed-kept i (24 + k) lt stays (omega arith))
 
   pub size-kept : (i : ℕ) → i < section_count file → IsFalse (is_movable file i) → size_of new i ≡ size_of file i
   size-kept i lt stays = number-from 8 i 32 (λ k inside. fixed-kept i (32 + k) lt stays (omega arith))
-
-  has_bytes-kept : (i : ℕ) → i < section_count file → has_bytes new i ≡ has_bytes file i
-  has_bytes-kept i lt = ap (λ (kind : ℕ). not (eqb kind 0) && not (eqb kind 8)) (number-kept 4 i 4 lt (inl (omega arith)) (omega arith))
-
-  is_loaded-kept : (i : ℕ) → i < section_count file → is_loaded new i ≡ is_loaded file i
-  is_loaded-kept i lt = ap (λ (flags : ℕ). not (eqb (bit_and flags 2) 0)) (number-kept 8 i 8 lt (inl (omega arith)) (omega arith))
-
-  align-kept : (i : ℕ) → i < section_count file → align_of new i ≡ align_of file i
-  align-kept i lt = number-kept 8 i 48 lt (inr (omega arith)) (omega arith)
 
   -- the loaded bytes
   pub keeps_loaded : KeepsLoaded file new
@@ -203,12 +176,8 @@ module _ (file : List ℕ) (bytes : ℕ → List ℕ) (spots : List Spot) (end :
     bytes = λ k lt clear. low-same k (omega (arith, below-end, written.next.from)) clear ∙ start-byte file bytes spots end table read some chain written.next k lt;
   }
 
-  front-number : (n p : ℕ) → p + n ≤ fixed_end_of file → (p + n ≤ 40) ⊎ (48 ≤ p) → number_at n p new ≡ number_at n p file
-  front-number n p inside place =
-      number_at-same n p new file (λ k from to. keeps_loaded.bytes k (omega arith) (elim place [ inl below ↦ inl (omega arith) | inr above ↦ inr (omega arith) ]))
-
   pub count-kept : section_count new ≡ section_count file
-  count-kept = front-number 2 60 (omega (arith, fixed_end-large)) (inr (omega arith))
+  count-kept = front-number file new keeps_loaded 2 60 (omega (arith, fixed_end-large)) (inr (omega arith))
 
   pub keeps_headers : KeepsHeaders file new
   keeps_headers = record { count = count-kept; inside = λ _. omega (arith, length-new, written.patched.place); fields = header-kept; offsets = offset-kept; sizes = size-kept }
@@ -220,8 +189,8 @@ module _ (file : List ℕ) (bytes : ℕ → List ℕ) (spots : List Spot) (end :
       let i = (get_or spots k d).section in
       let full : has_bytes file i ≡ true = (and_parts (has_bytes file i) (not (is_loaded file i)) (and_parts (has_bytes file i && not (is_loaded file i)) (leb (fixed_end_of file) (offset_of file i)) moves.1).0).0 in
       record {
-        full = has_bytes-kept i moves.0 ∙ full;
-        align = align-kept i moves.0;
+        full = has_bytes-kept file new keeps_headers i moves.0 ∙ full;
+        align = align-kept file new keeps_headers i moves.0;
         offset = written.patched.offsets k d lt;
         size = written.patched.sizes k d lt;
       }
@@ -252,7 +221,7 @@ module _ (file : List ℕ) (bytes : ℕ → List ℕ) (spots : List Spot) (end :
   pub moving-body : (i : ℕ) → i < section_count file → IsTrue (is_movable file i) → body_of new i ≡ bytes i
   moving-body i lt moves =
       let among = (moving.movable i).1 (lt, moves) in
-      Stand-body new bytes (map section_in spots) (fixed_end_of file) end i among.0 stand among.1 among.2
+      (Stand-within new bytes (map section_in spots) (fixed_end_of file) end i among.0 stand among.1 among.2).body
 
   pub fixed-body : (i : ℕ) → i < section_count file → IsFalse (is_movable file i) → body_of new i ≡ body_of file i
   fixed-body i lt stays =
@@ -264,18 +233,18 @@ module _ (file : List ℕ) (bytes : ℕ → List ℕ) (spots : List Spot) (end :
             let part : slice_range new (offset_of file i) (offset_of file i + size_of file i) ≡ slice_range file (offset_of file i) (offset_of file i + size_of file i) =
             same_ranges new file (offset_of file i) (offset_of file i + size_of file i) (omega arith) (omega (arith, keeps_loaded.inside)) (omega (arith, (fixed_end-within file read some).1))
             (λ k low high. keeps_loaded.bytes k (omega arith) (fixed-apart file read some i k lt full low high)) in
-            body_of-bytes new i (has_bytes-kept i lt ∙ full)
+            body_of-bytes new i (has_bytes-kept file new keeps_headers i lt ∙ full)
             ∙ ap (λ (n : ℕ). slice_range new n (n + size_of new i)) from ∙ ap (λ (n : ℕ). slice_range new (offset_of file i) (offset_of file i + n)) size
             ∙ part ∙ sym (body_of-bytes file i full)
         | inr empty ↦
-            let none : has_bytes new i ≡ false = has_bytes-kept i lt ∙ empty in
+            let none : has_bytes new i ≡ false = has_bytes-kept file new keeps_headers i lt ∙ empty in
             rw (none, empty) refl
       ]
 
   -- the names
   pub name_of-kept : (names_index file ≢ 0 → body_of new (names_index file) ≡ body_of file (names_index file)) → (i : ℕ) → i < section_count file → name_of new i ≡ name_of file i
   name_of-kept kept i lt =
-      let index : names_index new ≡ names_index file = front-number 2 62 (omega (arith, fixed_end-large)) (inr (omega arith)) in
+      let index : names_index new ≡ names_index file = front-number file new keeps_loaded 2 62 (omega (arith, fixed_end-large)) (inr (omega arith)) in
       elim (cases_Bool (eqb (names_index file) 0)) [
         | inl none ↦
             let none_new : eqb (names_index new) 0 ≡ true = ap (λ (n : ℕ). eqb n 0) index ∙ none in
@@ -283,76 +252,28 @@ module _ (file : List ℕ) (bytes : ℕ → List ℕ) (spots : List Spot) (end :
         | inr named ↦
             let named_new : eqb (names_index new) 0 ≡ false = ap (λ (n : ℕ). eqb n 0) index ∙ named in
             let names : body_of new (names_index new) ≡ body_of file (names_index file) = ap (body_of new) index ∙ kept (eqb-false (names_index file) 0 named) in
-            let zero_place : (f : List ℕ) → header_at f i + 0 ≡ header_at f i = λ f. omega arith in
-            let offset : name_offset new i ≡ name_offset file i = ap (λ (n : ℕ). number_at 4 n new) (sym (zero_place new)) ∙ number-kept 4 i 0 lt (inl (omega arith)) (omega arith) ∙ ap (λ (n : ℕ). number_at 4 n file) (zero_place file) in
+            let offset : name_offset new i ≡ name_offset file i = name_offset-kept file new keeps_headers i lt in
             rw (named_new, named) (ap (λ (b : List ℕ). text_at b (name_offset new i)) names ∙ ap (text_at (body_of file (names_index file))) offset)
       ]
-
-  -- the fixed end
-  segment_count-kept : segment_count new ≡ segment_count file
-  segment_count-kept = front-number 2 56 (omega (arith, fixed_end-large)) (inr (omega arith))
-
-  segments_at-kept : segments_at new ≡ segments_at file
-  segments_at-kept = front-number 8 32 (omega (arith, fixed_end-large)) (inl (omega arith))
-
-  segment-number : (i p : ℕ) → i < segment_count file → p + 8 ≤ 56 → number_at 8 (segment_at new i + p) new ≡ number_at 8 (segment_at file i + p) file
-  segment-number i p lt low =
-      let present : segment_count file ≢ 0 = λ e. omega arith in
-      let is : segments_end file ≡ segment_at file (segment_count file) = rw (ne_eqb (segment_count file) 0 present) refl in
-      let below = segments_end-below file read some in
-      number_at-shift 8 (segment_at new i + p) (segment_at file i + p) new file (λ k inside.
-      let e : segment_at new i + p + k ≡ segment_at file i + p + k = omega (arith, segments_at-kept) in
-      ap (slice_index new) e ∙ keeps_loaded.bytes (segment_at file i + p + k) (omega (arith, is, below)) (segments-apart file read some (segment_at file i + p + k) present (omega arith) (omega (arith, is))))
-
-  segment_end-kept : (i : ℕ) → i < segment_count file → segment_end new i ≡ segment_end file i
-  segment_end-kept i lt =
-      let offset = segment-number i 8 lt (omega arith) in
-      let size = segment-number i 32 lt (omega arith) in
-      ap (λ (n : ℕ). n + number_at 8 (segment_at new i + 32) new) offset ∙ ap (λ (n : ℕ). number_at 8 (segment_at file i + 8) file + n) size
-
-  loaded_end-kept : (i : ℕ) → i < section_count file → loaded_end new i ≡ loaded_end file i
-  loaded_end-kept i lt =
-      elim (cases_Bool (is_loaded file i)) [
-        | inl loaded ↦
-            let stays : is_movable file i ≡ false = and_left (has_bytes file i && not (is_loaded file i)) (leb (fixed_end_of file) (offset_of file i)) (and_right (has_bytes file i) (not (is_loaded file i)) (ap not loaded)) in
-            let loaded_new : is_loaded new i ≡ true = is_loaded-kept i lt ∙ loaded in
-            let sum : offset_of new i + size_of new i ≡ offset_of file i + size_of file i = omega (arith, offset-kept i lt stays, size-kept i lt stays) in
-            rw (loaded_new, loaded) (ap (λ (b : Bool). cond b (offset_of new i + size_of new i) 0) (has_bytes-kept i lt) ∙ ap (λ (n : ℕ). cond (has_bytes file i) n 0) sum)
-        | inr unloaded ↦
-            let unloaded_new : is_loaded new i ≡ false = is_loaded-kept i lt ∙ unloaded in
-            rw (unloaded_new, unloaded) refl
-      ]
-
-  pub fixed_end_of-kept : fixed_end_of new ≡ fixed_end_of file
-  fixed_end_of-kept =
-      let some_new : section_count new ≢ 0 = λ e. some (sym count-kept ∙ e) in
-      let ends : segments_end new ≡ segments_end file =
-      ap (λ (c : ℕ). cond (eqb c 0) 0 (segments_at new + 56 * c)) segment_count-kept ∙ ap (λ (a : ℕ). cond (eqb (segment_count file) 0) 0 (a + 56 * segment_count file)) segments_at-kept in
-      let segments : greatest (segment_end new) (segment_count new) ≡ greatest (segment_end file) (segment_count file) =
-      ap (greatest (segment_end new)) segment_count-kept ∙ greatest-same (segment_end new) (segment_end file) (segment_count file) segment_end-kept in
-      let sections : greatest (loaded_end new) (section_count new) ≡ greatest (loaded_end file) (section_count file) =
-      ap (greatest (loaded_end new)) count-kept ∙ greatest-same (loaded_end new) (loaded_end file) (section_count file) loaded_end-kept in
-      fixed_end_of-some new some_new
-      ∙ ap (λ (n : ℕ). max (max 64 n) (max (greatest (segment_end new) (segment_count new)) (greatest (loaded_end new) (section_count new)))) ends
-      ∙ ap (λ (n : ℕ). max (max 64 (segments_end file)) (max n (greatest (loaded_end new) (section_count new)))) segments
-      ∙ ap (λ (n : ℕ). max (max 64 (segments_end file)) (max (greatest (segment_end file) (segment_count file)) n)) sections
-      ∙ sym (fixed_end_of-some file some)
 
   -- the same sections may move again
   pub is_movable-kept : (i : ℕ) → i < section_count file → is_movable new i ≡ is_movable file i
   is_movable-kept i lt =
+      let full_kept : has_bytes new i ≡ has_bytes file i = has_bytes-kept file new keeps_headers i lt in
+      let loaded_kept : is_loaded new i ≡ is_loaded file i = is_loaded-kept file new keeps_headers i lt in
+      let end_kept : fixed_end_of new ≡ fixed_end_of file = fixed_end_of-kept file new read some keeps_loaded keeps_headers in
       elim (cases_Bool (is_movable file i)) [
         | inl moves ↦
             let outer = and_parts (has_bytes file i && not (is_loaded file i)) (leb (fixed_end_of file) (offset_of file i)) moves in
             let inner = and_parts (has_bytes file i) (not (is_loaded file i)) outer.0 in
             let among = (moving.movable i).1 (lt, moves) in
-            let after : fixed_end_of file ≤ offset_of new i = Stand-after new bytes (map section_in spots) (fixed_end_of file) end i among.0 stand among.1 among.2 in
-            let last : leb (fixed_end_of new) (offset_of new i) ≡ true = le-leb (fixed_end_of new) (offset_of new i) (omega (arith, fixed_end_of-kept)) in
+            let after : fixed_end_of file ≤ offset_of new i = (Stand-within new bytes (map section_in spots) (fixed_end_of file) end i among.0 stand among.1 among.2).from in
+            let last : leb (fixed_end_of new) (offset_of new i) ≡ true = le-leb (fixed_end_of new) (offset_of new i) (omega (arith, end_kept)) in
             and_from (has_bytes new i && not (is_loaded new i)) (leb (fixed_end_of new) (offset_of new i))
-            (and_from (has_bytes new i) (not (is_loaded new i)) (has_bytes-kept i lt ∙ inner.0) (ap not (is_loaded-kept i lt) ∙ inner.1)) last ∙ sym moves
+            (and_from (has_bytes new i) (not (is_loaded new i)) (full_kept ∙ inner.0) (ap not loaded_kept ∙ inner.1)) last ∙ sym moves
         | inr stays ↦
-            ap (λ (b : Bool). b && not (is_loaded new i) && leb (fixed_end_of new) (offset_of new i)) (has_bytes-kept i lt)
-            ∙ ap (λ (b : Bool). has_bytes file i && not b && leb (fixed_end_of new) (offset_of new i)) (is_loaded-kept i lt)
-            ∙ ap (λ (n : ℕ). has_bytes file i && not (is_loaded file i) && leb n (offset_of new i)) fixed_end_of-kept
+            ap (λ (b : Bool). b && not (is_loaded new i) && leb (fixed_end_of new) (offset_of new i)) full_kept
+            ∙ ap (λ (b : Bool). has_bytes file i && not b && leb (fixed_end_of new) (offset_of new i)) loaded_kept
+            ∙ ap (λ (n : ℕ). has_bytes file i && not (is_loaded file i) && leb n (offset_of new i)) end_kept
             ∙ ap (λ (n : ℕ). has_bytes file i && not (is_loaded file i) && leb (fixed_end_of file) n) (offset-kept i lt stays)
       ]

@@ -1,5 +1,5 @@
 -- New bodies for sections, and the body that a section has after them.
-use Rattle.std.specs.Prelude.{◌≡◌, ◌≢◌, ◌<◌, ℕ, Option, Some, None, slice_index_or, List, [], ◌∷◌, Bool, false, ◌==◌, ◌||◌, if◌then◌else◌, length, IsTrue, IsFalse}
+use Rattle.std.specs.Prelude.{◌≡◌, ◌≢◌, ◌≤◌, ◌<◌, ◌*◌, ◌^◌, ℕ, Option, Some, None, slice_index_or, List, [], ◌∷◌, Bool, false, ◌==◌, ◌||◌, if◌then◌else◌, length, IsTrue, IsFalse}
 use Rattle.std.specs.List.{All, AllPairs, sum_by}
 use Rattle.elf_sections.specs.Elf.{section_count, names_index, is_movable, body_of}
 use Rattle.elf_place.specs.declared.bodies.NewBody.{NewBody}
@@ -30,6 +30,11 @@ AreApart = AllPairs (λ one other. one.section ≢ other.section)
 -- how many bytes all of them have
 abbrev pub bytes_of : List NewBody → ℕ
 bytes_of = sum_by (λ (new : NewBody). length new.bytes.items)
+
+-- few bytes: each body has fewer than 2 ^ 32 bytes, and all of them together no more than five such
+pub record AreSmall (bodies : List NewBody) : Type 0 where
+  pub each : All (λ (new : NewBody). length new.bytes.items < 2 ^ 32) bodies
+  pub all : bytes_of bodies ≤ 5 * 2 ^ 32
 
 -- which of the bodies is for a section
 abbrev pub IsFor : List NewBody → ℕ → Option ℕ → Type 0

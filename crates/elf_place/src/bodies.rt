@@ -16,7 +16,7 @@ pub struct NewBody {
     pub bytes: Vec<u8>,
 }
 
-// For each section below a count, which of the bodies is for it.
+/// For each section below a count, which of the bodies is for it.
 pub fn table_of(
     alloc: Global,
     count: u32,
@@ -33,7 +33,7 @@ pub fn table_of(
     Ok(table)
 }
 
-// The body of a section after the new ones.
+/// The body of a section after the new ones.
 pub fn body_of<'a>(
     image: &'a Image<'_>,
     bodies: &'a [NewBody],

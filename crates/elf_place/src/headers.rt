@@ -10,7 +10,7 @@ use crate::spots::Spot;
 use dw_base::NoMemory;
 use elf_sections::Image;
 
-// Adds the section headers as they are.
+/// Adds the section headers as they are.
 pub fn push_headers(out: &mut Vec<u8>, image: &Image<'_>) -> Result<(), NoMemory>
     ensures { OnOk result (out.new.items ≡ out.old.items ++ headers_of image.now (section_count image.now)) }
 {
@@ -36,7 +36,7 @@ fn put_spots(file: &mut [u8], table: usize, spots: &[Spot])
     }
 }
 
-// Writes where the header table and these spots are.
+/// Writes where the header table and these spots are.
 pub fn put_places(file: &mut [u8], table: usize, spots: &[Spot])
     requires low { 48 ≤ table }
     requires header { 64 ≤ length file.old }

@@ -4,6 +4,7 @@ ghost use Rattle.elf_sections.specs.Numbers.{number_at};
 
 use byteorder::{ByteOrder, LittleEndian};
 
+/// Writes a number over the eight bytes from a place on.
 pub fn put_u64(file: &mut [u8], at: usize, value: u64)
     requires { at + 8 ≤ length file.old }
     ensures written { number_at 8 at file.new ≡ value }

@@ -1,8 +1,10 @@
 // A file written anew.
 ghost use Rattle.std.specs.Prelude.{◌≡◌, ◌≢◌, ◌≤◌, ◌<◌, ◌+◌, ◌*◌, ◌++◌, ◌^◌, ℕ, length, map, IfOk, OnOk, IsFalse};
 ghost use Rattle.std.specs.List.{All, AllPairs};
+ghost use Rattle.dw_base.specs.declared.fault.Reach.TheVariants.{Narrow, Wide};
 ghost use Rattle.elf_sections.specs.Elf.{section_count, fixed_end_of, body_of, is_movable};
-ghost use Rattle.elf_place.specs.Bodies.{AreApart, body_after, has_new_body, bytes_of, IsReplaceable, IsTable, KeepsNames};
+ghost use Rattle.elf_sections.specs.Faults.{IsRead};
+ghost use Rattle.elf_place.specs.Bodies.{AreApart, AreSmall, body_after, has_new_body, bytes_of, IsReplaceable, IsTable, KeepsNames};
 ghost use Rattle.elf_place.specs.Layout.{IsLaidOut};
 ghost use Rattle.elf_place.specs.Same.{SameImage};
 ghost use Rattle.elf_place.specs.Spots.{IsChain, IsWritten, filled, laid};
@@ -84,8 +86,12 @@ fn write_out(
 /// zeros between them. The section header table follows at the next multiple of 8, and ends the file. A section that is
 /// given no new body keeps the one that it has, and a file without sections is copied as it is.
 ///
-/// Where the section that holds the names (e_shstrndx) is given a new body, the names are those that stand in it. All
-/// memory is taken before the first byte is copied. `NoMemory` is the only error, and comes where that memory is wanting.
+/// Where the section that holds the names (e_shstrndx) is given a new body, the names are those that stand in it. Where it
+/// is given none, the file is within the narrow limits, and the bodies have fewer than 2^32 bytes each and no more than
+/// 5 * 2^32 together, the new file has no fault under the wide limits.
+///
+/// All memory is taken before the first byte is copied. `NoMemory` is the only error, and comes where that memory is
+/// wanting.
 pub fn place(alloc: Global, image: &Image<'_>, bodies: &Vec<NewBody>) -> Result<Vec<u8>, NoMemory>
     requires movable { All (λ new. IsReplaceable image.now new.section) bodies.now.items }
     requires apart { AreApart bodies.now.items }
@@ -97,6 +103,7 @@ pub fn place(alloc: Global, image: &Image<'_>, bodies: &Vec<NewBody>) -> Result<
     ensures kept { IfOk result (λ out. (i : ℕ) → i < section_count image.now → IsFalse (has_new_body bodies.now.items i) → body_of out.items i ≡ body_of image.now i) }
     ensures fixed_end { IfOk result (λ out. section_count image.now ≢ 0 → fixed_end_of out.items ≡ fixed_end_of image.now) }
     ensures still_movable { IfOk result (λ out. (i : ℕ) → i < section_count image.now → is_movable out.items i ≡ is_movable image.now i) }
+    ensures read { IfOk result (λ out. IsRead image.now Narrow → KeepsNames image.now bodies.now.items → AreSmall bodies.now.items → IsRead out.items Wide) }
 {
     let file = image.whole();
     if image.count() == 0 {

@@ -25,7 +25,7 @@ pub struct Plan {
     pub end: u64,
 }
 
-// The next multiple of an alignment, where 0 counts as 1.
+/// The next multiple of an alignment, where 0 counts as 1.
 pub fn next_multiple(start: u64, align: u64) -> u64
     requires low { start ≤ 2 ^ 62 }
     requires small { align ≤ 4096 }
@@ -35,7 +35,7 @@ pub fn next_multiple(start: u64, align: u64) -> u64
     start.next_multiple_of(align.max(1))
 }
 
-// Places the sections of an order one after the other, from the fixed end on.
+/// Places the sections of an order one after the other, from the fixed end on.
 pub fn plan_spots(
     alloc: Global,
     image: &Image<'_>,

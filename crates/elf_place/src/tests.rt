@@ -77,6 +77,11 @@ fn sections_are_placed(rt: HostRuntime) -> Result<(), NoMemory> {
         return Err(NoMemory);
     }
     let bytes = Vec::from_slice(alloc, b"e\0")?;
-    assert_eq!(rt; with_body(alloc, &old, bytes)?.as_slice(), NEW.as_slice());
+    let new = with_body(alloc, &old, bytes)?;
+    assert_eq!(rt; new.as_slice(), NEW.as_slice());
+    let Ok(again) = Image::read(alloc, &new, Reach::Wide) else {
+        return Err(NoMemory);
+    };
+    assert_eq!(rt; (again.count(), again.find(b".debug_str")), (3, Some(1)));
     Ok(())
 }

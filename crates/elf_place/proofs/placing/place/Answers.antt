@@ -9,6 +9,7 @@ use Rattle.elf_place.specs.Layout.{IsMovingOrder}
 use Rattle.elf_place.specs.Spots.{IsChain, IsWritten}
 use Rattle.elf_place.specs.declared.spots.Spot.{Spot}
 use Rattle.elf_place.proofs.Placed.{IsPlaced, IsPlaced-from}
+use Rattle.elf_place.proofs.ReadAgain.{IsRead-again}
 use Rattle.elf_place.proofs.WriteLaws.{spots-inside, spots-apart}
 use Rattle.elf_place.proofs.ReadLaws.{aligned, length-body_after, fixed_end-within}
 use Rattle.elf_place.proofs.placing.place.Goals as goal
@@ -81,3 +82,10 @@ returns-clause-fixed_end c = IfOk-weaker c.write_out.result _ _ (λ out placed s
 
 pub returns-clause-still_movable : goal.returns-clause-still_movable
 returns-clause-still_movable c = IfOk-weaker c.write_out.result _ _ (λ out placed. placed.movable) (facts c)
+
+pub returns-clause-read : goal.returns-clause-read
+returns-clause-read c =
+    let image = c.args.image.now in
+    let bodies = c.args.bodies.now.items in
+    let some : section_count image ≢ 0 = omega arith in
+    IfOk-weaker c.write_out.result _ _ (λ out placed narrow keeps few. IsRead-again image out.items bodies c.whole-file.ensures.read some placed keeps narrow few) (facts c)
