@@ -15,7 +15,8 @@ use Rattle.line_machine.specs.declared.registers.Registers.{Registers}
 use Rattle.line_machine.specs.declared.registers.Row.{Row}
 use Rattle.line_machine.specs.Opcodes.{SpellsOpcode}
 use Rattle.line_machine.specs.Rows.{start, after, row_of, rows_in, with_row, rows_from, registers_after, IsSound, AreSound, ends}
-use Rattle.line_machine.specs.Faults.{FaultOpcode, FaultWithin, OpcodesFault, ProgramFault, IsFaultOf, IsOutOfRange, IsOpen}
+use Rattle.line_machine.specs.Faults.{FaultOpcode, FaultWithin, OpcodesFault, ProgramFault, IsOutOfRange, IsOpen}
+use Rattle.dw_base.specs.Refusals.{IsFaultOf}
 use Rattle.line_machine.specs.Heads.{IsHead, program_of}
 use Rattle.line_machine.specs.Cursors.{Passed, PassesOn, IsNear, Stands, FaultHere, FaultAhead, NextFault, at_start}
 use Rattle.line_machine.proofs.Parts.{take_sum}

@@ -12,7 +12,8 @@ use Rattle.line_machine.specs.declared.registers.Row.{Row}
 use Rattle.line_machine.specs.Opcodes.{SpellsOpcode, IsBase}
 use Rattle.line_machine.specs.Rows.{start, after, rows_from, registers_after, IsSound, AreSound, ends, GivesRows}
 use Rattle.line_machine.specs.Heads.{IsHead, program_of}
-use Rattle.line_machine.specs.Faults.{FaultOpcode, IsOutOfRange, IsOpen, IsLong, ProgramFault, IsFaulty, row_limit}
+use Rattle.line_machine.specs.Faults.{FaultOpcode, IsOutOfRange, IsOpen, IsLong, ProgramFault, row_limit}
+use Rattle.dw_base.specs.Refusals.{IsFaulty}
 use Rattle.line_machine.proofs.Unique.{opcodes_unique, opcodes_filled}
 use Rattle.line_machine.proofs.Sound.{opcodes_whole}
 use Rattle.line_machine.proofs.Passing.{rows_append}

@@ -1,6 +1,6 @@
 -- The class of line number programs that give the rows of one: all byte strings, under all pairs of line_base and
 -- line_range, with the opcode_base 13 and the other fields of one head (DWARF 5 section 6.2.4), whose rows are these.
-use Rattle.std.specs.Prelude.{◌≡◌, ◌≤◌, ◌<◌, ◌^◌, ◌⊎◌, ℕ, ℤ, pos, neg_ℤ, ◌≤ℤ◌, List, length, Bool, true, false, All}
+use Rattle.std.specs.Prelude.{◌≡◌, ◌≤◌, ◌<◌, ◌^◌, ◌⊎◌, ℕ, ℤ, pos, neg_ℤ, ◌≤ℤ◌, List, length, true, false, All}
 use Rattle.leb_codec.specs.Least.{IsLeast}
 use Rattle.line_machine.specs.declared.head.Head.{Head}
 use Rattle.line_machine.specs.declared.registers.Row.{Row}

@@ -11,7 +11,8 @@ use Rattle.line_machine.specs.declared.place.Place.{Place}
 use Rattle.line_machine.specs.Opcodes.{SpellsOpcode}
 use Rattle.line_machine.specs.Rows.{start, rows_from, rows_in, registers_after, IsSound, AreSound, ends}
 use Rattle.line_machine.specs.Heads.{IsHead, program_of}
-use Rattle.line_machine.specs.Faults.{FaultOpcode, OpcodesFault, IsFaultOf}
+use Rattle.line_machine.specs.Faults.{FaultOpcode, OpcodesFault}
+use Rattle.dw_base.specs.Refusals.{IsFaultOf}
 
 -- The opcodes, joined, are the program's bytes before a place; their values are in range; the registers are those
 -- after them, and whether a sequence has ended is what their rows say.

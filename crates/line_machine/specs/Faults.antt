@@ -3,10 +3,7 @@ use Rattle.std.specs.Prelude.{◌≡◌, ◌≢◌, ◌<◌, ◌+◌, ◌^◌, �
 use Rattle.spelled.specs.Spelled.{Joined, StandsAt, FaultUntilEnd}
 use Rattle.leb_codec.specs.Leb.{Uleb, IsLeb, IsShort, IsWideUnsigned, IsWideSigned}
 use Rattle.dw_base.specs.declared.fault.Kind.{Kind}
-use Rattle.dw_base.specs.declared.fault.Kind.TheVariants.{Limit, LebWide, Short, LineHead, LineOp, OpenSequence, LineValue, Unbuilt}
-use Rattle.dw_base.specs.declared.fault.Fault.{Fault}
-use Rattle.dw_base.specs.declared.fault.Refusal.{Refusal}
-use Rattle.dw_base.specs.declared.fault.Refusal.TheVariants.{Refused, NoMemory}
+use Rattle.dw_base.specs.declared.fault.Kind.TheVariants.{Limit, LebWide, Short, LineHead, LineOp, OpenSequence, LineValue}
 use Rattle.line_machine.specs.declared.head.Head.{Head}
 use Rattle.line_machine.specs.declared.opcode.Opcode.{Opcode}
 use Rattle.line_machine.specs.Opcodes.{SpellsOpcode}
@@ -108,20 +105,3 @@ HeadFault section at _ place = ⊥
 -- The line number program whose unit stands at a place has a fault. Places count from the section's first byte.
 abbrev pub LineFault : List ℕ → ℕ → Kind → ℕ → Type 0
 LineFault section at kind place = HeadFault section at kind place ⊎ (HasHead section at × ProgramFault section (head_at section at) kind place)
-
--- The fault is one of the kinds and places that are said, where `origin` is the file offset of the section's first byte.
-abbrev pub IsFaultOf : (Kind → ℕ → Type 0) → ℕ → Fault → Type 0
-IsFaultOf holds origin fault = (place : ℕ) × (fault.place ≡ origin + place) × holds fault.kind place
-
--- some fault holds
-abbrev pub IsFaulty : (Kind → ℕ → Type 0) → Type 0
-IsFaulty holds = (kind : Kind) × (place : ℕ) × holds kind place
-
--- Until faults are told apart, each is answered as this one.
-abbrev pub IsUnbuilt : Fault → Type 0
-IsUnbuilt fault = (fault.kind ≡ Unbuilt) × (fault.place ≡ 0)
-
--- memory was wanting, or a fault is refused that holds
-abbrev pub IsRefusedFor : (Fault → Type 0) → Refusal → Type 0
-IsRefusedFor holds (Refused fault) = holds fault
-IsRefusedFor holds NoMemory = Unit {0}

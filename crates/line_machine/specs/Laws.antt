@@ -6,7 +6,8 @@ use Rattle.line_machine.specs.declared.registers.Row.{Row}
 use Rattle.line_machine.specs.Opcodes.{SpellsOpcode, IsBase}
 use Rattle.line_machine.specs.Rows.{GivesRows}
 use Rattle.line_machine.specs.Heads.{program_of}
-use Rattle.line_machine.specs.Faults.{FaultOpcode, ProgramFault, IsFaulty, row_limit}
+use Rattle.line_machine.specs.Faults.{FaultOpcode, ProgramFault, row_limit}
+use Rattle.dw_base.specs.Refusals.{IsFaulty}
 
 -- An opcode's bytes end by themselves: none begins another, and bytes spell one opcode.
 abbrev pub OpcodesEnd : Type 0

@@ -1,5 +1,5 @@
 -- The registers of the line number machine (DWARF 5 section 6.2.2), what its opcodes do to them, and the rows that they give.
-use Rattle.std.specs.Prelude.{◌≡◌, ◌<◌, ◌+◌, ◌-◌, ◌*◌, ◌/◌, ◌%◌, ◌^◌, ℕ, ℤ, pos, ◌+ℤ◌, ◌≤ℤ◌, ◌<ℤ◌, nat_abs, List, [], ◌∷◌, Bool, true, false, not, Option, Some, None, ⊤}
+use Rattle.std.specs.Prelude.{◌≡◌, ◌<◌, ◌+◌, ◌-◌, ◌*◌, ◌/◌, ◌%◌, ◌^◌, ℕ, ℤ, pos, ◌+ℤ◌, ◌≤ℤ◌, ◌<ℤ◌, nat_abs, List, [], ◌∷◌, length, Bool, true, false, not, Option, Some, None, ⊤}
 use Rattle.spelled.specs.Spelled.{Joined}
 use Rattle.line_machine.specs.declared.head.Head.{Head}
 use Rattle.line_machine.specs.declared.registers.Registers.{Registers}
@@ -148,3 +148,7 @@ pub record GivesRows (head : Head) (bytes : List ℕ) (rows : List Row) : Type 0
   pub sound : AreSound head (start head.stmt) opcodes
   pub given : rows ≡ rows_from head (start head.stmt) opcodes
   pub ended : ends true rows ≡ true
+
+-- The bytes are a line number program that gives so many rows.
+abbrev pub HasRows : Head → List ℕ → ℕ → Type 0
+HasRows head bytes count = (rows : List Row) × GivesRows head bytes rows × (length rows ≡ count)

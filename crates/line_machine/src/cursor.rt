@@ -1,10 +1,10 @@
 // The rows of a program, one after the other.
-ghost use Rattle.std.specs.Prelude.{◌≡◌, ◌<◌, ◌+◌, ◌^◌, ℕ, List, length, Option, None, IfOk, IfErr, IfSome, IsErr, IsSomeAnd};
+ghost use Rattle.std.specs.Prelude.{◌≡◌, ◌<◌, ◌+◌, ◌^◌, ℕ, List, length, Option, Some, None, Err, IfOk, IfErr, IfSome};
 ghost use Rattle.line_machine.specs.Heads.{IsHead};
-ghost use Rattle.line_machine.specs.Faults.{OpcodesFault, IsFaultOf, IsUnbuilt};
+ghost use Rattle.line_machine.specs.Faults.{OpcodesFault};
+ghost use Rattle.dw_base.specs.Refusals.{IsFaultOf};
 ghost use Rattle.line_machine.specs.Cursors.{Stands, Answers, NextFault, at_start};
 
-use crate::fault::unbuilt;
 use crate::head::Head;
 use crate::place::{Place, next_row};
 use crate::registers::Row;
@@ -51,10 +51,19 @@ impl Cursor {
     /// The next row of the program, or `None` at its end (DWARF 5 section 6.2). `section` has the same
     /// bytes at every call: those from which the head was read.
     ///
-    /// `None` comes exactly at the end of a program that has no row or whose last row ends a sequence. A
-    /// program that ends otherwise, an opcode that has a fault, and a row's line or a product of an
-    /// advance_pc that is out of range are refused as `Unbuilt` at 0; after that each call refuses
-    /// the same, and the cursor stays where it is. No memory.
+    /// `None` comes exactly at the end of a program that has no row or whose last row ends a sequence. A fault
+    /// that stands before the next row, or before the program's end, is answered instead, and after that each call
+    /// answers the same fault, and the cursor stays where it is:
+    /// - `Short`: an opcode or its operand ends past the program; at the extended opcode that does, or else at the
+    ///   LEB128 or the number that does.
+    /// - `LebWide`: a LEB128 doesn't fit 64 bits; at its first byte.
+    /// - `LineOp`: an extended opcode has the length 0, has a code that isn't 1, 2 or 4, or its length isn't that of
+    ///   its code and operand (DWARF 5 section 6.2.5.3); at its byte 0.
+    /// - `LineValue`: a row's line is below 0 or 2^32 or more, or the product of an advance_pc 2^64 or more; at
+    ///   the opcode.
+    /// - `OpenSequence`: the program ends, and its last row doesn't end a sequence; at the program's unit.
+    ///
+    /// No memory.
     pub fn next(&mut self, section: &[u8]) -> Result<Option<Row>, Fault>
         requires stands { Stands section.now self.old }
         requires room { self.old.origin + length section.now < 2 ^ 64 }
@@ -63,14 +72,14 @@ impl Cursor {
         ensures origin { self.new.origin ≡ self.old.origin }
         ensures row { IfOk result (λ row. Answers section.now self.old self.new row) }
         ensures going { IfOk result (λ _. (self.old.stopped ≡ None) × (self.new.stopped ≡ None)) }
-        ensures unbuilt { IfErr result IsUnbuilt }
-        ensures fault { IfErr result (λ _. IsSomeAnd self.new.stopped (IsFaultOf (OpcodesFault section.now self.old.head) self.old.origin)) }
-        ensures reached { IfErr result (λ _. self.old.stopped ≡ None → IsSomeAnd self.new.stopped (IsFaultOf (NextFault section.now self.old.head self.old.place) self.old.origin)) }
+        ensures fault { IfErr result (IsFaultOf (OpcodesFault section.now self.old.head) self.old.origin) }
+        ensures reached { IfErr result (λ fault. self.old.stopped ≡ None → IsFaultOf (NextFault section.now self.old.head self.old.place) self.old.origin fault) }
+        ensures stopped { IfErr result (λ fault. self.new.stopped ≡ Some fault) }
         ensures stays { IfErr result (λ _. self.new.place ≡ self.old.place) }
-        ensures again { IfSome self.old.stopped (λ _. IsErr result × (self.new ≡ self.old)) }
+        ensures again { IfSome self.old.stopped (λ fault. (result ≡ Err fault) × (self.new ≡ self.old)) }
     {
         if let Some(fault) = self.stopped {
-            return Err(unbuilt(fault));
+            return Err(fault);
         }
         match next_row(section, &self.head, self.origin, self.place) {
             Ok(step) => {
@@ -79,7 +88,7 @@ impl Cursor {
             }
             Err(fault) => {
                 self.stopped = Some(fault);
-                Err(unbuilt(fault))
+                Err(fault)
             }
         }
     }

@@ -1,9 +1,7 @@
 // The header of a line number program.
-ghost use Rattle.std.specs.Prelude.{◌≡◌, ◌≤◌, ◌<◌, ◌+◌, ◌^◌, ◌↔◌, length, IfOk, IfErr, MatchOption, MatchResult, IsTrue};
+ghost use Rattle.std.specs.Prelude.{◌≡◌, ◌≤◌, ◌<◌, ◌+◌, ◌^◌, ◌↔◌, length, IfOk, IfErr, MatchOption, IsTrue};
 ghost use Rattle.line_machine.specs.Heads.{LeavesSection, HasNumbers, HasLengths, HasHead, head_at, unit_end, between};
-ghost use Rattle.line_machine.specs.Faults.{HeadFault, IsFaultOf};
 
-use crate::fault::unbuilt;
 use crate::number::{u16_at, u32_at};
 use dw_base::{Fault, Kind, Span};
 
@@ -107,59 +105,53 @@ fn span(at: usize, end: usize) -> Span
     }
 }
 
-// The header at a place, or its fault.
-fn read_head(section: &[u8], at: usize, origin: u64) -> Result<Head, Fault>
-    requires inside { at ≤ length section.now }
-    requires room { origin + length section.now < 2 ^ 64 }
-    ensures { MatchResult result (λ head. HasHead section.now at × (head ≡ head_at section.now at)) (IsFaultOf (HeadFault section.now at) origin) }
-{
-    let place = origin + at as u64;
-    let left = section.len() - at;
-    if left < 4 {
-        return Err(Fault {
-            kind: Kind::Short,
-            place,
-        });
-    }
-    let length = u32_at(section, at);
-    if length >= FIRST_RESERVED || length as usize > left - 4 {
-        return Err(Fault {
-            kind: Kind::Short,
-            place,
-        });
-    }
-    match parse(section, at, at + 4 + length as usize) {
-        Some(head) => Ok(head),
-        None => Err(Fault {
-            kind: Kind::LineHead,
-            place,
-        }),
-    }
-}
-
 impl Head {
     ghost use Rattle.line_machine.specs.Heads.{IsHead};
-    ghost use Rattle.line_machine.specs.Faults.{HeadFault, IsFaulty, IsUnbuilt};
+    ghost use Rattle.line_machine.specs.Faults.{HeadFault};
+    ghost use Rattle.dw_base.specs.Refusals.{IsFaultOf, IsFaulty};
 
     /// Reads the header of the program whose unit stands at `at` in `section`, the body of .debug_line
     /// (DWARF 5 section 6.2.4), where `origin` is the file offset of the section's first byte.
     ///
-    /// A header is one of version 5 in the 32-bit format with 8-byte addresses, without segments, with
-    /// one operation an instruction, an opcode base of 10 to 13 and the standard lengths of the standard
-    /// opcodes, and its program begins after them and inside the unit. Any other one, and a unit that
-    /// isn't in the section, is refused as `Unbuilt` at 0. No memory.
+    /// Either fault is at the unit's first byte:
+    /// - `Short`: the unit isn't in the section. Its length, or what that counts, ends past it, or the length is one
+    ///   of the reserved ones (DWARF 5 section 7.4).
+    /// - `LineHead`: the header isn't one of version 5 with 8-byte addresses, without segments, with a
+    ///   minimum_instruction_length and a line_range other than 0, with one operation an instruction, an opcode base of
+    ///   10 to 13 and the standard lengths of the standard opcodes, or its program doesn't begin after them and inside
+    ///   the unit.
+    ///
+    /// No memory.
     pub fn read(section: &[u8], at: u64, origin: u64) -> Result<Head, Fault>
         requires inside { at ≤ length section.now }
         requires room { origin + length section.now < 2 ^ 64 }
         ensures place { IfOk result (λ head. head.at ≡ at) }
         ensures head { IfOk result (λ head. IsHead section.now head) }
         ensures whole { IfOk result (λ _. ¬ IsFaulty (HeadFault section.now at)) }
-        ensures unbuilt { IfErr result IsUnbuilt }
-        ensures fault { IfErr result (λ _. IsFaulty (HeadFault section.now at)) }
+        ensures fault { IfErr result (IsFaultOf (HeadFault section.now at) origin) }
     {
-        match read_head(section, at as usize, origin) {
-            Ok(head) => Ok(head),
-            Err(fault) => Err(unbuilt(fault)),
+        let start = at as usize;
+        let place = origin + at;
+        let left = section.len() - start;
+        if left < 4 {
+            return Err(Fault {
+                kind: Kind::Short,
+                place,
+            });
+        }
+        let length = u32_at(section, start);
+        if length >= FIRST_RESERVED || length as usize > left - 4 {
+            return Err(Fault {
+                kind: Kind::Short,
+                place,
+            });
+        }
+        match parse(section, start, start + 4 + length as usize) {
+            Some(head) => Ok(head),
+            None => Err(Fault {
+                kind: Kind::LineHead,
+                place,
+            }),
         }
     }
 }

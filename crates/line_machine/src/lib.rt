@@ -4,7 +4,6 @@
 ghost use Rattle.line_machine.specs.Laws.{OpcodesEnd, OpcodesWhole, OneReading, ProgramsWhole};
 
 mod cursor;
-mod fault;
 mod head;
 mod number;
 mod opcode;
@@ -19,7 +18,7 @@ pub use head::{Head, OPERAND_COUNTS};
 pub use opcode::{Opcode, ReadOpcode, read_opcode};
 pub use place::Place;
 pub use registers::{Registers, Row};
-pub use table::rows;
+pub use table::{count_rows, rows};
 
 /// Laws of opcodes: their bytes end by themselves, and bytes that begin with one have none of the faults.
 pub fn opcodes_end()

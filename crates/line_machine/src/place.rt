@@ -4,7 +4,7 @@ ghost use Rattle.line_machine.specs.declared.head.Head.{Head as AHead};
 ghost use Rattle.line_machine.specs.Opcodes.{IsBase};
 ghost use Rattle.line_machine.specs.Rows.{rows_in};
 ghost use Rattle.line_machine.specs.Heads.{IsHead, program_of};
-ghost use Rattle.line_machine.specs.Faults.{IsFaultOf};
+ghost use Rattle.dw_base.specs.Refusals.{IsFaultOf};
 ghost use Rattle.line_machine.specs.Cursors.{PassesOn, FaultHere, FaultAhead, NextFault, IsNear, at_start};
 
 use crate::head::Head;
@@ -31,7 +31,7 @@ pub struct Step {
 }
 
 impl Place {
-    // The place at the start of a program.
+    /// The place at the start of a program.
     pub fn start(stmt: bool) -> Self
         ensures { (head : AHead) → head.stmt ≡ stmt → result ≡ at_start head }
     {
@@ -91,7 +91,7 @@ fn pass_one(head: &Head, program: &[u8], place: Place) -> Result<Step, Fault>
     }
 }
 
-// Passes opcodes up to one that appends a row, or to the program's end.
+/// Passes opcodes up to one that appends a row, or to the program's end.
 pub fn pass_to_row(head: &Head, program: &[u8], start: Place) -> Result<Step, Fault>
     requires range { head.now.range ≢ 0 }
     requires base { IsBase head.now.opcode_base }
@@ -118,8 +118,8 @@ pub fn pass_to_row(head: &Head, program: &[u8], start: Place) -> Result<Step, Fa
     Ok(Step { place, row: None })
 }
 
-// Passes opcodes of the program of a head in a section up to one that appends a row, or to the program's end.
-// A fault's place is one in the file.
+/// Passes opcodes of the program of a head in a section up to one that appends a row, or to the program's end.
+/// A fault's place is one in the file.
 pub fn next_row(section: &[u8], head: &Head, origin: u64, start: Place) -> Result<Step, Fault>
     requires head { IsHead section.now head.now }
     requires room { origin + length section.now < 2 ^ 64 }

@@ -47,7 +47,7 @@ pub struct Effect {
 }
 
 impl Registers {
-    // The registers at the start of a sequence.
+    /// The registers at the start of a sequence.
     pub fn start(stmt: bool) -> Self
         ensures { result ≡ start stmt }
     {
@@ -191,7 +191,7 @@ fn without_row(registers: Registers) -> Option<Effect>
     })
 }
 
-// What an opcode does, or none where its row has no line or its product is too large.
+/// What an opcode does, or none where its row has no line or its product is too large.
 pub fn act(head: &Head, registers: Registers, opcode: Opcode) -> Option<Effect>
     requires range { head.now.range ≢ 0 }
     requires base { IsBase head.now.opcode_base }

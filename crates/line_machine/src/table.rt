@@ -1,10 +1,12 @@
 // All rows of a program.
 ghost use Rattle.std.specs.Prelude.{◌≡◌, ◌≤◌, ◌<◌, ◌+◌, ◌^◌, ◌++◌, ◌∷◌, [], length, IfOk, IfErr, OnOk};
 ghost use Rattle.line_machine.specs.Heads.{IsHead, program_of};
-ghost use Rattle.line_machine.specs.Rows.{GivesRows};
-ghost use Rattle.line_machine.specs.Faults.{ProgramFault, IsFaultOf, IsFaulty, IsUnbuilt, IsRefusedFor, row_limit};
+ghost use Rattle.line_machine.specs.Rows.{GivesRows, HasRows};
+ghost use Rattle.line_machine.specs.Faults.{ProgramFault, row_limit};
+ghost use Rattle.dw_base.specs.declared.fault.Kind.TheVariants.{Limit};
+ghost use Rattle.dw_base.specs.Refusals.{IsFaultOf, IsFaulty, IsRefusedFor};
 
-use crate::fault::unbuilt;
+use crate::cursor::Cursor;
 use crate::head::Head;
 use crate::place::{Place, next_row};
 use crate::registers::Row;
@@ -14,6 +16,17 @@ use std::alloc::Global;
 // The most rows of a program.
 const ROW_LIMIT: usize = 1 << 24;
 
+// The fault of a program of more rows.
+fn too_long(head: &Head, origin: u64) -> Fault
+    requires { origin + head.now.at < 2 ^ 64 }
+    ensures { result ≡ record { kind = Limit; place = origin + head.now.at } }
+{
+    Fault {
+        kind: Kind::Limit,
+        place: origin + head.at,
+    }
+}
+
 // Appends a row.
 fn push(rows: &mut Vec<Row>, row: Row) -> Result<(), NoMemory>
     ensures { OnOk result (rows.new.items ≡ rows.old.items ++ row ∷ []) }
@@ -22,12 +35,17 @@ fn push(rows: &mut Vec<Row>, row: Row) -> Result<(), NoMemory>
     Ok(())
 }
 
-// The rows of the program of a head in a section, or its fault, whose place is one in the file.
-fn read_rows(alloc: Global, section: &[u8], head: &Head, origin: u64) -> Result<Vec<Row>, Refusal>
+/// All rows of the program of `head` in `section` (DWARF 5 section 6.2), from which the head was read, where
+/// `origin` is the file offset of the section's first byte.
+///
+/// The faults of its opcodes are those of `Cursor::next`, of the same kinds and at the same places; a program of more
+/// than 2^24 rows is refused as `Limit` at its unit. `NoMemory` may come wherever memory is wanting.
+pub fn rows(alloc: Global, section: &[u8], head: &Head, origin: u64) -> Result<Vec<Row>, Refusal>
     requires head { IsHead section.now head.now }
     requires room { origin + length section.now < 2 ^ 64 }
     ensures rows { IfOk result (λ rows. GivesRows head.now (program_of section.now head.now) rows.items) }
     ensures few { IfOk result (λ rows. length rows.items ≤ row_limit) }
+    ensures whole { IfOk result (λ _. ¬ IsFaulty (ProgramFault section.now head.now)) }
     ensures fault { IfErr result (IsRefusedFor (IsFaultOf (ProgramFault section.now head.now) origin)) }
 {
     let mut rows: Vec<Row> = Vec::new(alloc);
@@ -41,10 +59,7 @@ fn read_rows(alloc: Global, section: &[u8], head: &Head, origin: u64) -> Result<
             return Ok(rows);
         };
         if rows.len() >= ROW_LIMIT {
-            return Err(Refusal::Refused(Fault {
-                kind: Kind::Limit,
-                place: origin + head.at,
-            }));
+            return Err(Refusal::Refused(too_long(head, origin)));
         }
         match push(&mut rows, row) {
             Ok(()) => {}
@@ -54,24 +69,28 @@ fn read_rows(alloc: Global, section: &[u8], head: &Head, origin: u64) -> Result<
     }
 }
 
-/// All rows of the program of `head` in `section` (DWARF 5 section 6.2), from which the head was read, where
-/// `origin` is the file offset of the section's first byte.
-///
-/// A program whose last row doesn't end a sequence, one of which an opcode has a fault, a row's line
-/// or a product of an advance_pc is out of range, and one of more than 2^24 rows are refused as
-/// `Unbuilt` at 0. `NoMemory` may come wherever memory is wanting.
-pub fn rows(alloc: Global, section: &[u8], head: &Head, origin: u64) -> Result<Vec<Row>, Refusal>
+/// How many rows the program of `head` in `section` has, without keeping them. Its faults are those of `rows`. No
+/// memory.
+pub fn count_rows(section: &[u8], head: &Head, origin: u64) -> Result<usize, Fault>
     requires head { IsHead section.now head.now }
     requires room { origin + length section.now < 2 ^ 64 }
-    ensures rows { IfOk result (λ rows. GivesRows head.now (program_of section.now head.now) rows.items) }
-    ensures few { IfOk result (λ rows. length rows.items ≤ row_limit) }
+    ensures counted { IfOk result (λ count. HasRows head.now (program_of section.now head.now) count) }
+    ensures few { IfOk result (λ count. count ≤ row_limit) }
     ensures whole { IfOk result (λ _. ¬ IsFaulty (ProgramFault section.now head.now)) }
-    ensures unbuilt { IfErr result (IsRefusedFor IsUnbuilt) }
-    ensures fault { IfErr result (IsRefusedFor (λ _. IsFaulty (ProgramFault section.now head.now))) }
+    ensures fault { IfErr result (IsFaultOf (ProgramFault section.now head.now) origin) }
 {
-    match read_rows(alloc, section, head, origin) {
-        Ok(rows) => Ok(rows),
-        Err(Refusal::Refused(fault)) => Err(Refusal::Refused(unbuilt(fault))),
-        Err(Refusal::NoMemory) => Err(Refusal::NoMemory),
+    let mut cursor = Cursor::new(head, origin);
+    let mut count = 0;
+    loop {
+        match cursor.next(section) {
+            Ok(None) => return Ok(count),
+            Ok(Some(_)) => {
+                if count >= ROW_LIMIT {
+                    return Err(too_long(head, origin));
+                }
+                count += 1;
+            }
+            Err(fault) => return Err(fault),
+        }
     }
 }

@@ -112,7 +112,7 @@ fn first_counts(alloc: Global, rows: &[Row]) -> Result<Vec<CountedStep>, NoMemor
     Ok(counted)
 }
 
-// The steps of rows with their counts, those that come most often first. The order makes the search leave off early.
+/// The steps of rows with their counts, those that come most often first. The order makes the search leave off early.
 pub fn count_steps(alloc: Global, rows: &[Row]) -> Result<Vec<CountedStep>, NoMemory>
     requires rows { AreRows rows.now }
     requires few { length rows.now < 2 ^ 32 }

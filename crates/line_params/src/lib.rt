@@ -20,8 +20,9 @@ mod tests;
 mod window;
 mod write;
 
+pub use dw_base::Run;
 pub use pair::{Pair, least_pair};
-pub use program::{Program, Run, shrink_program};
+pub use program::{Program, shrink_program};
 pub use rows::write_rows;
 pub use step::Step;
 pub use write::put_opcode;

@@ -12,7 +12,7 @@ pub struct LineRun {
     pub low: i64,
 }
 
-// The bytes of advance_line, which is left out where its operand is 0.
+/// The bytes of advance_line, which is left out where its operand is 0.
 pub fn line_bytes(operand: i64) -> u32
     requires low { neg_ℤ (pos (2 ^ 32)) ≤ℤ operand }
     requires high { operand ≤ℤ pos (2 ^ 32) }
@@ -41,7 +41,7 @@ fn least_of_len(len: u32) -> i64
     if len == 1 { 1 } else { numbers_within(len - 1) }
 }
 
-// The run of a line distance that may be lessened by a number up to `most`.
+/// The run of a line distance that may be lessened by a number up to `most`.
 pub fn line_run(line: i64, most: u8) -> LineRun
     requires low { neg_ℤ (pos (2 ^ 33)) ≤ℤ line }
     requires high { line ≤ℤ pos (2 ^ 33) }

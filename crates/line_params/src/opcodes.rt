@@ -156,14 +156,14 @@ fn put_step(
     put_opcode(out, row_opcode(way.opcode), OPCODE_BASE)
 }
 
-// How far an address is from another, modulo 2^64.
+/// How far an address is from another, modulo 2^64.
 pub fn address_distance(from: u64, to: u64) -> u64
     ensures { result ≡ address_distance from to }
 {
     to.wrapping_sub(from)
 }
 
-// Appends the opcodes of a row that doesn't end a sequence.
+/// Appends the opcodes of a row that doesn't end a sequence.
 pub fn put_row(
     out: &mut Vec<u8>,
     base: i8,
@@ -185,7 +185,7 @@ pub fn put_row(
     put_step(out, base, range, min, line, distance, row.address)
 }
 
-// Appends the opcodes of the end of a sequence at an address, over an address distance.
+/// Appends the opcodes of the end of a sequence at an address, over an address distance.
 pub fn put_end(
     out: &mut Vec<u8>,
     range: u8,

@@ -5,19 +5,9 @@ ghost use Rattle.line_params.specs.Order.{AreInOrder};
 
 use crate::pair::least_pair;
 use crate::rows::write_rows;
-use dw_base::NoMemory;
+use dw_base::{NoMemory, Run};
 use line_machine::{Head, Row};
 use std::alloc::Global;
-
-/// So many pairs in a row, in the order of line_range and then line_base, for each of which the same number of the
-/// program's different steps shows that it isn't better.
-#[derive(Clone, Copy, Debug, PartialEq, Eq)]
-pub struct Run {
-    /// How many pairs.
-    pub len: u32,
-    /// How many different steps.
-    pub number: u32,
-}
 
 /// A line number program (DWARF 5 section 6.2.4), with the opcode_base 13.
 #[derive(Debug, Drop)]

@@ -168,7 +168,7 @@ fn better_of_range(
     }
 }
 
-// The best of all pairs.
+/// The best of all pairs.
 pub fn best_choice(head: &Head, counted: &[CountedStep], sums: &mut [u64]) -> Choice
     requires range { 0 < head.now.range }
     requires scale { 0 < head.now.min }

@@ -94,7 +94,7 @@ fn add_row(sums: &mut [u64], range: u8, min: u8, line: i64, distance: u64, count
     }
 }
 
-// Adds what a step costs under each line_base, times its count.
+/// Adds what a step costs under each line_base, times its count.
 pub fn add_step(sums: &mut [u64], range: u8, min: u8, counted: CountedStep)
     requires range { 0 < range }
     requires scale { 0 < min }

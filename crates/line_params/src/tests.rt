@@ -21,6 +21,7 @@ pub const HEAD: Head = Head {
     program: Span { at: 0, len: 0 },
 };
 
+/// A row of a line and a column at an address.
 pub fn row(address: u64, line: u64, column: u64) -> Row {
     Row {
         address,
@@ -37,6 +38,7 @@ pub fn row(address: u64, line: u64, column: u64) -> Row {
     }
 }
 
+/// The row that ends a sequence at an address.
 pub fn end(address: u64) -> Row
     ensures { result ≡ end_row address }
 {
@@ -66,7 +68,7 @@ fn is_row(row: &Row) -> bool
     }
 }
 
-// These are rows that a program can have.
+/// These are rows that a program can have.
 pub fn are_rows(rows: &[Row]) -> bool
     ensures { IsTrue result → AreRows rows.now }
 {

@@ -57,7 +57,7 @@ fn least_before(range: u8, min: u8, distance: u64, parts: u8) -> u32
     least
 }
 
-// The two kinds of special opcodes for an address distance.
+/// The two kinds of special opcodes for an address distance.
 pub fn windows_for(range: u8, min: u8, distance: u64) -> Windows
     requires range { 0 < range }
     requires scale { 0 < min }

@@ -1,6 +1,70 @@
+use Rattle.std.proofs.Common.{◌≡◌, ◌+◌, ◌∷◌, [], List, length, arith, ap, refl, sym, subst, ◌∙◌}
+use Rattle.std.specs.Prelude.{Option}
+use Rattle.std.proofs.lemmas.List.{length-append}
+use Rattle.line_machine.specs.declared.registers.Row.{Row}
+use Rattle.line_machine.specs.Rows.{rows_in}
+use Rattle.dw_base.specs.declared.fault.Fault.{Fault}
+use Rattle.dw_base.specs.Refusals.{IsFaultOf}
+use Rattle.line_machine.specs.Heads.{program_of}
+use Rattle.line_machine.specs.Faults.{ProgramFault}
+use Rattle.line_machine.specs.Cursors.{PassesOn, at_start}
+use Rattle.line_machine.proofs.Passing.{near_start, next_fault, program_fault}
+use Rattle.line_machine.proofs.Listing.{Listed, listed_none, listed_on, listed_all, listed_long}
 use Rattle.line_machine.proofs.Programs.{based_of, program_whole}
 use Rattle.line_machine.proofs.table.rows.Goals as goal
 
-pub returns-in-Ok-clause-whole : goal.returns-in-Ok-clause-whole
-returns-in-Ok-clause-whole c =
-    program_whole c.args.section.now c.args.head.now c.in-Ok.rows.items (based_of c.args.section.now c.args.head.now c.requires.head) c.in-Ok.ensures.rows c.in-Ok.ensures.few
+pub loop-step-init : goal.loop-step-init
+loop-step-init c =
+    let head = c.args.head.now in
+    let e : c.start-place.result ≡ at_start head = c.start-place.ensures head refl in
+    let none : length c.new-rows.result.items ≡ 0 = ap length c.new-rows.ensures.items in
+    let at : c.start-place.result.at ≡ 0 = ap (λ z. z.at) e in
+    record {
+      inside = omega arith;
+      near = near_start head c.start-place.result e;
+      listed = subst (λ (z : List Row). Listed head (program_of c.args.section.now head) c.start-place.result z) (sym c.new-rows.ensures.items) (listed_none head (program_of c.args.section.now head) c.start-place.result e);
+      few = omega arith;
+    }
+
+pub returns-in_default-clause-rows : goal.returns-in_default-clause-rows
+returns-in_default-clause-rows c =
+    let head = c.args.head.now in
+    let program = program_of c.args.section.now head in
+    let passed = subst (λ (z : Option Row). PassesOn head program c.loop-step.place c.in-Ok.step.place (rows_in z)) c.in_default.is c.in-Ok.ensures.passed in
+    listed_all head program c.loop-step.place c.in-Ok.step.place c.loop-step.rows.items c.loop-step.invariant.listed passed (c.in-Ok.ensures.at_end c.in_default.is) (c.in-Ok.ensures.ended c.in_default.is)
+
+pub returns-in-Err-clause-fault : goal.returns-in-Err-clause-fault
+returns-in-Err-clause-fault c =
+    let head = c.args.head.now in
+    let listed = c.loop-step.invariant.listed in
+    program_fault c.args.section.now head c.args.origin c.in-Err.fault (next_fault c.args.section.now head c.loop-step.place c.args.origin c.in-Err.fault listed.opcodes listed.passed c.in-Err.ensures.fault)
+
+pub returns-then-len-ge-ROW_LIMIT-clause-fault : goal.returns-then-len-ge-ROW_LIMIT-clause-fault
+returns-then-len-ge-ROW_LIMIT-clause-fault c =
+    let head = c.args.head.now in
+    let program = program_of c.args.section.now head in
+    let passed = subst (λ (z : Option Row). PassesOn head program c.loop-step.place c.in-Ok.step.place (rows_in z)) c.in-Some.is c.in-Ok.ensures.passed in
+    let long = listed_long head program c.loop-step.place c.in-Ok.step.place c.loop-step.rows.items c.in-Some.row c.loop-step.invariant.listed passed (omega (arith, c.len.ensures)) in
+    subst (λ (f : Fault). IsFaultOf (ProgramFault c.args.section.now head) c.args.origin f) (sym c.too_long.ensures) (head.at, refl, (refl, long))
+
+pub loop-step-preserved : goal.loop-step-preserved
+loop-step-preserved c =
+    let head = c.args.head.now in
+    let program = program_of c.args.section.now head in
+    let passed = subst (λ (z : Option Row). PassesOn head program c.loop-step.place c.in-Ok.step.place (rows_in z)) c.in-Some.is c.in-Ok.ensures.passed in
+    let all = listed_on head program c.loop-step.place c.in-Ok.step.place c.loop-step.rows.items (c.in-Some.row ∷ []) c.loop-step.invariant.listed passed in
+    let size : length c.push.new.rows.items ≡ length c.loop-step.rows.items + 1 = ap length c.in-Ok-push.ensures ∙ length-append c.loop-step.rows.items (c.in-Some.row ∷ []) in
+    record {
+      inside = c.in-Ok.ensures.within.1;
+      near = c.in-Ok.ensures.near;
+      listed = subst (λ (z : List Row). Listed head program c.in-Ok.step.place z) (sym c.in-Ok-push.ensures) all;
+      few = omega (arith, c.len.ensures);
+    }
+
+pub returns-in_default-clause-whole : goal.returns-in_default-clause-whole
+returns-in_default-clause-whole c =
+    let head = c.args.head.now in
+    let program = program_of c.args.section.now head in
+    let passed = subst (λ (z : Option Row). PassesOn head program c.loop-step.place c.in-Ok.step.place (rows_in z)) c.in_default.is c.in-Ok.ensures.passed in
+    let gives = listed_all head program c.loop-step.place c.in-Ok.step.place c.loop-step.rows.items c.loop-step.invariant.listed passed (c.in-Ok.ensures.at_end c.in_default.is) (c.in-Ok.ensures.ended c.in_default.is) in
+    program_whole c.args.section.now head c.loop-step.rows.items (based_of c.args.section.now head c.requires.head) gives c.loop-step.invariant.few

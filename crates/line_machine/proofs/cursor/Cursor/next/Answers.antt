@@ -1,6 +1,7 @@
 use Rattle.std.proofs.Common.{subst, sym}
 use Rattle.line_machine.specs.Rows.{rows_in}
-use Rattle.line_machine.specs.Faults.{OpcodesFault, IsFaultOf}
+use Rattle.line_machine.specs.Faults.{OpcodesFault}
+use Rattle.dw_base.specs.Refusals.{IsFaultOf}
 use Rattle.line_machine.specs.Cursors.{Progress, Stands, Answers, NextFault}
 use Rattle.line_machine.proofs.Passing.{stands_on, stands_stopped, next_fault}
 use Rattle.line_machine.proofs.cursor.Cursor.next.Goals as goal

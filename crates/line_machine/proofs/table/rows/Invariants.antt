@@ -3,7 +3,7 @@ use Rattle.line_machine.specs.Heads.{program_of}
 use Rattle.line_machine.specs.Faults.{row_limit}
 use Rattle.line_machine.specs.Cursors.{IsNear}
 use Rattle.line_machine.proofs.Listing.{Listed}
-use Rattle.line_machine.proofs.table.read_rows.Given as goal
+use Rattle.line_machine.proofs.table.rows.Given as goal
 
 abbrev pub invariant-loop-step : goal.invariant-loop-step
 invariant-loop-step l = record {
