@@ -6,7 +6,8 @@ use Rattle.line_machine.specs.declared.head.Head.{Head}
 use Rattle.line_machine.specs.declared.registers.Row.{Row}
 use Rattle.line_machine.specs.Rows.{GivesRows}
 use Rattle.line_machine.specs.Heads.{HasHead, head_at, IsHead, program_of}
-use Rattle.line_machine.specs.Faults.{HeadFault, ProgramFault, IsFaulty, row_limit}
+use Rattle.line_machine.specs.Faults.{HeadFault, ProgramFault, row_limit}
+use Rattle.dw_base.specs.Refusals.{IsFaulty}
 use Rattle.line_machine.proofs.Programs.{program_whole, based_of, one_reading}
 use Rattle.line_write.specs.Programs.{Follow, Tile}
 use Rattle.line_write.specs.Meaning.{ProgramMeaning, HaveMeanings, MeansLines}
@@ -144,7 +145,7 @@ same_meaning m n a b c d =
     ∙ ap (λ z. record m { min = n.min; is_stmt = n.is_stmt; tables = z }) c
     ∙ ap (λ z. record n { rows = z }) d
 
-one_meaning_each : (section : List ℕ) (heads : List Head) (a : ℕ) (some others : List ProgramMeaning) → Follow section heads a (length section) → HaveMeanings section heads some → HaveMeanings section heads others → some ≡ others
+pub one_meaning_each : (section : List ℕ) (heads : List Head) (a : ℕ) (some others : List ProgramMeaning) → Follow section heads a (length section) → HaveMeanings section heads some → HaveMeanings section heads others → some ≡ others
 one_meaning_each section [] a [] [] f h k = refl
 one_meaning_each section [] a [] (n ∷ ns) f h k = absurd k
 one_meaning_each section [] a (m ∷ ms) ns f h k = absurd h

@@ -1,27 +1,26 @@
 -- Units that are written anew one after the other.
-use Rattle.std.proofs.Common.{◌≡◌, ◌≤◌, ◌<◌, ◌+◌, ◌-◌, ◌*◌, ◌^◌, ◌++◌, ◌∙◌, ℕ, List, [], ◌∷◌, length, sym, ap, refl, subst, arith, inl, inr}
-use Rattle.std.specs.Prelude.{slice_index, not, nat_eq}
-use Rattle.std.proofs.lemmas.List.{append_assoc, append-nil, length-append}
+use Rattle.std.proofs.Common.{◌≡◌, ◌≤◌, ◌<◌, ◌+◌, ◌-◌, ◌*◌, ◌^◌, ◌++◌, ◌∙◌, ℕ, suc, List, [], ◌∷◌, length, take, sym, ap, refl, subst, arith}
+use Rattle.std.specs.Prelude.{slice_index, not, nat_eq, map}
+use Rattle.std.proofs.lemmas.List.{append_assoc, append-nil, length-append, take_all}
 use Rattle.spelled.specs.Spelled.{Joined}
-use Rattle.dw_base.specs.declared.fault.Kind.TheVariants.{Limit}
-use Rattle.dw_base.specs.declared.fault.Refusal.{Refusal}
-use Rattle.dw_base.specs.declared.fault.Refusal.TheVariants.{Refused, NoMemory}
 use Rattle.line_machine.specs.declared.head.Head.{Head}
 use Rattle.line_machine.specs.declared.registers.Row.{Row}
 use Rattle.line_machine.specs.Rows.{GivesRows}
 use Rattle.line_machine.specs.Heads.{head_at, IsHead, unit_end, header_length, opcode_base, program_of}
 use Rattle.line_machine.specs.Class.{Encoding, IsTaken, with_pair}
 use Rattle.line_params.specs.Order.{AreInOrder}
-use Rattle.line_machine.specs.Faults.{HeadFault, ProgramFault, IsFaulty, IsRefusedFor, row_limit}
-use Rattle.line_write.specs.Programs.{Follow, Tile, tables_of, counted, body_of, IsRewrittenUnit, AreRewritten}
+use Rattle.line_machine.specs.Faults.{row_limit}
+use Rattle.line_write.specs.Programs.{Follow, Tile, tables_of, counted, body_of, IsLeastFor, IsRewrittenUnit, AreRewritten}
 use Rattle.line_write.specs.Meaning.{ProgramMeaning, HasMeaning, HaveMeanings, SameLines}
 use Rattle.line_write.specs.Least.{encoding_at, IsLeastProgram, IsOrderedProgram, AreEach, LeastLines, OrderedLines}
-use Rattle.line_write.specs.Faults.{total_limit, LinesFault}
+use Rattle.line_write.specs.Faults.{total_limit}
+use Rattle.line_write.specs.Readings.{AreRead, StandAnew}
 use Rattle.line_write.proofs.ActsAlike.{ActsAs, gives_as}
 use Rattle.line_write.proofs.Pieces.{Holds}
 use Rattle.line_write.proofs.ReadBack.{IsReadBack, bounds, sizes, counted_size, unit_read_back}
 use Rattle.line_write.proofs.Putting.{body_counted}
-use Rattle.line_write.proofs.Tiling.{follow_push, AreGiven, given_rows, head_is, rules_at, unit_lines, lines_whole}
+use Rattle.line_write.proofs.Tiling.{AreGiven, one_meaning_each}
+use Rattle.line_write.proofs.Reading.{read_few, are_read}
 
 -- ONE UNIT
 
@@ -42,6 +41,7 @@ record IsBack (section : List ℕ) (head : Head) (w : Written section head) (byt
   meaning : ProgramMeaning
   old : HasMeaning section head meaning
   new : HasMeaning bytes (head_at bytes p) meaning
+  given : GivesRows (head_at bytes p) (program_of bytes (head_at bytes p)) w.rows
   least : IsLeastProgram section bytes head (head_at bytes p)
   ordered : IsOrderedProgram section bytes head (head_at bytes p)
 
@@ -106,6 +106,7 @@ module _ (section : List ℕ) (at : ℕ) (w : Written section (head_at section a
     };
     old = record { min = refl; is_stmt = refl; tables = refl; rows = w.given };
     new = record { min = sym back.min; is_stmt = sym back.is_stmt; tables = sym back.tables; rows = gives };
+    given = gives;
     least = record {
       rows = w.rows;
       given = w.given;
@@ -125,65 +126,89 @@ unit_back section head w bytes p h =
 
 -- ALL UNITS
 
--- The bytes are the units of the heads, written anew; their programs have so many rows together.
-abbrev pub AreWritten : List ℕ → List Head → ℕ → List ℕ → Type 0
-AreWritten section [] total out = (total ≡ 0) × (out ≡ [])
-AreWritten section (head ∷ heads) total out =
-    (w : Written section head) × (others : ℕ) × (rest : List ℕ) × AreWritten section heads others rest × (total ≡ length w.rows + others) × (out ≡ counted (body_of section head w.encoding) ++ rest)
+-- The bytes are the units of the heads, written anew, and begin at these places, which count from an earlier one; their
+-- programs have so many rows together.
+abbrev pub AreWritten : List ℕ → List Head → ℕ → ℕ → List ℕ → List ℕ → Type 0
+AreWritten section [] from total out starts = (total ≡ 0) × (out ≡ []) × (starts ≡ [])
+AreWritten section (head ∷ heads) from total out starts =
+    (w : Written section head) × (others : ℕ) × (rest : List ℕ) × (later : List ℕ) × AreWritten section heads (from + length (counted (body_of section head w.encoding))) others rest later
+    × (total ≡ length w.rows + others) × (out ≡ counted (body_of section head w.encoding) ++ rest) × (starts ≡ from ∷ later)
 
-written_push : (section : List ℕ) (heads : List Head) (head : Head) (w : Written section head) (total : ℕ) (out : List ℕ) → AreWritten section heads total out → AreWritten section (heads ++ head ∷ []) (total + length w.rows) (out ++ counted (body_of section head w.encoding))
-written_push section [] head w total out (t, e) =
+written_push : (section : List ℕ) (heads : List Head) (head : Head) (w : Written section head) (from total : ℕ) (out starts : List ℕ) → AreWritten section heads from total out starts → AreWritten section (heads ++ head ∷ []) from (total + length w.rows) (out ++ counted (body_of section head w.encoding)) (starts ++ (from + length out) ∷ [])
+written_push section [] head w from total out starts (t, e, s) =
     let unit : List ℕ = counted (body_of section head w.encoding) in
-    (w, 0, [], (refl, refl), omega arith, ap (λ z. z ++ unit) e ∙ sym (append-nil unit))
-written_push section (x ∷ heads) head w total out (v, others, rest, a, t, e) =
+    let none : length out ≡ 0 = ap length e in
+    let here : from + length out ≡ from = omega arith in
+    (w, 0, [], [], (refl, refl, refl), omega arith, ap (λ z. z ++ unit) e ∙ sym (append-nil unit), ap (λ z. z ++ (from + length out) ∷ []) s ∙ ap (λ n. n ∷ []) here)
+written_push section (x ∷ heads) head w from total out starts (v, others, rest, later, a, t, e, s) =
     let unit : List ℕ = counted (body_of section head w.encoding) in
     let first : List ℕ = counted (body_of section x v.encoding) in
-    (v, others + length w.rows, rest ++ unit, written_push section heads head w others rest a, omega arith, ap (λ z. z ++ unit) e ∙ append_assoc first rest unit)
+    let size : length out ≡ length first + length rest = ap length e ∙ length-append first rest in
+    let here : from + length out ≡ from + length first + length rest = omega arith in (
+      v,
+      others + length w.rows,
+      rest ++ unit,
+      later ++ (from + length first + length rest) ∷ [],
+      written_push section heads head w (from + length first) others rest later a,
+      omega arith,
+      ap (λ z. z ++ unit) e ∙ append_assoc first rest unit,
+      ap (λ z. z ++ (from + length out) ∷ []) s ∙ ap (λ n. from ∷ (later ++ n ∷ [])) here,
+    )
 
-written_given : (section : List ℕ) (heads : List Head) (total : ℕ) (out : List ℕ) → AreWritten section heads total out → AreGiven section heads total
-written_given section [] total out (t, e) = t
-written_given section (head ∷ heads) total out (w, others, rest, a, t, e) = (w.rows, others, w.given, w.few, written_given section heads others rest a, t)
+written_given : (section : List ℕ) (heads : List Head) (from total : ℕ) (out starts : List ℕ) → AreWritten section heads from total out starts → AreGiven section heads total
+written_given section [] from total out starts (t, e, s) = t
+written_given section (head ∷ heads) from total out starts (w, others, rest, later, a, t, e, s) =
+    (w.rows, others, w.given, w.few, written_given section heads (from + length (counted (body_of section head w.encoding))) others rest later a, t)
 
-written_joined : (section : List ℕ) (heads : List Head) (total : ℕ) (out : List ℕ) → AreWritten section heads total out → Joined (IsRewrittenUnit section) heads out
-written_joined section [] total out (t, e) = e
-written_joined section (head ∷ heads) total out (w, others, rest, a, t, e) =
-    (counted (body_of section head w.encoding), rest, record { rows = w.rows; given = w.given; encoding = w.encoding; taken = w.taken; order = w.order; whole = refl }, written_joined section heads others rest a, e)
+written_joined : (section : List ℕ) (heads : List Head) (from total : ℕ) (out starts : List ℕ) → AreWritten section heads from total out starts → Joined (IsRewrittenUnit section) heads out
+written_joined section [] from total out starts (t, e, s) = e
+written_joined section (head ∷ heads) from total out starts (w, others, rest, later, a, t, e, s) = (
+  counted (body_of section head w.encoding),
+  rest,
+  record { rows = w.rows; given = w.given; encoding = w.encoding; taken = w.taken; order = w.order; whole = refl },
+  written_joined section heads (from + length (counted (body_of section head w.encoding))) others rest later a,
+  e,
+)
 
--- there are at most 68 bytes a row, and the headers don't become twice as long
-written_bound : (section : List ℕ) (heads : List Head) (from end total : ℕ) (out : List ℕ) → Follow section heads from end → AreWritten section heads total out → 2 * from + length out ≤ 2 * end + 68 * total
-written_bound section [] from end total out f (t, e) = let none : length out ≡ 0 = ap length e in omega arith
-written_bound section (head ∷ heads) from end total out f (w, others, rest, a, t, e) =
-    let s = unit_sizes section head w.encoding f.1 in
+-- there are at most 68 bytes a row, and each header, which has 27 bytes or more, gets at most three bytes more
+written_bound : (section : List ℕ) (heads : List Head) (at end from total : ℕ) (out starts : List ℕ) → Follow section heads at end → AreWritten section heads from total out starts → 10 * at + 9 * length out ≤ 10 * end + 612 * total
+written_bound section [] at end from total out starts f (t, e, s) = let none : length out ≡ 0 = ap length e in omega arith
+written_bound section (head ∷ heads) at end from total out starts f (w, others, rest, later, a, t, e, s) =
+    let z = unit_sizes section head w.encoding f.1 in
     let unit : List ℕ = counted (body_of section head w.encoding) in
-    let old : 27 + length (tables_of section head) ≤ head.len = s.0 in
-    let size : length unit ≡ 30 + length (tables_of section head) + length w.encoding.bytes = s.2 in
+    let old : 27 + length (tables_of section head) ≤ head.len = z.0 in
+    let size : length unit ≡ 30 + length (tables_of section head) + length w.encoding.bytes = z.2 in
     let short : length w.encoding.bytes ≤ 68 * length w.rows = w.short in
     let all : length out ≡ length unit + length rest = ap length e ∙ length-append unit rest in
-    let more : 2 * (from + head.len) + length rest ≤ 2 * end + 68 * others = written_bound section heads (from + head.len) end others rest f.2 a in
+    let more : 10 * (at + head.len) + 9 * length rest ≤ 10 * end + 612 * others = written_bound section heads (at + head.len) end (from + length unit) others rest later f.2 a in
     omega arith
 
 -- What units are that were written, where they stand in bytes from a place up to another.
-record AreBack (section : List ℕ) (heads : List Head) (bytes : List ℕ) (p q : ℕ) : Type 0 where
+record AreBack (section : List ℕ) (heads : List Head) (bytes : List ℕ) (p q total : ℕ) (starts : List ℕ) : Type 0 where
   news : List Head
   follow : Follow bytes news p q
+  given : AreGiven bytes news total
+  places : starts ≡ map (λ (head : Head). head.at) news
+  count : length news ≡ length heads
   meanings : List ProgramMeaning
   old : HaveMeanings section heads meanings
   new : HaveMeanings bytes news meanings
   least : AreEach (IsLeastProgram section bytes) heads news
   ordered : AreEach (IsOrderedProgram section bytes) heads news
 
-read_back : (section : List ℕ) (heads : List Head) (from end total : ℕ) (front out rest bytes : List ℕ) → length section ≤ 2 ^ 30 → Follow section heads from end → AreWritten section heads total out → bytes ≡ front ++ (out ++ rest) → AreBack section heads bytes (length front) (length front + length out)
-read_back section [] from end total front out rest bytes small f (t, e) whole =
+read_back : (section : List ℕ) (heads : List Head) (at end total : ℕ) (front out rest bytes starts : List ℕ) → length section ≤ 2 ^ 30 → Follow section heads at end → AreWritten section heads (length front) total out starts → bytes ≡ front ++ (out ++ rest) → AreBack section heads bytes (length front) (length front + length out) total starts
+read_back section [] at end total front out rest bytes starts small f (t, e, s) whole =
     let none : length out ≡ 0 = ap length e in
-    record { news = []; follow = omega arith; meanings = []; old = tt; new = tt; least = tt; ordered = tt }
-read_back section (head ∷ heads) from end total front out rest bytes small f (w, others, x, a, t, e) whole =
+    record { news = []; follow = omega arith; given = t; places = s; count = refl; meanings = []; old = tt; new = tt; least = tt; ordered = tt }
+read_back section (head ∷ heads) at end total front out rest bytes starts small f (w, others, x, later, a, t, e, s) whole =
     let p : ℕ = length front in
     let unit : List ℕ = counted (body_of section head w.encoding) in
     let here : bytes ≡ front ++ (unit ++ (x ++ rest)) = whole ∙ ap (λ z. front ++ (z ++ rest)) e ∙ ap (λ z. front ++ z) (append_assoc unit x rest) in
     let back = unit_back section head w bytes p f.1 (record { front = front; rest = x ++ rest; whole = here; here = refl }) (small_body section head w f.1 small) in
-    let next = read_back section heads (from + head.len) end others (front ++ unit) x rest bytes small f.2 a (here ∙ sym (append_assoc front unit (x ++ rest))) in
-    let last : unit_end bytes p ≡ p + length unit = back.end in
     let first : length (front ++ unit) ≡ p + length unit = length-append front unit in
+    let b : AreWritten section heads (length (front ++ unit)) others x later = subst (λ (z : ℕ). AreWritten section heads z others x later) (sym first) a in
+    let next = read_back section heads (at + head.len) end others (front ++ unit) x rest bytes later small f.2 b (here ∙ sym (append_assoc front unit (x ++ rest))) in
+    let last : unit_end bytes p ≡ p + length unit = back.end in
     let all : length out ≡ length unit + length x = ap length e ∙ length-append unit x in
     let start : length (front ++ unit) ≡ p + (unit_end bytes p - p) = omega arith in
     let stop : length (front ++ unit) + length x ≡ p + length out = omega arith in
@@ -192,6 +217,9 @@ read_back section (head ∷ heads) from end total front out rest bytes small f (
     record {
       news = head_at bytes p ∷ next.news;
       follow = (refl, back.stands, after);
+      given = (w.rows, others, back.given, w.few, next.given, t);
+      places = s ∙ ap (λ z. p ∷ z) next.places;
+      count = ap (λ n. suc n) next.count;
       meanings = back.meaning ∷ next.meanings;
       old = (back.old, next.old);
       new = (back.new, next.new);
@@ -200,107 +228,66 @@ read_back section (head ∷ heads) from end total front out rest bytes small f (
     }
 
 -- all that was written is read back
-all_back : (section bytes : List ℕ) (heads : List Head) (total : ℕ) → length section ≤ 2 ^ 30 → Tile section heads → AreWritten section heads total bytes → AreBack section heads bytes 0 (length bytes)
-all_back section bytes heads total small tile written =
+all_back : (section bytes starts : List ℕ) (heads : List Head) (total : ℕ) → length section ≤ 2 ^ 30 → Tile section heads → AreWritten section heads 0 total bytes starts → AreBack section heads bytes 0 (length bytes) total starts
+all_back section bytes starts heads total small tile written =
     let end : 0 + length bytes ≡ length bytes = omega arith in
-    subst (λ (z : ℕ). AreBack section heads bytes 0 z) end (read_back section heads 0 (length section) total [] bytes [] bytes small tile written (sym (append-nil bytes)))
+    subst (λ (z : ℕ). AreBack section heads bytes 0 z total starts) end (read_back section heads 0 (length section) total [] bytes [] bytes starts small tile written (sym (append-nil bytes)))
 
--- The programs before a place are written.
-pub record Rewriting (section : List ℕ) (at total : ℕ) (out : List ℕ) : Type 0 where
-  pub heads : List Head
-  pub front : Follow section heads 0 at
-  pub written : AreWritten section heads total out
-  pub inside : at ≤ length section
-  pub few : total ≤ total_limit
+-- The programs of the heads are written, and begin at these places.
+pub record Rewriting (section : List ℕ) (heads : List Head) (out starts : List ℕ) : Type 0 where
+  pub total : ℕ
+  pub written : AreWritten section heads 0 total out starts
 
-pub rewriting_none : (section out : List ℕ) → out ≡ [] → Rewriting section 0 0 out
-rewriting_none section out e = record { heads = []; front = refl; written = (refl, e); inside = omega arith; few = omega arith }
+pub rewriting_none : (section : List ℕ) (heads : List Head) (out starts : List ℕ) → heads ≡ [] → out ≡ [] → starts ≡ [] → Rewriting section heads out starts
+rewriting_none section heads out starts none e s =
+    subst (λ (z : List Head). Rewriting section z out starts) (sym none) (record { total = 0; written = (refl, e, s) })
 
-module _ (section : List ℕ) (at total : ℕ) (out : List ℕ) (r : Rewriting section at total out) where
-  given : AreGiven section r.heads total
-  given = written_given section r.heads total out r.written
+-- one program more
+pub rewriting_on : (section : List ℕ) (heads more : List Head) (head : Head) (e : Encoding) (out out2 starts starts2 : List ℕ) (start : ℕ) → Rewriting section heads out starts → IsLeastFor section head e → more ≡ heads ++ head ∷ [] → start ≡ length out → starts2 ≡ starts ++ start ∷ [] → out2 ≡ out ++ counted (body_of section head e) → Rewriting section more out2 starts2
+rewriting_on section heads more head e out out2 starts starts2 start r l m f s o =
+    let w : Written section head = record { rows = l.rows; given = l.given; few = l.few; encoding = e; taken = l.taken; order = l.order; short = l.short } in
+    let pushed : AreWritten section (heads ++ head ∷ []) 0 (r.total + length l.rows) (out ++ counted (body_of section head e)) (starts ++ (0 + length out) ∷ []) = written_push section heads head w 0 r.total out starts r.written in
+    let place : 0 + length out ≡ start = omega arith in
+    let places : starts ++ (0 + length out) ∷ [] ≡ starts2 = ap (λ n. starts ++ n ∷ []) place ∙ sym s in
+    let a : AreWritten section (heads ++ head ∷ []) 0 (r.total + length l.rows) out2 (starts ++ (0 + length out) ∷ []) = subst (λ (z : List ℕ). AreWritten section (heads ++ head ∷ []) 0 (r.total + length l.rows) z (starts ++ (0 + length out) ∷ [])) (sym o) pushed in
+    let b : AreWritten section (heads ++ head ∷ []) 0 (r.total + length l.rows) out2 starts2 = subst (λ (z : List ℕ). AreWritten section (heads ++ head ∷ []) 0 (r.total + length l.rows) out2 z) places a in
+    subst (λ (z : List Head). Rewriting section z out2 starts2) (sym m) (record { total = r.total + length l.rows; written = b })
 
-  pub head_faulty : at < length section → IsFaulty (HeadFault section at) → IsFaulty (LinesFault section)
-  head_faulty lt (kind, place, f) = (kind, place, unit_lines section kind place (record { heads = r.heads; at = at; front = r.front; inside = lt; fault = inl f }))
+-- all programs are written
+module _ (section : List ℕ) (heads : List Head) (out starts : List ℕ) (read : AreRead section heads) (i : ℕ) (all : length heads ≤ i) (front : Rewriting section (take i heads) out starts) where
+  r : Rewriting section heads out starts
+  r = subst (λ (z : List Head). Rewriting section z out starts) (take_all i heads all) front
 
-  pub program_faulty : (head : Head) → at < length section → head.at ≡ at → IsHead section head → IsFaulty (ProgramFault section head) → IsFaulty (LinesFault section)
-  program_faulty head lt e h (kind, place, f) =
-      let same : head ≡ head_at section at = head_is section head at h e in (
-        kind,
-        place,
-        unit_lines section kind place (record {
-          heads = r.heads;
-          at = at;
-          front = r.front;
-          inside = lt;
-          fault = inr (rules_at section head at h e, subst (λ (z : Head). ProgramFault section z kind place) same f);
-        }),
-      )
+  pub rewriting_done : AreRewritten section out
+  rewriting_done = (heads, read.tiled, written_joined section heads 0 r.total out starts r.written)
 
-  pub total_faulty : (head : Head) (count : ℕ) → head.at ≡ at → IsHead section head → (rows : List Row) → GivesRows head (program_of section head) rows → length rows ≡ count → total_limit < total + count → IsFaulty (LinesFault section)
-  total_faulty head count e h rows g size many = (
-    Limit,
-    head.at,
-    inr (record {
-      heads = r.heads;
-      head = head;
-      front = subst (λ (z : ℕ). Follow section r.heads 0 z) (sym e) r.front;
-      stands = h;
-      before = total;
-      counted = given_rows section r.heads total given;
-      rows = rows;
-      given = g;
-      within = r.few;
-      past = omega arith;
-      here = refl;
-    }),
-  )
+  few : r.total ≤ total_limit
+  few = read_few section heads r.total read (written_given section heads 0 r.total out starts r.written)
 
-  pub rewriting_on : (head : Head) (rows : List Row) (e : Encoding) (count : ℕ) (out2 : List ℕ) → head.at ≡ at → IsHead section head → GivesRows head (program_of section head) rows → length rows ≤ row_limit → length rows ≡ count → total + count ≤ total_limit → IsTaken head rows e → AreInOrder head.stmt e.base e.range head.min rows e.bytes → length e.bytes ≤ 68 * length rows → out2 ≡ out ++ counted (body_of section head e) → Rewriting section (at + head.len) (total + count) out2
-  rewriting_on head rows e count out2 place h g few size all taken order short f =
-      let w : Written section head = record { rows = rows; given = g; few = few; encoding = e; taken = taken; order = order; short = short } in
-      let pushed : AreWritten section (r.heads ++ head ∷ []) (total + length rows) (out ++ counted (body_of section head e)) = written_push section r.heads head w total out r.written in
-      let inside : head.at + head.len ≤ length section = (unit_sizes section head e h).1 in
-      record {
-        heads = r.heads ++ head ∷ [];
-        front = follow_push section r.heads head 0 at r.front place h;
-        written = subst (λ (n : ℕ). AreWritten section (r.heads ++ head ∷ []) (total + n) out2) size (subst (λ (z : List ℕ). AreWritten section (r.heads ++ head ∷ []) (total + length rows) z) (sym f) pushed);
-        inside = omega arith;
-        few = all;
-      }
-
-  tiled : length section ≤ at → Tile section r.heads
-  tiled all = let e : at ≡ length section = let i : at ≤ length section = r.inside in omega arith in subst (λ (z : ℕ). Follow section r.heads 0 z) e r.front
-
-  pub rewriting_done : length section ≤ at → AreRewritten section out
-  rewriting_done all = (r.heads, tiled all, written_joined section r.heads total out r.written)
-
-  pub rewriting_means : length section ≤ 2 ^ 30 → length section ≤ at → SameLines section out
-  rewriting_means small all =
-      let back = all_back section out r.heads total small (tiled all) r.written in
-      (back.meanings, (r.heads, tiled all, back.old), (back.news, back.follow, back.new))
-
-  pub rewriting_least : length section ≤ 2 ^ 30 → length section ≤ at → LeastLines section out
-  rewriting_least small all =
-      let back = all_back section out r.heads total small (tiled all) r.written in
-      (r.heads, back.news, tiled all, back.follow, back.least)
-
-  pub rewriting_ordered : length section ≤ 2 ^ 30 → length section ≤ at → OrderedLines section out
-  rewriting_ordered small all =
-      let back = all_back section out r.heads total small (tiled all) r.written in
-      (r.heads, back.news, tiled all, back.follow, back.ordered)
-
-  pub rewriting_bound : length out ≤ 2 * length section + 68 * total_limit
+  pub rewriting_bound : 9 * length out ≤ 10 * length section + 612 * total_limit
   rewriting_bound =
-      let bound : 2 * 0 + length out ≤ 2 * at + 68 * total = written_bound section r.heads 0 at total out r.front r.written in
-      let inside : at ≤ length section = r.inside in
-      let few : total ≤ total_limit = r.few in
+      let bound : 10 * 0 + 9 * length out ≤ 10 * length section + 612 * r.total = written_bound section heads 0 (length section) 0 r.total out starts read.tiled r.written in
+      let together : r.total ≤ total_limit = few in
       omega arith
 
-  pub rewriting_whole : length section ≤ at → ¬ IsFaulty (LinesFault section)
-  rewriting_whole all = lines_whole section r.heads total (tiled all) given r.few
+  module _ (small : length section ≤ 2 ^ 30) where
+    back : AreBack section heads out 0 (length out) r.total starts
+    back = all_back section out starts heads r.total small read.tiled r.written
 
--- a refusal for one reason is one for another that follows from it
-pub refused_for : (P Q : Type 0) → (P → Q) → (refusal : Refusal) → IsRefusedFor (λ _. P) refusal → IsRefusedFor (λ _. Q) refusal
-refused_for P Q f (Refused fault) h = f h
-refused_for P Q f NoMemory h = h
+    pub rewriting_means : SameLines section out
+    rewriting_means = (back.meanings, (heads, read.tiled, back.old), (back.news, back.follow, back.new))
+
+    pub rewriting_least : LeastLines section out
+    rewriting_least = (heads, back.news, read.tiled, back.follow, back.least)
+
+    pub rewriting_ordered : OrderedLines section out
+    rewriting_ordered = (heads, back.news, read.tiled, back.follow, back.ordered)
+
+    pub rewriting_stand : StandAnew section heads out starts
+    rewriting_stand = record {
+      written = back.news;
+      read = are_read out back.news r.total back.follow back.given few;
+      places = back.places;
+      count = back.count;
+      means = λ meanings h. subst (λ (z : List ProgramMeaning). HaveMeanings out back.news z) (one_meaning_each section heads 0 back.meanings meanings read.tiled back.old h) back.new;
+    }

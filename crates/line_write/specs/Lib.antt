@@ -3,3 +3,4 @@ pub mod Laws
 pub mod Least
 pub mod Meaning
 pub mod Programs
+pub mod Readings

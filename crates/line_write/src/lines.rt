@@ -1,81 +1,62 @@
 // All programs of a section written anew.
-ghost use Rattle.std.specs.Prelude.{◌≡◌, ◌≤◌, ◌<◌, ◌+◌, ◌*◌, ◌^◌, length, [], IfOk, IfErr};
-ghost use Rattle.line_machine.specs.Faults.{IsFaulty, IsUnbuilt, IsRefusedFor};
-ghost use Rattle.line_write.specs.Programs.{AreRewritten};
+ghost use Rattle.std.specs.Prelude.{◌≡◌, ◌≤◌, ◌<◌, ◌+◌, ◌*◌, ◌^◌, [], ◌∷◌, ◌++◌, length, IfOk, OnOk};
+ghost use Rattle.line_machine.specs.Heads.{IsHead};
+ghost use Rattle.line_write.specs.Programs.{GivesFew, IsLeastFor, AreRewritten};
 ghost use Rattle.line_write.specs.Meaning.{SameLines};
 ghost use Rattle.line_write.specs.Least.{LeastLines, OrderedLines};
-ghost use Rattle.line_write.specs.Faults.{LinesFault, total_limit};
+ghost use Rattle.line_write.specs.Faults.{total_limit};
+ghost use Rattle.line_write.specs.Readings.{AreRead, StandAnew};
 
 use crate::unit::put_unit;
-use dw_base::{Fault, Kind, NoMemory, Refusal};
+use dw_base::{NoMemory, Refusal};
 use line_machine::{Head, rows};
-use line_params::shrink_program;
+use line_params::{Program, shrink_program};
 use std::alloc::Global;
 
-// The most rows of all programs.
-const TOTAL_LIMIT: u64 = 1 << 25;
-
-// An empty list with room for so many bytes.
-fn with_room(alloc: Global, count: usize) -> Result<Vec<u8>, NoMemory>
-    ensures { IfOk result (λ out. out.items ≡ []) }
-{
-    Ok(Vec::with_capacity(alloc, count)?)
+/// Line number programs that were written anew.
+#[derive(Debug, Drop)]
+pub struct Lines {
+    /// The new body of .debug_line.
+    pub bytes: Vec<u8>,
+    /// Where the unit of each program begins in it, counted from its first byte, in their order.
+    pub starts: Vec<u64>,
 }
 
-// Until the faults of line programs are told apart, each is answered alike.
-fn unbuilt(_: Fault) -> Fault
-    ensures { IsUnbuilt result }
+// No bytes and no places, with room for so many of each.
+fn with_room(alloc: Global, bytes: usize, starts: usize) -> Result<Lines, NoMemory>
+    ensures bytes { IfOk result (λ lines. lines.bytes.items ≡ []) }
+    ensures starts { IfOk result (λ lines. lines.starts.items ≡ []) }
 {
-    Fault {
-        kind: Kind::Unbuilt,
-        place: 0,
+    Ok(Lines {
+        bytes: Vec::with_capacity(alloc, bytes)?,
+        starts: Vec::with_capacity(alloc, starts)?,
+    })
+}
+
+// Appends a place.
+fn push(starts: &mut Vec<u64>, start: u64) -> Result<(), NoMemory>
+    ensures { OnOk result (starts.new.items ≡ starts.old.items ++ start ∷ []) }
+{
+    starts.push(start)?;
+    Ok(())
+}
+
+// The least program that gives the rows of the program of a head.
+fn least_program(alloc: Global, section: &[u8], head: &Head) -> Result<Program, NoMemory>
+    requires head { IsHead section.now head.now }
+    requires given { GivesFew section.now head.now }
+    ensures { IfOk result (λ p. IsLeastFor section.now head.now (record { base = p.base; range = p.range; bytes = p.bytes.items })) }
+{
+    // The program has no fault, so that no place is counted from an origin.
+    match rows(alloc, section, head, 0) {
+        Ok(rows) => shrink_program(alloc, head, &rows),
+        Err(Refusal::NoMemory) => Err(NoMemory),
+        Err(Refusal::Refused(_)) => unreachable!(),
     }
 }
 
-// The programs of a section written anew, or a fault that they have.
-fn rewrite(alloc: Global, section: &[u8], origin: u64) -> Result<Vec<u8>, Refusal>
-    requires room { origin + length section.now < 2 ^ 64 }
-    requires small { length section.now ≤ 2 ^ 30 }
-    ensures rewritten { IfOk result (λ out. AreRewritten section.now out.items) }
-    ensures means { IfOk result (λ out. SameLines section.now out.items) }
-    ensures least { IfOk result (λ out. LeastLines section.now out.items) }
-    ensures order { IfOk result (λ out. OrderedLines section.now out.items) }
-    ensures bound { IfOk result (λ out. length out.items ≤ 2 * length section.now + 68 * total_limit) }
-    ensures whole { IfOk result (λ _. ¬ IsFaulty (LinesFault section.now)) }
-    ensures fault { IfErr result (IsRefusedFor (λ _. IsFaulty (LinesFault section.now))) }
-{
-    let mut out = with_room(alloc, section.len())?;
-    let mut at = 0;
-    let mut total = 0;
-    while at < section.len() {
-        let head = match Head::read(section, at as u64, origin) {
-            Ok(head) => head,
-            Err(fault) => return Err(Refusal::Refused(fault)),
-        };
-        let rows = match rows(alloc, section, &head, origin) {
-            Ok(rows) => rows,
-            Err(refusal) => return Err(refusal),
-        };
-        total += rows.len() as u64;
-        if total > TOTAL_LIMIT {
-            return Err(Refusal::Refused(Fault {
-                kind: Kind::Limit,
-                place: origin + head.at,
-            }));
-        }
-        let Ok(program) = shrink_program(alloc, &head, &rows) else {
-            return Err(Refusal::NoMemory);
-        };
-        let Ok(()) = put_unit(&mut out, section, &head, &program) else {
-            return Err(Refusal::NoMemory);
-        };
-        at += head.len as usize;
-    }
-    Ok(out)
-}
-
-/// The line number programs of `section`, the body of .debug_line, written anew (DWARF 5 section 6.2), where `origin` is
-/// the file offset of the section's first byte.
+/// The line number programs of `section`, the body of .debug_line, written anew (DWARF 5 section 6.2), where `heads` are
+/// those that were read of it.
 ///
 /// The programs keep their order, and each keeps its rows, its tables and the fields of its header, but for its lengths,
 /// line_base, line_range and opcode_base. Its opcode_base is 13, and no other program that gives these rows, under any
@@ -84,25 +65,25 @@ fn rewrite(alloc: Global, section: &[u8], origin: u64) -> Result<Vec<u8>, Refusa
 /// `line_params` states. A program without rows has no opcode.
 ///
 /// A program may become longer where its old opcode_base was below 13, but all are written in no more than twice the bytes
-/// of `section` and 68 bytes for each of 2^25 rows. `section` has at most 2^30 bytes.
-///
-/// A header that isn't read, a fault of an opcode, a sequence that isn't ended, a program of more than 2^24 rows and
-/// programs of more than 2^25 rows together are refused as `Unbuilt` at 0. `NoMemory` may come wherever memory is wanting.
-pub fn shrink_lines(alloc: Global, section: &[u8], origin: u64) -> Result<Vec<u8>, Refusal>
-    requires room { origin + length section.now < 2 ^ 64 }
+/// of `section` and 68 bytes for each of 2^25 rows, and in fewer than 2^32. `section` has at most 2^30 bytes. `NoMemory`
+/// comes where memory is wanting, and nothing else is refused.
+pub fn shrink_lines(alloc: Global, section: &[u8], heads: &Vec<Head>) -> Result<Lines, NoMemory>
+    requires read { AreRead section.now heads.now.items }
     requires small { length section.now ≤ 2 ^ 30 }
-    ensures rewritten { IfOk result (λ out. AreRewritten section.now out.items) }
-    ensures means { IfOk result (λ out. SameLines section.now out.items) }
-    ensures least { IfOk result (λ out. LeastLines section.now out.items) }
-    ensures order { IfOk result (λ out. OrderedLines section.now out.items) }
-    ensures bound { IfOk result (λ out. length out.items ≤ 2 * length section.now + 68 * total_limit) }
-    ensures whole { IfOk result (λ _. ¬ IsFaulty (LinesFault section.now)) }
-    ensures unbuilt { IfErr result (IsRefusedFor IsUnbuilt) }
-    ensures fault { IfErr result (IsRefusedFor (λ _. IsFaulty (LinesFault section.now))) }
+    ensures rewritten { IfOk result (λ lines. AreRewritten section.now lines.bytes.items) }
+    ensures means { IfOk result (λ lines. SameLines section.now lines.bytes.items) }
+    ensures least { IfOk result (λ lines. LeastLines section.now lines.bytes.items) }
+    ensures order { IfOk result (λ lines. OrderedLines section.now lines.bytes.items) }
+    ensures bound { IfOk result (λ lines. length lines.bytes.items ≤ 2 * length section.now + 68 * total_limit) }
+    ensures fits { IfOk result (λ lines. length lines.bytes.items < 2 ^ 32) }
+    ensures stand { IfOk result (λ lines. StandAnew section.now heads.now.items lines.bytes.items lines.starts.items) }
 {
-    match rewrite(alloc, section, origin) {
-        Ok(out) => Ok(out),
-        Err(Refusal::Refused(fault)) => Err(Refusal::Refused(unbuilt(fault))),
-        Err(Refusal::NoMemory) => Err(Refusal::NoMemory),
+    let mut lines = with_room(alloc, section.len(), heads.len())?;
+    for head in heads {
+        let start = lines.bytes.len() as u64;
+        push(&mut lines.starts, start)?;
+        let program = least_program(alloc, section, head)?;
+        put_unit(&mut lines.bytes, section, head, &program)?;
     }
+    Ok(lines)
 }

@@ -1,5 +1,8 @@
-// Sections whose least programs are known from elsewhere, or worked out from the costs of their steps.
-use crate::shrink_lines;
+// Sections whose least programs are known from elsewhere, or worked out from the costs of their steps, and sections whose
+// faults are known.
+use crate::{read_lines, shrink_lines};
+use dw_base::{Fault, Kind, Refusal, Span};
+use line_machine::Head;
 use std::test::Fail;
 
 // One program in which an operand is padded. With the range 49 const_add_pc advances by 4, and of the line bases under
@@ -74,16 +77,134 @@ const LEAST_OTHER_BASES: [u8; 134] = [
 
 #[test]
 fn known_sections_are_shrunk(rt: HostRuntime) -> Result<(), Fail> {
-    let table: [(&[u8], &[u8]); 5] = [
-        (&PADDED, &LEAST),
-        (&SAMPLE, &LEAST_SAMPLE),
-        (&PROGRAMS, &LEAST_PROGRAMS),
-        (&OTHER_BASES, &LEAST_OTHER_BASES),
-        (&LEAST_PROGRAMS, &LEAST_PROGRAMS),
+    let table: [(&[u8], &[u8], &[u64]); 5] = [
+        (&PADDED, &LEAST, &[0]),
+        (&SAMPLE, &LEAST_SAMPLE, &[0]),
+        (&PROGRAMS, &LEAST_PROGRAMS, &[0, 43, 81, 124, 165]),
+        (&OTHER_BASES, &LEAST_OTHER_BASES, &[0, 44, 83]),
+        (&LEAST_PROGRAMS, &LEAST_PROGRAMS, &[0, 43, 81, 124, 165]),
     ];
-    for (section, want) in table {
-        let least = shrink_lines(rt.alloc(), section, 64).map_err(|_| "refused")?;
-        assert_eq!(rt; least.as_slice(), want);
+    for (section, want, starts) in table {
+        let heads = read_lines(rt.alloc(), section, 64).map_err(|_| "refused")?;
+        let least = shrink_lines(rt.alloc(), section, &heads).map_err(|_| "no memory")?;
+        assert_eq!(rt; least.bytes.as_slice(), want);
+        assert_eq!(rt; least.starts.as_slice(), starts);
+    }
+    Ok(())
+}
+
+// Heads are those of the bytes, worked out by hand.
+#[test]
+fn programs_are_read(rt: HostRuntime) -> Result<(), Fail> {
+    let head = |at, len, opcode_base, tables, program| Head {
+        at,
+        len,
+        min: 1,
+        stmt: true,
+        base: -5,
+        range: 14,
+        opcode_base,
+        tables,
+        program,
+    };
+    let span = |at, len| Span { at, len };
+    let heads = read_lines(rt.alloc(), &OTHER_BASES, 64).map_err(|_| "refused")?;
+    let want = [
+        head(0, 48, 11, span(28, 4), span(32, 16)),
+        head(48, 42, 12, span(77, 4), span(81, 9)),
+        head(90, 59, 13, span(120, 4), span(124, 25)),
+    ];
+    assert_eq!(rt; heads.as_slice(), want.as_slice());
+    let none = read_lines(rt.alloc(), &[], 64).map_err(|_| "refused")?;
+    assert!(rt; none.is_empty());
+    Ok(())
+}
+
+// Sections of files whose faults are known, and places in the sections.
+#[test]
+fn other_programs_are_refused(rt: HostRuntime) -> Result<(), Fail> {
+    let rows: [(&[u8], Kind, u64); 7] = [
+        // an operand of the last opcode is cut
+        (
+            &[
+                0x48, 0, 0, 0, 5, 0, 8, 0, 0x26, 0, 0, 0, 1, 1, 1, 0xff, 0xf3, 0x0d, 0, 1, 1, 1, 1,
+                0, 0, 0, 1, 0, 0, 1, 0x9c, 0xae, 0xd2, 0xeb, 0xbc, 0x56, 0xea, 0xd5, 8, 0xd9, 0xb6,
+                0x87, 0x37, 0xc2, 0x44, 0xfe, 0xec, 0xc0, 0xc8, 0x53, 0, 0x89, 0, 2, 0xa8, 0, 0, 0,
+                0, 0, 0, 0x80, 5, 0x28, 0x0b, 0x0b, 2, 5, 3, 0xd7, 0xfe, 0xff, 0xff, 0x7f, 0xb8, 2,
+            ],
+            Kind::Short,
+            76,
+        ),
+        // the length of an extended opcode is 10, and its code 2
+        (
+            &[
+                0x4f, 0, 0, 0, 5, 0, 8, 0, 0x26, 0, 0, 0, 1, 1, 1, 0xff, 0xf3, 0x0d, 0, 1, 1, 1, 1,
+                0, 0, 0, 1, 0, 0, 1, 0x9c, 0xae, 0xd2, 0xeb, 0xbc, 0x56, 0xea, 0xd5, 8, 0xd9, 0xb6,
+                0x87, 0x37, 0xc2, 0x44, 0xfe, 0xec, 0xc0, 0xc8, 0x53, 0, 0x8a, 0, 2, 0xa8, 0, 0, 0,
+                0, 0, 0, 0x80, 5, 0x28, 0x0b, 0x0b, 2, 5, 3, 0xd7, 0xfe, 0xff, 0xff, 0x7f, 0xb8, 2,
+                0xa3, 0x80, 0, 0, 0x81, 0, 1,
+            ],
+            Kind::LineOp,
+            50,
+        ),
+        // the standard opcode 2 has 129 operands
+        (
+            &[
+                0x19, 0, 0, 0, 5, 0, 8, 0, 0x10, 0, 0, 0, 2, 1, 1, 0xff, 4, 0x0b, 0, 1, 0x81, 0, 1,
+                1, 0, 0, 0, 1, 0,
+            ],
+            Kind::LineHead,
+            0,
+        ),
+        // the version is 21
+        (
+            &[
+                0x3d, 0, 0, 0, 0x15, 0, 8, 0, 0x19, 0, 0, 0, 1, 1, 1, 1, 0x0a, 0x0d, 0, 1, 1, 1, 1,
+                0, 0, 0, 1, 0, 0, 1, 0x11, 0x5e, 0x20, 0xe1, 0xea, 0x21, 0x1a, 0, 9, 2, 0xe7, 0xcb,
+                0x40, 0, 0, 0, 0, 0, 3, 0x7e, 0xaf, 4, 2, 3, 0x14, 1, 0x0a, 3, 3, 1, 2, 4, 0, 1, 1,
+            ],
+            Kind::LineHead,
+            0,
+        ),
+        // the length of an extended opcode is 0
+        (
+            &[
+                0x42, 0, 0, 0, 5, 0, 8, 0, 0x13, 0, 0, 0, 8, 1, 0, 0x80, 4, 0x0a, 0, 1, 1, 1, 1, 0,
+                0, 0, 1, 0x68, 1, 0, 0, 0, 0, 0, 0, 0, 0xff, 0xff, 0xff, 0xff, 0xff, 0xff, 2, 0xd0,
+                0x9f, 0xb9, 0xcb, 0x8a, 0x86, 0xab, 0x92, 7, 3, 0xe6, 0xc5, 0x81, 0x80, 0x80, 0x80,
+                0x80, 0x80, 0x80, 0x80, 0x80, 0x80, 0, 0x5d, 0, 1, 1,
+            ],
+            Kind::LineOp,
+            31,
+        ),
+        // the product of an advance_pc is 8 * 127 * 2^56
+        (
+            &[
+                0x28, 0, 0, 0, 5, 0, 8, 0, 0x13, 0, 0, 0, 8, 1, 1, 0x7f, 0xf3, 0x0a, 0, 1, 1, 1, 1,
+                0, 0, 0, 1, 0xfd, 0x13, 0x65, 0x2e, 2, 0x80, 0x80, 0x80, 0x80, 0x80, 0x80, 0x80,
+                0x80, 0x7f, 0, 1, 1, 0x19, 0, 0, 0, 5, 0, 8, 0, 0x11, 0, 0, 0, 0xff, 1, 1, 0x80, 2,
+                0x0c, 0, 1, 1, 1, 1, 0, 0, 0, 1, 0, 0,
+            ],
+            Kind::LineValue,
+            31,
+        ),
+        // the unit ends in its header
+        (
+            &[
+                0x0e, 0, 0, 0, 5, 0, 8, 0, 0x11, 0, 0, 0, 2, 1, 1, 0x4a, 2, 0x0c,
+            ],
+            Kind::LineHead,
+            0,
+        ),
+    ];
+    for (section, kind, place) in rows {
+        let fault = match read_lines(rt.alloc(), section, 64) {
+            Ok(_) => Err("accepted")?,
+            Err(Refusal::Refused(fault)) => fault,
+            Err(Refusal::NoMemory) => Err("no memory")?,
+        };
+        let place = 64 + place;
+        assert_eq!(rt; fault, Fault { kind, place });
     }
     Ok(())
 }

@@ -36,7 +36,7 @@ fn put_u32(out: &mut Vec<u8>, value: u32) -> Result<(), NoMemory>
     put_bytes(out, &bytes)
 }
 
-// Appends the unit of a head: its tables and the fields of its header that are kept, and a program with its pair.
+/// Appends the unit of a head: its tables and the fields of its header that are kept, and a program with its pair.
 pub fn put_unit(
     out: &mut Vec<u8>,
     section: &[u8],
