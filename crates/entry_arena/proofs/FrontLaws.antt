@@ -52,13 +52,13 @@ module _ (section : List ℕ) (ds : List Declared) where
       record { order = s.order; inside = s.inside inside; spelled = s.spelled }
 
   -- what is listed stays
-  record Keeps (old new : Listed) : Type 0 where
-    entries : List Entry
-    ends : List ChainEnd
-    entered : new.entries ≡ old.entries ++ entries
-    ended : new.ends ≡ old.ends ++ ends
+  pub record Keeps (old new : Listed) : Type 0 where
+    pub entries : List Entry
+    pub ends : List ChainEnd
+    pub entered : new.entries ≡ old.entries ++ entries
+    pub ended : new.ends ≡ old.ends ++ ends
 
-  walks_keep : (items : List Item) (old : Listed) (chains : List ℕ) (new : Listed) (left : List ℕ) → Walks section ds old chains items new left → Keeps old new
+  pub walks_keep : (items : List Item) (old : Listed) (chains : List ℕ) (new : Listed) (left : List ℕ) → Walks section ds old chains items new left → Keeps old new
   walks_keep [] old chains new left (same, kept) = record {
     entries = [];
     ends = [];

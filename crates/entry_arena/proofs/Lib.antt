@@ -14,3 +14,5 @@ pub mod WalkLaws
 pub mod WalkPlaces
 mod WorkedTree
 pub mod StandingLaws
+pub mod GrowingLaws
+pub mod OnwardLaws

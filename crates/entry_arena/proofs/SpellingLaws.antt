@@ -30,15 +30,15 @@ use Rattle.entry_arena.proofs.WalkLaws.{forest_once}
 use Rattle.entry_arena.proofs.StepLaws.{values_rise}
 
 -- bytes between two places that are two parts
-record Cuts (section : List ℕ) (from to : ℕ) (a b : List ℕ) : Type 0 where
-  mid : ℕ
-  after : from ≤ mid
-  before : mid ≤ to
-  first : bytes_between section from mid ≡ a
-  second : bytes_between section mid to ≡ b
-  place : mid ≡ from + length a
+pub record Cuts (section : List ℕ) (from to : ℕ) (a b : List ℕ) : Type 0 where
+  pub mid : ℕ
+  pub after : from ≤ mid
+  pub before : mid ≤ to
+  pub first : bytes_between section from mid ≡ a
+  pub second : bytes_between section mid to ≡ b
+  pub place : mid ≡ from + length a
 
-cut : (section : List ℕ) (from to : ℕ) (a b : List ℕ) → from ≤ to → to ≤ length section → bytes_between section from to ≡ a ++ b → Cuts section from to a b
+pub cut : (section : List ℕ) (from to : ℕ) (a b : List ℕ) → from ≤ to → to ≤ length section → bytes_between section from to ≡ a ++ b → Cuts section from to a b
 cut section from to a b order inside whole =
     let size : to - from ≡ length a + length b = sym (length_between section from to inside) ∙ ap length whole ∙ length-append a b in
     let mid : ℕ = from + length a in
@@ -125,12 +125,12 @@ shape_value section ZeroEnded meaning from to order inside p =
     }
 
 -- values of columns, with places
-record HasValues (section : List ℕ) (columns : List Spec) (meanings : List Meaning) (from to : ℕ) : Type 0 where
-  values : List Value
-  means : map (meant_in section) values ≡ meanings
-  valued : ValuesBetween section columns values from to
+pub record HasValues (section : List ℕ) (columns : List Spec) (meanings : List Meaning) (from to : ℕ) : Type 0 where
+  pub values : List Value
+  pub means : map (meant_in section) values ≡ meanings
+  pub valued : ValuesBetween section columns values from to
 
-values_found : (section : List ℕ) (columns : List Spec) (meanings : List Meaning) (from to : ℕ) → from ≤ to → to ≤ length section → SpellsValues columns meanings (bytes_between section from to) → HasValues section columns meanings from to
+pub values_found : (section : List ℕ) (columns : List Spec) (meanings : List Meaning) (from to : ℕ) → from ≤ to → to ≤ length section → SpellsValues columns meanings (bytes_between section from to) → HasValues section columns meanings from to
 values_found section [] [] from to order inside none =
     let size : to - from ≡ 0 = sym (length_between section from to inside) ∙ ap length none in
     let same : from ≡ to = omega arith in

@@ -11,7 +11,7 @@ use Rattle.entry_arena.proofs.FrontLaws.{comes_to_entry}
 use Rattle.entry_arena.proofs.StepLaws.{entry_rises}
 
 -- a walk puts values behind those that are there
-walks_extend : (section : List ℕ) (ds : List Declared) (old : Listed) (chains : List ℕ) (items : List Item) (new : Listed) (left : List ℕ) → Walks section ds old chains items new left → (more : List Value) × (new.values ≡ old.values ++ more)
+pub walks_extend : (section : List ℕ) (ds : List Declared) (old : Listed) (chains : List ℕ) (items : List Item) (new : Listed) (left : List ℕ) → Walks section ds old chains items new left → (more : List Value) × (new.values ≡ old.values ++ more)
 walks_extend section ds old chains [] new left (same, e) = ([], ap (λ z. z.values) same ∙ sym (append-nil old.values))
 walks_extend section ds old chains (AnEntry number ∷ items) new left (going, (mid, adds, rest)) =
     let (more, after) = walks_extend section ds mid (opened ds number (length old.entries) chains) items new left rest in
@@ -20,7 +20,7 @@ walks_extend section ds old chains (AnEnd ∷ items) new left (id, outer, mid, e
     let (more, after) = walks_extend section ds mid outer items new left rest in
     (more, after ∙ ap (λ z. z ++ more) adds.listed)
 
-own_values : (before own after : List Value) → take (length own) (drop (length before) ((before ++ own) ++ after)) ≡ own
+pub own_values : (before own after : List Value) → take (length own) (drop (length before) ((before ++ own) ++ after)) ≡ own
 own_values before own after =
     ap (λ z. take (length own) (drop (length before) z)) (append_assoc before own after) ∙ ap (take (length own)) (drop_at before (own ++ after) (length before) refl) ∙ take_at own after (length own) refl
 

@@ -11,3 +11,5 @@ pub mod Walks
 pub mod Forests
 pub mod Places
 pub mod Standing
+pub mod Growing
+pub mod Onward

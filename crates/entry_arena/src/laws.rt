@@ -2,6 +2,8 @@
 ghost use Rattle.entry_arena.specs.Ends.{WholeWalksEndChains};
 ghost use Rattle.entry_arena.specs.ForestLaws.{TreesAreWalks, TablesHaveCodes, WalksAgree, WholeWalksAreLongest, OneWholeWalk, OneForest, WalksHaveRuns, WalksRise, GoingWalksStep, StepsHaveNoFault, WalksWithoutEntries, RootsHaveCodes};
 ghost use Rattle.entry_arena.specs.Fronts.{WalksAreSpelled, WalksComeToEntries, WalksComeToEnds};
+ghost use Rattle.entry_arena.specs.Growing.{SectionsGrow, WalksArePushed};
+ghost use Rattle.entry_arena.specs.Onward.{WalksGoOn};
 ghost use Rattle.entry_arena.specs.Places.{WalksAreInOrder, WalksStandBefore, ValuesComeNext, EntriesComeNext, EndsComeNext};
 ghost use Rattle.entry_arena.specs.Preorders.{PreordersAreForests};
 ghost use Rattle.entry_arena.specs.Standing.{EntriesStand};
@@ -80,4 +82,17 @@ pub fn steps_in_order()
 /// A law: each entry of a unit is its code and the values of its columns, which stand from its place on up to its end.
 pub fn entries_stand()
     ensures { EntriesStand }
+{}
+
+/// Laws: bytes that are appended to a section change nothing of what stands before them, and a walk is a longer one with the
+/// entry or the code 0 that stands next.
+pub fn walks_stay()
+    ensures stay { SectionsGrow }
+    ensures push { WalksArePushed }
+{}
+
+/// A law: a front of a whole walk goes on with the first, by its place, of the entries and the codes 0 that aren't listed yet,
+/// and has come to its end where all are.
+pub fn walks_go_on()
+    ensures { WalksGoOn }
 {}

@@ -11,5 +11,5 @@ pub use entry::{ChainEnd, Entry, Target};
 pub use forest::Forest;
 pub use laws::{
     chains_end_once, entries_stand, forests_spelled, one_forest, places_follow, runs,
-    steps_in_order, steps_whole, trees_are_walks, walks_in_order,
+    steps_in_order, steps_whole, trees_are_walks, walks_go_on, walks_in_order, walks_stay,
 };

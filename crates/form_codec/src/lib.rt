@@ -14,4 +14,4 @@ pub use form::{Content, Form, Role, Shape, Width};
 pub use laws::{constants, values_end, values_whole};
 pub use read::{known, read_value};
 pub use value::{ReadValue, Value};
-pub use write::{admits, size_of, write_value};
+pub use write::{admits, size_of, spelled_size, write_value};

@@ -72,8 +72,9 @@ fn encoded_size(encoding: Encoding) -> u64
     }
 }
 
-// How many bytes a value has in the form with a code that admits it.
-fn spelled_size(code: u64, value: &Value) -> u64
+/// The number of bytes that a value has in the form with this code, written with the shortest LEB128 numbers. Of a form that
+/// doesn't admit the value it says nothing.
+pub fn spelled_size(code: u64, value: &Value) -> u64
     ensures { (section : List ℕ) → length section < 2 ^ 63 → IsValueIn section value.now → Admits code (meant_in section value.now) → (written : List ℕ) × SpellsShortest code (meant_in section value.now) written × (result ≡ length written) }
 {
     match encoding_for(code, value) {
