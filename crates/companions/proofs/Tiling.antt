@@ -12,7 +12,8 @@ use Rattle.dw_base.specs.declared.fault.Refusal.{Refusal}
 use Rattle.dw_base.specs.declared.fault.Refusal.TheVariants.{Refused}
 use Rattle.companions.specs.declared.set.ArangeSet.{ArangeSet}
 use Rattle.companions.specs.Aranges.{unit_length, set_end, AreRising, BeginsAt, IsSet, HasSet, SetsFollow, SetsTile, HaveUnits}
-use Rattle.companions.specs.Faults.{FaultSet, FaultSets, IsFaultOf, IsRefusedFor, IsFaulty}
+use Rattle.companions.specs.Faults.{FaultSet, FaultSets}
+use Rattle.dw_base.specs.Refusals.{IsFaultOf, IsRefusedFor, IsFaulty}
 
 -- one more set
 pub follow_push : (section starts : List ℕ) (sets : List ArangeSet) (set : ArangeSet) (a b : ℕ) → SetsFollow section starts sets a b → set.at ≡ b → IsSet section starts set → SetsFollow section starts (sets ++ set ∷ []) a (set_end section b)

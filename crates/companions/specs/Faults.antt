@@ -2,9 +2,6 @@
 use Rattle.std.specs.Prelude.{◌≡◌, ◌≤◌, ◌<◌, ◌+◌, ◌⊎◌, ℕ, List, length}
 use Rattle.dw_base.specs.declared.fault.Kind.{Kind}
 use Rattle.dw_base.specs.declared.fault.Kind.TheVariants.{Short, Aranges as NoAranges}
-use Rattle.dw_base.specs.declared.fault.Fault.{Fault}
-use Rattle.dw_base.specs.declared.fault.Refusal.{Refusal}
-use Rattle.dw_base.specs.declared.fault.Refusal.TheVariants.{Refused, NoMemory}
 use Rattle.companions.specs.declared.set.ArangeSet.{ArangeSet}
 use Rattle.companions.specs.Aranges.{unit_length, set_end, least_reserved, IsWhole, HasSet, SetsFollow}
 
@@ -26,16 +23,3 @@ pub record FaultSets (section starts : List ℕ) (kind : Kind) (place : ℕ) : T
   pub front : SetsFollow section starts sets 0 at
   pub inside : at < length section
   pub fault : FaultSet section starts at kind place
-
--- The fault is one of the kinds and places that are said, where `origin` is the file offset of the section's first byte.
-abbrev pub IsFaultOf : (Kind → ℕ → Type 0) → ℕ → Fault → Type 0
-IsFaultOf holds origin fault = (place : ℕ) × (fault.place ≡ origin + place) × holds fault.kind place
-
--- memory was wanting, or a fault is refused that holds
-abbrev pub IsRefusedFor : (Fault → Type 0) → Refusal → Type 0
-IsRefusedFor holds (Refused fault) = holds fault
-IsRefusedFor holds NoMemory = Unit {0}
-
--- some fault holds
-abbrev pub IsFaulty : (Kind → ℕ → Type 0) → Type 0
-IsFaulty holds = (kind : Kind) × (place : ℕ) × holds kind place

@@ -2,7 +2,8 @@
 use Rattle.std.specs.Prelude.{◌≡◌, List, ℕ}
 use Rattle.companions.specs.declared.set.ArangeSet.{ArangeSet}
 use Rattle.companions.specs.Aranges.{AreRising, SetsTile}
-use Rattle.companions.specs.Faults.{FaultSets, IsFaulty}
+use Rattle.companions.specs.Faults.{FaultSets}
+use Rattle.dw_base.specs.Refusals.{IsFaulty}
 
 -- Sets tile a section in one way, where no two units begin at one place.
 abbrev pub OneTiling : Type 0

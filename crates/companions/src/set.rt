@@ -2,7 +2,8 @@
 ghost use Rattle.std.specs.Prelude.{◌≡◌, ◌≤◌, ◌<◌, ◌+◌, ◌^◌, ◌++◌, ◌∷◌, ℕ, [], length, IfOk, IfErr, OnOk, MatchOption};
 ghost use Rattle.dw_base.specs.declared.fault.Refusal.TheVariants.{Refused};
 ghost use Rattle.companions.specs.Aranges.{set_end, IsWhole, AreRising, BeginsAt, IsSet, HasSet, SetsTile, HaveUnits};
-ghost use Rattle.companions.specs.Faults.{LeavesSection, FaultSets, IsFaultOf, IsFaulty, IsRefusedFor};
+ghost use Rattle.companions.specs.Faults.{LeavesSection, FaultSets};
+ghost use Rattle.dw_base.specs.Refusals.{IsFaultOf, IsFaulty, IsRefusedFor};
 
 use crate::number::{u16_at, u32_at};
 use dw_base::{Fault, Kind, NoMemory, Refusal};

@@ -5,3 +5,7 @@ pub mod Walking
 pub mod Refusing
 pub mod Whole
 pub mod PlaceLaws
+pub mod Chained
+pub mod RiseLaws
+pub mod OwnerLaws
+pub mod ColumnPlaces

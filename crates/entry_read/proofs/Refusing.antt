@@ -14,7 +14,8 @@ use Rattle.entry_arena.specs.Walks.{IsGoing}
 use Rattle.entry_read.specs.declared.head.UnitHead.{UnitHead}
 use Rattle.entry_read.specs.declared.unit.Counts.{Counts}
 use Rattle.entry_read.specs.Units.{IsWithin, end_of, rest_of}
-use Rattle.entry_read.specs.Faults.{IsCutEntry, FaultNext, FaultUnit, IsFaultOf, IsRefusedFor}
+use Rattle.entry_read.specs.Faults.{IsCutEntry, FaultNext, FaultUnit}
+use Rattle.dw_base.specs.Refusals.{IsFaultOf, IsRefusedFor}
 use Rattle.entry_read.specs.Readings.{FaultOfColumns, HasFront}
 
 -- a refusal of a fault

@@ -6,7 +6,8 @@ use Rattle.dw_base.specs.declared.fault.Kind.{Kind}
 use Rattle.dw_base.specs.declared.fault.Kind.TheVariants.{Short, UnitHead as AHead}
 use Rattle.entry_read.specs.declared.head.UnitHead.{UnitHead}
 use Rattle.entry_read.specs.Heads.{HasHead, head_at, IsHead, unit_length, unit_end, Follow, Tile}
-use Rattle.entry_read.specs.Faults.{FaultHead, FaultHeads, IsFaulty}
+use Rattle.entry_read.specs.Faults.{FaultHead, FaultHeads}
+use Rattle.dw_base.specs.Refusals.{IsFaulty}
 
 -- one more unit
 pub follow_push : (section : List ℕ) (heads : List UnitHead) (head : UnitHead) (a b : ℕ) → Follow section heads a b → head.at ≡ b → IsHead section head → Follow section (heads ++ head ∷ []) a (b + head.len)

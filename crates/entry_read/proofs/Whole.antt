@@ -16,7 +16,8 @@ use Rattle.entry_arena.proofs.StepLaws.{walks_rise, going_steps, steps_faultless
 use Rattle.entry_read.specs.declared.head.UnitHead.{UnitHead}
 use Rattle.entry_read.specs.declared.unit.Counts.{Counts}
 use Rattle.entry_read.specs.Units.{IsFront, IsUnit, IsWithin, end_of, entries_at}
-use Rattle.entry_read.specs.Faults.{FaultNext, FaultUnit, IsFaulty, IsNoTree, IsCutEntry, PassesLimit}
+use Rattle.entry_read.specs.Faults.{FaultNext, FaultUnit, IsNoTree, IsCutEntry, PassesLimit}
+use Rattle.dw_base.specs.Refusals.{IsFaulty}
 use Rattle.entry_read.specs.Readings.{HasFront}
 
 -- where no chain is open after an entry, a walk goes no further

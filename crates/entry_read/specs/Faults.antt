@@ -2,9 +2,6 @@
 use Rattle.std.specs.Prelude.{◌≡◌, ◌≢◌, ◌≤◌, ◌<◌, ◌+◌, ◌⊎◌, ℕ, List, [], length, slice_index}
 use Rattle.dw_base.specs.declared.fault.Kind.{Kind}
 use Rattle.dw_base.specs.declared.fault.Kind.TheVariants.{Limit, LebWide, Short, CodeMissing, UnitHead as AHead, Tree, Text}
-use Rattle.dw_base.specs.declared.fault.Fault.{Fault}
-use Rattle.dw_base.specs.declared.fault.Refusal.{Refusal}
-use Rattle.dw_base.specs.declared.fault.Refusal.TheVariants.{Refused, NoMemory}
 use Rattle.leb_codec.specs.Leb.{Uleb, IsShort, IsWideUnsigned}
 use Rattle.abbrev_tables.specs.Tables.{Declared}
 use Rattle.entry_arena.specs.Trees.{Listed, SpellsBetween, declared_at, AddsEntry}
@@ -31,19 +28,6 @@ pub record FaultHeads (section : List ℕ) (kind : Kind) (place : ℕ) : Type 0 
   pub front : Follow section heads 0 at
   pub inside : at < length section
   pub fault : FaultHead section at kind place
-
--- The fault is one of the kinds and places that are said, where `origin` is the file offset of the section's first byte.
-abbrev pub IsFaultOf : (Kind → ℕ → Type 0) → ℕ → Fault → Type 0
-IsFaultOf holds origin fault = (place : ℕ) × (fault.place ≡ origin + place) × holds fault.kind place
-
--- memory was wanting, or a fault is refused that holds
-abbrev pub IsRefusedFor : (Fault → Type 0) → Refusal → Type 0
-IsRefusedFor holds (Refused fault) = holds fault
-IsRefusedFor holds NoMemory = Unit {0}
-
--- some fault holds
-abbrev pub IsFaulty : (Kind → ℕ → Type 0) → Type 0
-IsFaulty holds = (kind : Kind) × (place : ℕ) × holds kind place
 
 -- A code that stands in the unit at a place, and ends by itself.
 pub record HasCodeAt (info : List ℕ) (head : UnitHead) (place code : ℕ) : Type 0 where

@@ -1,5 +1,5 @@
 -- The header of a unit of .debug_info (DWARF 5 section 7.5.1), in the 32-bit format.
-use Rattle.std.specs.Prelude.{◌≡◌, ◌≤◌, ◌<◌, ◌+◌, ◌-◌, ◌⊎◌, ℕ, List, [], ◌∷◌, length, drop, slice_index, nat_eq, if◌then◌else◌}
+use Rattle.std.specs.Prelude.{◌≡◌, ◌≤◌, ◌<◌, ◌+◌, ◌-◌, ◌⊎◌, ℕ, List, [], ◌∷◌, length, drop, slice_index, slice_index_or, nat_eq, if◌then◌else◌}
 use Rattle.form_codec.specs.Forms.{number}
 use Rattle.entry_read.specs.declared.head.UnitHead.{UnitHead}
 
@@ -29,6 +29,11 @@ signature section at = number_at 8 (at + 12) section
 
 abbrev pub type_offset : List ℕ → ℕ → ℕ
 type_offset section at = number_at 4 (at + 20) section
+
+-- where the field type_offset of a type unit stands: after the 12 bytes that all headers have and the 8 of the signature
+-- (DWARF 5 section 7.5.1.3)
+abbrev pub type_offset_at : UnitHead → ℕ
+type_offset_at head = head.at + 20
 
 -- the types of units that are read: DW_UT_compile, DW_UT_type, DW_UT_partial and DW_UT_skeleton
 abbrev pub compile_unit : ℕ
@@ -99,3 +104,11 @@ Follow section (head ∷ heads) at end = (head.at ≡ at) × IsHead section head
 -- The units of the heads are the whole section.
 abbrev pub Tile : List ℕ → List UnitHead → Type 0
 Tile section heads = Follow section heads 0 (length section)
+
+-- past the end of a list of heads there is none, and one of zeros stands for it
+abbrev pub no_head : UnitHead
+no_head = record { at = 0; len = 0; kind = 0; table = 0; extra = 0; type_at = 0 }
+
+-- the head with a number, counted from 0
+abbrev pub head_numbered : List UnitHead → ℕ → UnitHead
+head_numbered heads i = slice_index_or heads i no_head

@@ -7,7 +7,8 @@ use Rattle.entry_read.specs.declared.head.UnitHead.{UnitHead}
 use Rattle.entry_read.specs.declared.unit.Counts.{Counts}
 use Rattle.entry_read.specs.Heads.{Tile}
 use Rattle.entry_read.specs.Units.{IsUnit, IsWithin}
-use Rattle.entry_read.specs.Faults.{FaultHeads, FaultUnit, IsFaulty}
+use Rattle.entry_read.specs.Faults.{FaultHeads, FaultUnit}
+use Rattle.dw_base.specs.Refusals.{IsFaulty}
 
 -- Units tile a section in one way.
 abbrev pub OneTiling : Type 0

@@ -8,7 +8,8 @@ ghost use Rattle.entry_arena.specs.Trees.{SpellsBetween, bytes_between, AddsEntr
 ghost use Rattle.entry_arena.specs.Walks.{IsGoing};
 ghost use Rattle.entry_read.specs.Heads.{IsHead};
 ghost use Rattle.entry_read.specs.Units.{declarations_of, IsTable, IsWithin, end_of, entries_at};
-ghost use Rattle.entry_read.specs.Faults.{FaultUnit, IsFaultOf, IsRefusedFor};
+ghost use Rattle.entry_read.specs.Faults.{FaultUnit};
+ghost use Rattle.dw_base.specs.Refusals.{IsFaultOf, IsRefusedFor};
 ghost use Rattle.entry_read.specs.Readings.{AreKnown, AddsValues, FaultOfColumns, IsWalked, IsWalkedBy, HasFront};
 
 use crate::head::{UnitHead, header_size};
@@ -35,7 +36,7 @@ pub struct Scope {
 }
 
 impl Scope {
-    // The place after the unit's last byte.
+    /// The place after the unit's last byte.
     pub fn end(&self) -> usize
         requires { end_of self.now.head < 2 ^ 64 }
         ensures { result ≡ end_of self.now.head }
@@ -43,7 +44,7 @@ impl Scope {
         (self.head.at + self.head.len) as usize
     }
 
-    // A refusal at a place of the section.
+    /// A refusal at a place of the section.
     pub fn refused(&self, kind: Kind, at: usize) -> Refusal
         requires { self.now.origin + at < 2 ^ 64 }
         ensures { result ≡ Refused (record { kind = kind; place = self.now.origin + at }) }
@@ -86,8 +87,8 @@ fn read_code(info: &[u8], at: usize, end: usize) -> Result<ReadU, Kind>
     }
 }
 
-// The columns of a declaration.
-fn columns_of(table: &Table, number: u32) -> &[Spec]
+/// The columns of a declaration.
+pub fn columns_of(table: &Table, number: u32) -> &[Spec]
     requires table { IsTable table.now }
     requires inside { number < length (declarations_of table.now) }
     ensures columns { result.now ≡ (declared_at (declarations_of table.now) number).columns }
@@ -278,7 +279,7 @@ fn read_next<'a>(
     }
 }
 
-// Reads the entries of a unit, and gives the place after their tree.
+/// Reads the entries of a unit, and gives the place after their tree.
 pub fn read_entries<'a>(
     alloc: Global,
     forest: &mut Forest<'a>,

@@ -2,7 +2,8 @@
 ghost use Rattle.std.specs.Prelude.{◌≡◌, ◌≤◌, ◌<◌, ◌+◌, ◌^◌, ◌++◌, ◌∷◌, [], length, IfOk, IfErr, OnOk, MatchOption, MatchResult, IsTrue, ◌↔◌};
 ghost use Rattle.std.specs.List.{All};
 ghost use Rattle.entry_read.specs.Heads.{IsUnitType, header_size as size_of_header, unit_end, unit_length, least_reserved, HasHead, head_at, IsHead, Tile};
-ghost use Rattle.entry_read.specs.Faults.{FaultHead, FaultHeads, IsFaultOf, IsFaulty, IsRefusedFor};
+ghost use Rattle.entry_read.specs.Faults.{FaultHead, FaultHeads};
+ghost use Rattle.dw_base.specs.Refusals.{IsFaultOf, IsFaulty, IsRefusedFor};
 
 use crate::number::{u16_at, u32_at, u64_at};
 use dw_base::{Fault, Kind, NoMemory, Refusal};
@@ -42,7 +43,7 @@ fn is_unit_type(kind: u8) -> bool
     kind >= 1 && kind <= 4
 }
 
-// How many bytes the header of a unit of a type has.
+/// How many bytes the header of a unit of a type has.
 pub fn header_size(kind: u8) -> usize
     ensures size { result ≡ size_of_header kind }
     ensures small { result ≤ 24 }

@@ -5,10 +5,12 @@ mod entries;
 mod head;
 mod laws;
 mod number;
+mod place;
 #[cfg(test)]
 mod tests;
 mod unit;
 
-pub use head::{UnitHead, heads};
+pub use head::{UnitHead, header_size, heads};
 pub use laws::{heads_tile, units_lie, units_whole};
+pub use place::place_of_value;
 pub use unit::{Counts, Unit, read_unit};

@@ -4,6 +4,7 @@ ghost use Rattle.entry_read.specs.Heads.{number_at};
 
 use byteorder::{ByteOrder, LittleEndian};
 
+/// The number in the two bytes from a place on.
 pub fn u16_at(bytes: &[u8], at: usize) -> u16
     requires { at + 2 ≤ length bytes.now }
     ensures { result ≡ number_at 2 at bytes.now }
@@ -11,6 +12,7 @@ pub fn u16_at(bytes: &[u8], at: usize) -> u16
     LittleEndian::read_u16(&bytes[at..])
 }
 
+/// The number in the four bytes from a place on.
 pub fn u32_at(bytes: &[u8], at: usize) -> u32
     requires { at + 4 ≤ length bytes.now }
     ensures { result ≡ number_at 4 at bytes.now }
@@ -18,6 +20,7 @@ pub fn u32_at(bytes: &[u8], at: usize) -> u32
     LittleEndian::read_u32(&bytes[at..])
 }
 
+/// The number in the eight bytes from a place on.
 pub fn u64_at(bytes: &[u8], at: usize) -> u64
     requires { at + 8 ≤ length bytes.now }
     ensures { result ≡ number_at 8 at bytes.now }

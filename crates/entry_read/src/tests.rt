@@ -1,5 +1,5 @@
 // Units of two compilers and of small shapes, entry by entry, and units that are refused.
-use crate::{Counts, UnitHead, heads, read_unit};
+use crate::{Counts, UnitHead, heads, place_of_value, read_unit};
 use abbrev_tables::Table;
 use dw_base::{Fault, Kind, Refusal, Span};
 use entry_arena::{ChainEnd, Entry};
@@ -504,6 +504,63 @@ fn padding_is_read(rt: HostRuntime) -> Result<(), Fail> {
     ];
     for info in rows {
         assert_eq!(rt; fault_of(alloc, info, &PAIR_TABLE, NONE_BEFORE)?, None);
+    }
+    Ok(())
+}
+
+// A padded code, a padded number and a text.
+const PADDED: [u8; 21] = [
+    17, 0, 0, 0, 5, 0, 1, 8, 0, 0, 0, 0, 1, 0x82, 0x80, 0, 0x85, 0, 0x41, 0, 0,
+];
+
+// The place of a value of the first unit.
+fn place_in(alloc: Global, info: &[u8], table: &[u8], id: u32, column: u32) -> Result<u64, Fail> {
+    if table.is_empty() {
+        return Err("no table")?;
+    }
+    let Ok(table) = Table::read(alloc, table, 0, 0) else {
+        return Err("no table")?;
+    };
+    let heads = heads(alloc, info, 64).ok().ok_or("no heads")?;
+    for head in heads.iter() {
+        let Ok(unit) = read_unit(alloc, info, head, &table, NONE_BEFORE, 64) else {
+            return Err("refused")?;
+        };
+        if id >= unit.forest().len() || column >= unit.forest().entry(id).count {
+            return Err("no value")?;
+        }
+        return Ok(place_of_value(&unit, &table, id, column));
+    }
+    Err("no unit")?
+}
+
+// An entry, a column, and the place where the bytes of its value begin or would.
+#[test]
+fn places_of_values(rt: HostRuntime) -> Result<(), Fail> {
+    let alloc = rt.alloc();
+    let rows: [(&[u8], &[u8], u32, u32, u64); 14] = [
+        // the root: right behind its code, behind numbers of one and four bytes, and behind an address
+        (&GCC, &GCC_TABLE, 0, 0, 13),
+        (&GCC, &GCC_TABLE, 0, 2, 18),
+        (&GCC, &GCC_TABLE, 0, 5, 34),
+        (&GCC, &GCC_TABLE, 0, 6, 42),
+        // a flag without bytes, the text that begins at the same place, a constant of the declaration, and what follows it
+        (&GCC, &GCC_TABLE, 1, 0, 47),
+        (&GCC, &GCC_TABLE, 1, 1, 47),
+        (&GCC, &GCC_TABLE, 1, 2, 49),
+        (&GCC, &GCC_TABLE, 1, 3, 49),
+        // an expression begins with its count, and the sibling follows its bytes
+        (&GCC, &GCC_TABLE, 1, 7, 70),
+        (&GCC, &GCC_TABLE, 1, 8, 72),
+        // the last value of the last entry, and a block
+        (&GCC, &GCC_TABLE, 3, 2, 96),
+        (&BLOCK, &BLOCK_TABLE, 1, 1, 18),
+        // behind a padded code, and behind a padded number too
+        (&PADDED, &PAIR_TABLE, 1, 0, 16),
+        (&PADDED, &PAIR_TABLE, 1, 1, 18),
+    ];
+    for (info, table, id, column, place) in rows {
+        assert_eq!(rt; place_in(alloc, info, table, id, column)?, place);
     }
     Ok(())
 }

@@ -3,7 +3,8 @@ ghost use Rattle.std.specs.Prelude.{◌≡◌, ◌≤◌, ◌<◌, ◌+◌, ◌^
 ghost use Rattle.entry_arena.specs.Trees.{listed_to};
 ghost use Rattle.entry_read.specs.Heads.{IsHead};
 ghost use Rattle.entry_read.specs.Units.{declarations_of, IsTable, IsUnitHeld, IsWithin};
-ghost use Rattle.entry_read.specs.Faults.{FaultUnit, IsFaultOf, IsFaulty, IsRefusedFor};
+ghost use Rattle.entry_read.specs.Faults.{FaultUnit};
+ghost use Rattle.dw_base.specs.Refusals.{IsFaultOf, IsFaulty, IsRefusedFor};
 
 use crate::entries::{Scope, read_entries};
 use crate::head::UnitHead;
