@@ -1,0 +1,328 @@
+-- The items of a unit that are written anew: they are walked in the new section, and each is the old one with new numbers.
+use Rattle.std.proofs.Common.{◌≡◌, ◌≢◌, ◌≤◌, ◌<◌, ◌+◌, ◌-◌, ℕ, zero, suc, List, [], ◌∷◌, ◌++◌, length, take, drop, get_or, ◌∙◌, sym, ap, refl, subst, arith, inl, inr}
+use Rattle.std.specs.Prelude.{map, if◌then◌else◌, Bool}
+use Rattle.std.specs.List.{AllZip}
+use Rattle.std.proofs.lemmas.List.{append-nil, append_assoc, length-append, length-map, get_or_append_left, get_or-append-add, get_or-take, get_or-drop, get_or-map}
+use Rattle.std.proofs.lemmas.Bool.{cases_lt}
+use Rattle.std.proofs.Common.{add-one}
+use Rattle.leb_codec.specs.Leb.{Uleb}
+use Rattle.leb_codec.proofs.SpellingLaws.{leb_one}
+use Rattle.form_codec.specs.declared.value.Value.{Value}
+use Rattle.form_codec.specs.Forms.{Meaning}
+use Rattle.form_codec.specs.Values.{meant_in}
+use Rattle.abbrev_tables.specs.declared.decl.Spec.{Spec}
+use Rattle.abbrev_tables.specs.Tables.{Declared}
+use Rattle.abbrev_tables.specs.Listings.{Listing, declared_in}
+use Rattle.entry_arena.specs.declared.entry.Entry.{Entry}
+use Rattle.entry_arena.specs.declared.entry.ChainEnd.{ChainEnd}
+use Rattle.entry_arena.specs.Arena.{Arena, entry_at, value_at}
+use Rattle.entry_arena.specs.Trees.{Listed, listed_to, nothing_from, declared_at, bytes_between, ValuesBetween, AddsEntry, AddsEnd}
+use Rattle.entry_arena.specs.Walks.{Item, IsGoing, Walks, opened}
+use Rattle.entry_arena.specs.Walks.Item.{AnEntry, AnEnd}
+use Rattle.entry_arena.specs.Onward.{HasWalked, EntryIsNext, EndIsNext}
+use Rattle.entry_arena.specs.Spellings.{SpellsValues}
+use Rattle.entry_arena.proofs.SpellingLaws.{cut, values_found}
+use Rattle.entry_read.specs.Units.{declarations_of}
+use Rattle.unit_write.specs.Values.{with_number, HaveSize}
+use Rattle.unit_write.specs.Placing.{columns_of, values_in, EntrySize, ArePlaced, IsRenumbered}
+use Rattle.unit_write.specs.Moved.{IsMovedEntry, IsMovedEnd}
+use Rattle.unit_write.specs.Puts.{PutsValues, PutsEntry, PutsItems, numbers_in}
+use Rattle.entry_arena.proofs.Between.{length_between}
+use Rattle.entry_arena.proofs.OnwardLaws.{walks_go_on}
+use Rattle.unit_write.proofs.PutLaws.{values_as}
+
+-- what values mean with numbers of their own
+abbrev renamed : List ℕ → List Value → List ℕ → List Meaning
+renamed section [] ns = []
+renamed section (v ∷ vs) [] = []
+renamed section (v ∷ vs) (n ∷ ns) = with_number n (meant_in section v) ∷ renamed section vs ns
+
+values_spelled : (section : List ℕ) (cs : List Spec) (vs : List Value) (ns bytes : List ℕ) → PutsValues section cs vs ns bytes → SpellsValues cs (renamed section vs ns) bytes
+values_spelled section [] [] [] bytes p = p
+values_spelled section [] [] (n ∷ ns) bytes p = absurd p
+values_spelled section [] (v ∷ vs) ns bytes p = absurd p
+values_spelled section (c ∷ cs) [] ns bytes p = absurd p
+values_spelled section (c ∷ cs) (v ∷ vs) [] bytes p = absurd p
+values_spelled section (c ∷ cs) (v ∷ vs) (n ∷ ns) bytes (first, rest, w, p, e) = (first, rest, w.0, values_spelled section cs vs ns rest p, e)
+
+values_sized : (section : List ℕ) (cs : List Spec) (vs : List Value) (ns bytes : List ℕ) → PutsValues section cs vs ns bytes → HaveSize section cs vs (length bytes)
+values_sized section [] [] [] bytes p = ap length p
+values_sized section [] [] (n ∷ ns) bytes p = absurd p
+values_sized section [] (v ∷ vs) ns bytes p = absurd p
+values_sized section (c ∷ cs) [] ns bytes p = absurd p
+values_sized section (c ∷ cs) (v ∷ vs) [] bytes p = absurd p
+values_sized section (c ∷ cs) (v ∷ vs) (n ∷ ns) bytes (first, rest, w, p, e) =
+    (length first, length rest, (n, first, w, refl), values_sized section cs vs ns rest p, ap length e ∙ length-append first rest)
+
+-- values in a section that mean what others mean in theirs, with numbers of their own
+record AreRenamed (old new : List ℕ) (vs ws : List Value) (ns : List ℕ) : Type 0 where
+  count : length ws ≡ length vs
+  each : (k : ℕ) → k < length vs → meant_in new (value_at ws k) ≡ with_number (get_or ns k 0) (meant_in old (value_at vs k))
+
+are_renamed : (old new : List ℕ) (cs : List Spec) (vs ws : List Value) (ns bytes : List ℕ) → PutsValues old cs vs ns bytes → map (meant_in new) ws ≡ renamed old vs ns → AreRenamed old new vs ws ns
+are_renamed old new [] [] [] [] bytes p e = record { count = refl; each = λ k lt. absurd (omega arith) }
+are_renamed old new [] [] (w ∷ ws) [] bytes p e = absurd (cc (e))
+are_renamed old new [] [] ws (n ∷ ns) bytes p e = absurd p
+are_renamed old new [] (v ∷ vs) ws ns bytes p e = absurd p
+are_renamed old new (c ∷ cs) [] ws ns bytes p e = absurd p
+are_renamed old new (c ∷ cs) (v ∷ vs) ws [] bytes p e = absurd p
+are_renamed old new (c ∷ cs) (v ∷ vs) [] (n ∷ ns) bytes p e = absurd (cc (e))
+are_renamed old new (c ∷ cs) (v ∷ vs) (w ∷ ws) (n ∷ ns) bytes (first, rest, x, p, g) e =
+    let here : meant_in new w ≡ with_number n (meant_in old v) = cc (e) in
+    let there : map (meant_in new) ws ≡ renamed old vs ns = cc (e) in
+    let more = are_renamed old new cs vs ws ns rest p there in
+    record { count = ap suc more.count; each = at here more.each }
+  where
+    at : meant_in new w ≡ with_number n (meant_in old v) → ((k : ℕ) → k < length vs → meant_in new (value_at ws k) ≡ with_number (get_or ns k 0) (meant_in old (value_at vs k))) → (k : ℕ) → k < length (v ∷ vs) → meant_in new (value_at (w ∷ ws) k) ≡ with_number (get_or (n ∷ ns) k 0) (meant_in old (value_at (v ∷ vs) k))
+    at here there zero lt = here
+    at here there (suc k) lt = there k (omega arith)
+
+zip_push : {A B : Type 0} (R : A → B → Type 0) (xs : List A) (ys : List B) (x : A) (y : B) → AllZip R xs ys → R x y → AllZip R (xs ++ x ∷ []) (ys ++ y ∷ [])
+zip_push R [] [] x y a r = (r, tt)
+zip_push R [] (b ∷ ys) x y a r = absurd a
+zip_push R (c ∷ xs) [] x y a r = absurd a
+zip_push R (c ∷ xs) (b ∷ ys) x y a r = (a.0, zip_push R xs ys x y a.1 r)
+
+zip_length : {A B : Type 0} (R : A → B → Type 0) (xs : List A) (ys : List B) → AllZip R xs ys → length ys ≡ length xs
+zip_length R [] [] a = refl
+zip_length R [] (b ∷ ys) a = absurd a
+zip_length R (c ∷ xs) [] a = absurd a
+zip_length R (c ∷ xs) (b ∷ ys) a = ap suc (zip_length R xs ys a.1)
+
+-- what is listed of a new section is what is listed of the old one, with new numbers
+pub record IsMoved (numbers held old_section section : List ℕ) (old new : Listed) : Type 0 where
+  pub entries : AllZip (IsMovedEntry numbers) old.entries new.entries
+  pub count : length new.values ≡ length old.values
+  pub values : (k : ℕ) → k < length old.values → meant_in section (value_at new.values k) ≡ with_number (get_or held k 0) (meant_in old_section (value_at old.values k))
+  pub ends : AllZip IsMovedEnd old.ends new.ends
+
+pub nothing_moved : (numbers held old_section section : List ℕ) (from to : ℕ) → IsMoved numbers held old_section section (nothing_from from) (nothing_from to)
+nothing_moved numbers held old_section section from to = record { entries = tt; count = refl; values = λ k lt. absurd (omega arith); ends = tt }
+
+-- more values behind those that are there
+values_more : (held old_section section : List ℕ) (olds news vs ws : List Value) → length news ≡ length olds → ((k : ℕ) → k < length olds → meant_in section (value_at news k) ≡ with_number (get_or held k 0) (meant_in old_section (value_at olds k))) → AreRenamed old_section section vs ws (take (length vs) (drop (length olds) held)) → (k : ℕ) → k < length (olds ++ vs) → meant_in section (value_at (news ++ ws) k) ≡ with_number (get_or held k 0) (meant_in old_section (value_at (olds ++ vs) k))
+values_more held old_section section olds news vs ws count before renamed k lt =
+    elim (cases_lt k (length olds)) [
+      | inl left ↦
+          let there : k < length news = omega arith in
+          rw (get_or_append_left news ws _ k there, get_or_append_left olds vs _ k left) (before k left)
+      | inr right ↦
+          let j : ℕ = k - length olds in
+          let size : length (olds ++ vs) ≡ length olds + length vs = length-append olds vs in
+          let inside : j < length vs = omega arith in
+          let a : k ≡ length olds + j = omega arith in
+          let b : k ≡ length news + j = omega arith in
+          let new_at : value_at (news ++ ws) k ≡ value_at ws j = ap (value_at (news ++ ws)) b ∙ get_or-append-add news ws j _ in
+          let old_at : value_at (olds ++ vs) k ≡ value_at vs j = ap (value_at (olds ++ vs)) a ∙ get_or-append-add olds vs j _ in
+          let number : get_or (take (length vs) (drop (length olds) held)) j 0 ≡ get_or held k 0 = get_or-take (length vs) (drop (length olds) held) j 0 inside ∙ get_or-drop (length olds) held j 0 ∙ ap (λ i. get_or held i 0) (sym a) in
+          ap (meant_in section) new_at ∙ renamed.each j inside ∙ ap (λ n. with_number n (meant_in old_section (value_at vs j))) number ∙ ap (λ v. with_number (get_or held k 0) (meant_in old_section v)) (sym old_at)
+    ]
+
+entry_sized : (table : Listing) (columns : List Spec) (numbers held : List ℕ) (f : Arena) (id : ℕ) (bytes : List ℕ) → PutsEntry table columns numbers held f id bytes → EntrySize table columns numbers f id (length bytes)
+entry_sized table columns numbers held f id bytes p =
+    (length p.rest, values_sized f.section (columns_of table columns (entry_at f.entries id).decl) (values_in f id) (numbers_in f held id) p.rest p.valued, ap length p.whole ∙ length-append p.code p.rest ∙ ap (λ n. n + length p.rest) p.shortest)
+
+zero_byte : Uleb 0 (0 ∷ [])
+zero_byte = ((leb_one 0 (omega arith), refl), omega arith)
+
+no_entries : (entries : List Entry) → length entries ≡ 0 → entries ≡ []
+no_entries [] e = refl
+no_entries (x ∷ entries) e = absurd (omega arith)
+
+module _ (table : Listing) (columns : List Spec) (numbers held : List ℕ) (f : Arena) (ds : List Declared) (section : List ℕ) (renumbered : IsRenumbered table columns numbers ds) where
+  abbrev Moved : Listed → Listed → Type 0
+  Moved old new = IsMoved numbers held f.section section old new
+
+  abbrev number_of : ℕ → ℕ
+  number_of number = get_or numbers number 0 - 1
+
+  -- an entry stands in the new section
+  record EntryStands (depth number : ℕ) (mid new : Listed) (to : ℕ) : Type 0 where
+    next : Listed
+    entry : Entry
+    adds : AddsEntry section ds depth (number_of number) new next
+    place : next.place ≡ to
+    entered : next.entries ≡ new.entries ++ entry ∷ []
+    ended : next.ends ≡ new.ends
+    at : entry.at ≡ new.place
+    moved : Moved mid next
+
+  entry_stands : (depth number id : ℕ) (old mid new : Listed) (to : ℕ) (bytes : List ℕ) → Moved old new → (adds : AddsEntry f.section (declarations_of table) depth number old mid) → entry_at f.entries id ≡ record { at = old.place; len = mid.place - old.place; depth = depth; decl = number; first = length old.values; count = length adds.values } → values_in f id ≡ adds.values → get_or numbers number 0 ≢ 0 → PutsEntry table columns numbers held f id bytes → new.place ≤ to → to ≤ length section → bytes_between section new.place to ≡ bytes → EntryStands depth number mid new to
+  entry_stands depth number id old mid new to bytes moved adds here values_are used p order inside whole =
+      let e : Entry = record { at = old.place; len = mid.place - old.place; depth = depth; decl = number; first = length old.values; count = length adds.values } in
+      let decl : (entry_at f.entries id).decl ≡ number = ap (λ (z : Entry). z.decl) here in
+      let known : number < length table.decls = subst (λ (z : ℕ). number < z) (length-map table.decls (declared_in table.specs)) adds.known in
+      let there = renumbered.each number known used in
+      let cs : List Spec = columns_of table columns number in
+      let vs : List Value = adds.values in
+      let ns : List ℕ = take (length vs) (drop (length old.values) held) in
+      let put : PutsValues f.section cs vs ns p.rest = values_as f.section f.section (columns_of table columns (entry_at f.entries id).decl) cs (values_in f id) vs (numbers_in f held id) ns p.rest refl (ap (columns_of table columns) decl) values_are (ap (λ (z : Entry). take z.count (drop z.first held)) here) p.valued in
+      let parts : bytes_between section new.place to ≡ p.code ++ p.rest = whole ∙ p.whole in
+      let c = cut section new.place to p.code p.rest order inside parts in
+      let before : c.mid ≤ to = c.before in
+      let code : get_or numbers (entry_at f.entries id).decl 0 ≡ (declared_at ds (number_of number)).code = ap (λ (z : ℕ). get_or numbers z 0) decl ∙ sym (ap (λ (z : Declared). z.code) there.1) in
+      let coded = subst (λ (z : List ℕ). Uleb ((declared_at ds (number_of number)).code) z) (sym c.first) (subst (λ (z : ℕ). Uleb z p.code) code p.coded) in
+      let v = values_found section cs (renamed f.section vs ns) c.mid to c.before inside (subst (λ (z : List ℕ). SpellsValues cs (renamed f.section vs ns) z) (sym c.second) (values_spelled f.section cs vs ns p.rest put)) in
+      let r = are_renamed f.section section cs vs v.values ns p.rest put v.means in
+      let entry : Entry = record { at = new.place; len = to - new.place; depth = depth; decl = number_of number; first = length new.values; count = length v.values } in
+      let next : Listed = record { entries = new.entries ++ entry ∷ []; values = new.values ++ v.values; ends = new.ends; place = to } in
+      record {
+        next = next;
+        entry = entry;
+        adds = record {
+          known = there.0;
+          values_at = c.mid;
+          values = v.values;
+          coded = record { order = c.after; inside = omega arith; spelled = coded };
+          valued = subst (λ (z : List Spec). ValuesBetween section z v.values c.mid to) (sym (ap (λ (z : Declared). z.columns) there.1)) v.valued;
+          entered = refl;
+          listed = refl;
+          ended = refl;
+        };
+        place = refl;
+        entered = refl;
+        ended = refl;
+        at = refl;
+        moved = record {
+          entries = subst (λ (z : List Entry). AllZip (IsMovedEntry numbers) z (new.entries ++ entry ∷ [])) (sym adds.entered) (zip_push (IsMovedEntry numbers) old.entries new.entries e entry moved.entries (record { depth = refl; decl = refl; first = moved.count; count = r.count }));
+          count = length-append new.values v.values ∙ ap (λ n. n + length v.values) moved.count ∙ ap (λ n. length old.values + n) r.count ∙ sym (length-append old.values vs) ∙ sym (ap length adds.listed);
+          values = subst (λ (z : List Value). (k : ℕ) → k < length z → meant_in section (value_at (new.values ++ v.values) k) ≡ with_number (get_or held k 0) (meant_in f.section (value_at z k))) (sym adds.listed) (values_more held f.section section old.values new.values vs v.values moved.count moved.values r);
+          ends = subst (λ (z : List ChainEnd). AllZip IsMovedEnd z new.ends) (sym adds.ended) moved.ends;
+        };
+      }
+
+  -- the items of a walk stand in the new section
+  pub record StandAnew (id : ℕ) (items : List Item) (new : Listed) (chains : List ℕ) (to : ℕ) (forest : Listed) : Type 0 where
+    pub items_anew : List Item
+    pub last : Listed
+    pub entries : List Entry
+    pub ends : List ChainEnd
+    pub walked : Walks section ds new chains items_anew last []
+    pub place : last.place ≡ to
+    pub moved : Moved forest last
+    pub entries_are : last.entries ≡ new.entries ++ entries
+    pub ends_are : last.ends ≡ new.ends ++ ends
+    pub placed : ArePlaced (EntrySize table columns numbers f) id items new.place (map (λ (e : Entry). e.at) entries) (map (λ (e : ChainEnd). e.at) ends) to
+
+  children_same : (number : ℕ) → number < length table.decls → get_or numbers number 0 ≢ 0 → (declared_at (declarations_of table) number).children ≡ (declared_at ds (number_of number)).children
+  children_same number known used =
+      ap (λ (z : Declared). z.children) (get_or-map (declared_in table.specs) table.decls number _ _ known) ∙ sym (ap (λ (z : Declared). z.children) ((renumbered.each number known used).1))
+
+  going_moved : (old new : Listed) (chains : List ℕ) → Moved old new → IsGoing old chains → IsGoing new chains
+  going_moved old new chains moved (inl none) = inl (no_entries new.entries (zip_length (IsMovedEntry numbers) old.entries new.entries moved.entries ∙ ap length none))
+  going_moved old new chains moved (inr open_) = inr open_
+
+  opened_same : (number id new_id : ℕ) (chains : List ℕ) → number < length table.decls → get_or numbers number 0 ≢ 0 → id ≡ new_id → opened (declarations_of table) number id chains ≡ opened ds (number_of number) new_id chains
+  opened_same number id new_id chains known used same =
+      ap (λ (b : Bool). if b then id ∷ chains else chains) (children_same number known used) ∙ ap (λ (n : ℕ). if (declared_at ds (number_of number)).children then n ∷ chains else chains) same
+
+  module _ (start place : ℕ) (used : (id : ℕ) → id < length f.entries → get_or numbers (entry_at f.entries id).decl 0 ≢ 0) where
+    abbrev HasCome : ℕ → ℕ → List Item → Listed → List ℕ → List Item → Type 0
+    HasCome entries ends done now chains rest = HasWalked f.section (declarations_of table) start (listed_to f place) entries ends done now chains rest
+
+    entry_next : (number entries ends : ℕ) (rest done : List Item) (now : Listed) (chains : List ℕ) → HasCome entries ends done now chains (AnEntry number ∷ rest) → EntryIsNext f.section (declarations_of table) start (listed_to f place) entries ends done now chains (AnEntry number ∷ rest)
+    entry_next number entries ends rest done now chains h =
+        elim ((walks_go_on f.section (declarations_of table) start (listed_to f place) entries ends done now chains (AnEntry number ∷ rest) h).cases) [
+          | inl e ↦ e
+          | inr (inl e) ↦ absurd (cc (e.rest_is))
+          | inr (inr w) ↦ absurd (cc (w.rest_is))
+        ]
+
+    end_next : (entries ends : ℕ) (rest done : List Item) (now : Listed) (chains : List ℕ) → HasCome entries ends done now chains (AnEnd ∷ rest) → EndIsNext f.section (declarations_of table) start (listed_to f place) entries ends done now chains (AnEnd ∷ rest)
+    end_next entries ends rest done now chains h =
+        elim ((walks_go_on f.section (declarations_of table) start (listed_to f place) entries ends done now chains (AnEnd ∷ rest) h).cases) [
+          | inl e ↦ absurd (cc (e.rest_is))
+          | inr (inl e) ↦ e
+          | inr (inr w) ↦ absurd (cc (w.rest_is))
+        ]
+
+    -- after an entry
+    entry_anew : (number entries ends : ℕ) (rest done : List Item) (now new : Listed) (chains : List ℕ) (to mid : ℕ) (first : List ℕ) → (e : EntryIsNext f.section (declarations_of table) start (listed_to f place) entries ends done now chains (AnEntry number ∷ rest)) → Moved now new → (s : EntryStands (length chains) e.number e.mid new mid) → PutsEntry table columns numbers held f entries first → mid ≡ new.place + length first → length now.entries ≡ entries → StandAnew (suc entries) rest s.next (opened (declarations_of table) e.number entries chains) to (listed_to f place) → StandAnew entries (AnEntry number ∷ rest) new chains to (listed_to f place)
+    entry_anew number entries ends rest done now new chains to mid first e moved s p size few r =
+        let known : e.number < length table.decls = subst (λ (z : ℕ). e.number < z) (length-map table.decls (declared_in table.specs)) e.adds.known in
+        let decl : (entry_at f.entries entries).decl ≡ e.number = ap (λ (z : Entry). z.decl) e.here in
+        let some : get_or numbers e.number 0 ≢ 0 = subst (λ (z : ℕ). get_or numbers z 0 ≢ 0) decl (used entries e.inside) in
+        let count : entries ≡ length new.entries = sym (zip_length (IsMovedEntry numbers) now.entries new.entries moved.entries ∙ few) in
+        let open_ : opened (declarations_of table) e.number entries chains ≡ opened ds (number_of e.number) (length new.entries) chains = opened_same e.number entries (length new.entries) chains known some count in
+        let there : s.next.place ≡ new.place + length first = s.place ∙ size in
+        record {
+          items_anew = AnEntry (number_of e.number) ∷ r.items_anew;
+          last = r.last;
+          entries = s.entry ∷ r.entries;
+          ends = r.ends;
+          walked = (going_moved now new chains moved e.going, (s.next, s.adds, subst (λ (z : List ℕ). Walks section ds s.next z r.items_anew r.last []) open_ r.walked));
+          place = r.place;
+          moved = r.moved;
+          entries_are = r.entries_are ∙ ap (λ (z : List Entry). z ++ r.entries) s.entered ∙ append_assoc new.entries (s.entry ∷ []) r.entries;
+          ends_are = r.ends_are ∙ ap (λ (z : List ChainEnd). z ++ r.ends) s.ended;
+          placed = (s.at, (length first, entry_sized table columns numbers held f entries first p, subst (λ (z : ℕ). ArePlaced (EntrySize table columns numbers f) (suc entries) rest z (map (λ (e : Entry). e.at) r.entries) (map (λ (e : ChainEnd). e.at) r.ends) to) there r.placed));
+        }
+
+    -- the items of the rest of a walk
+    pub stand_anew : (rest done : List Item) (now new : Listed) (chains : List ℕ) (entries ends to : ℕ) (bytes : List ℕ) → HasCome entries ends done now chains rest → Moved now new → PutsItems (PutsEntry table columns numbers held f) entries rest bytes → new.place ≤ to → to ≤ length section → bytes_between section new.place to ≡ bytes → StandAnew entries rest new chains to (listed_to f place)
+    stand_anew [] done now new chains entries ends to bytes h moved put order inside whole =
+        let size : to - new.place ≡ 0 = sym (length_between section new.place to inside) ∙ ap length whole ∙ ap length put in
+        let same : new.place ≡ to = omega arith in
+        record {
+          items_anew = [];
+          last = new;
+          entries = [];
+          ends = [];
+          walked = (refl, h.onward.1);
+          place = same;
+          moved = subst (λ (z : Listed). Moved z new) (sym h.onward.0) moved;
+          entries_are = sym (append-nil new.entries);
+          ends_are = sym (append-nil new.ends);
+          placed = same;
+        }
+    stand_anew (AnEntry number ∷ rest) done now new chains entries ends to bytes h moved (first, more, p, q, w) order inside whole =
+        let e = entry_next number entries ends rest done now chains h in
+        let same : e.later ≡ rest = cc (e.rest_is) in
+        let parts : bytes_between section new.place to ≡ first ++ more = whole ∙ w in
+        let c = cut section new.place to first more order inside parts in
+        let before : c.mid ≤ to = c.before in
+        let decl : (entry_at f.entries entries).decl ≡ e.number = ap (λ (z : Entry). z.decl) e.here in
+        let some : get_or numbers e.number 0 ≢ 0 = subst (λ (z : ℕ). get_or numbers z 0 ≢ 0) decl (used entries e.inside) in
+        let s = entry_stands (length chains) e.number entries now e.mid new c.mid first moved e.adds e.here e.values_are some p c.after (omega arith) c.first in
+        let next = subst (λ (n : ℕ). HasCome n ends (done ++ AnEntry e.number ∷ []) e.mid (opened (declarations_of table) e.number entries chains) e.later) (add-one entries) e.next in
+        let come = subst (λ (z : List Item). HasCome (suc entries) ends (done ++ AnEntry e.number ∷ []) e.mid (opened (declarations_of table) e.number entries chains) z) same next in
+        let up : s.next.place ≤ to = subst (λ (z : ℕ). z ≤ to) (sym s.place) c.before in
+        let rest_bytes = subst (λ (z : ℕ). bytes_between section z to ≡ more) (sym s.place) c.second in
+        let r = stand_anew rest (done ++ AnEntry e.number ∷ []) e.mid s.next (opened (declarations_of table) e.number entries chains) (suc entries) ends to more come s.moved q up inside rest_bytes in
+        entry_anew number entries ends rest done now new chains to c.mid first e moved s p c.place h.entries_are r
+    stand_anew (AnEnd ∷ rest) done now new chains entries ends to bytes h moved (more, q, w) order inside whole =
+        let e = end_next entries ends rest done now chains h in
+        let same : e.later ≡ rest = cc (e.rest_is) in
+        let parts : bytes_between section new.place to ≡ 0 ∷ more = whole ∙ w in
+        let c = cut section new.place to (0 ∷ []) more order inside parts in
+        let before : c.mid ≤ to = c.before in
+        let one : c.mid ≡ new.place + 1 = c.place in
+        let end : ChainEnd = record { entry = e.parent; at = new.place } in
+        let next : Listed = record { entries = new.entries; values = new.values; ends = new.ends ++ end ∷ []; place = c.mid } in
+        let adds : AddsEnd section e.parent new next = record {
+          coded = record { order = c.after; inside = omega arith; spelled = subst (λ (z : List ℕ). Uleb 0 z) (sym c.first) zero_byte };
+          entered = refl;
+          listed = refl;
+          ended = refl;
+        } in
+        let onward : Moved e.mid next = record {
+          entries = subst (λ (z : List Entry). AllZip (IsMovedEntry numbers) z new.entries) (sym e.adds.entered) moved.entries;
+          count = moved.count ∙ sym (ap length e.adds.listed);
+          values = subst (λ (z : List Value). (k : ℕ) → k < length z → meant_in section (value_at new.values k) ≡ with_number (get_or held k 0) (meant_in f.section (value_at z k))) (sym e.adds.listed) moved.values;
+          ends = subst (λ (z : List ChainEnd). AllZip IsMovedEnd z (new.ends ++ end ∷ [])) (sym e.adds.ended) (zip_push IsMovedEnd now.ends new.ends (record { entry = e.parent; at = now.place }) end moved.ends refl);
+        } in
+        let come = subst (λ (z : List Item). HasCome entries (ends + 1) (done ++ AnEnd ∷ []) e.mid e.outer z) same e.next in
+        let r = stand_anew rest (done ++ AnEnd ∷ []) e.mid next e.outer entries (ends + 1) to more come onward q c.before inside c.second in
+        let joined : (new.ends ++ end ∷ []) ++ r.ends ≡ new.ends ++ (end ∷ r.ends) = append_assoc new.ends (end ∷ []) r.ends in
+        record {
+          items_anew = AnEnd ∷ r.items_anew;
+          last = r.last;
+          entries = r.entries;
+          ends = end ∷ r.ends;
+          walked = (e.parent, e.outer, next, e.innermost, adds, r.walked);
+          place = r.place;
+          moved = r.moved;
+          entries_are = r.entries_are;
+          ends_are = r.ends_are ∙ joined;
+          placed = (refl, subst (λ (z : ℕ). ArePlaced (EntrySize table columns numbers f) entries rest z (map (λ (e : Entry). e.at) r.entries) (map (λ (e : ChainEnd). e.at) r.ends) to) one r.placed);
+        }

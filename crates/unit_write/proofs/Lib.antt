@@ -1,0 +1,13 @@
+pub mod Bare
+pub mod ValueLaws
+pub mod Placed
+pub mod PlacingUnit
+pub mod Sizing
+pub mod Standing
+pub mod Stepping
+pub mod PutLaws
+pub mod ItemLaws
+pub mod Anew
+pub mod HeadLaws
+pub mod UnitLaws
+pub mod TestUnits

@@ -1,0 +1,34 @@
+use Rattle.std.proofs.Common.{◌≡◌, ◌+◌, ◌∙◌, sym, ap, subst, refl, ℕ, Some, None}
+use Rattle.entry_arena.specs.Arena.{Arena}
+use Rattle.entry_read.specs.declared.head.UnitHead.{UnitHead}
+use Rattle.entry_read.specs.Heads.{header_size}
+use Rattle.entry_read.specs.Units.{entries_at, declarations_of}
+use Rattle.unit_write.specs.declared.items.Items.{Items}
+use Rattle.unit_write.specs.Readings.{GoesOn}
+use Rattle.unit_write.proofs.PlacingUnit.{IsPlacing, placing_none, placing_next, placing_all}
+use Rattle.unit_write.proofs.places.place_unit.Goals as goal
+
+pub loop-next-init : goal.loop-next-init
+loop-next-init c =
+    let unit = c.args.unit.now in
+    let end_is : c.in_ok-further.field-0 ≡ c.args.start + header_size unit.head.kind =
+    c.in_ok-further.ensures.sum ∙ ap (λ (z : ℕ). c.args.start + z) (c.header_size.ensures.size ∙ ap (λ (h : UnitHead). header_size h.kind) c.head.ensures)
+    in
+    subst (λ (z : Items). IsPlacing unit c.args.decls.now c.args.specs.now.items c.args.numbers.now.items c.args.start z (record { start = c.args.start; entries = c.new.result; ends = c.new-2.result; end = c.in_ok-further.field-0 })) (sym c.new-items.ensures)
+    (placing_none unit c.args.decls.now c.args.specs.now.items c.args.numbers.now.items c.args.start _ c.requires.writable refl c.new.ensures.items c.new-2.ensures.items end_is c.in_ok-further.ensures.fits)
+
+pub loop-next-preserved : goal.loop-next-preserved
+loop-next-preserved c =
+    let unit = c.args.unit.now in
+    let h = c.loop-next.invariant in
+    let on = subst (λ (f : Arena). GoesOn f c.loop-next.items c.next.new.self (Some c.in-Some.next)) c.forest.ensures c.in-Some.ensures.next in
+    let n = on (declarations_of c.args.decls.now) (entries_at unit.head) h.place h.done h.now h.chains h.rest h.walked in
+    placing_next unit c.args.decls.now c.args.specs.now.items c.args.numbers.now.items c.args.start c.loop-next.items c.next.new.self c.loop-next.places c.place_next.new.places c.in-Some.next h n c.requires.writable c.in_ok-place_next.ensures.put c.in_ok-place_next.ensures.start c.in_ok-place_next.ensures.fits
+
+pub returns-clause-placed : goal.returns-clause-placed
+returns-clause-placed c =
+    let unit = c.args.unit.now in
+    let h = c.loop-next.invariant in
+    let on = subst (λ (f : Arena). GoesOn f c.loop-next.items c.next.new.self None) c.forest.ensures c.in_default.ensures.next in
+    let n = on (declarations_of c.args.decls.now) (entries_at unit.head) h.place h.done h.now h.chains h.rest h.walked in
+    placing_all unit c.args.decls.now c.args.specs.now.items c.args.numbers.now.items c.args.start c.loop-next.items c.next.new.self c.loop-next.places h n c.requires.writable

@@ -1,0 +1,79 @@
+-- A unit that is written anew behind other bytes of .debug_info.
+use Rattle.std.specs.Prelude.{◌≡◌, ◌≢◌, ◌<◌, ◌+◌, ◌-◌, ℕ, List, length, map, slice_index}
+use Rattle.std.specs.List.{All, AllZip}
+use Rattle.form_codec.specs.declared.form.Form.TheVariants.{Ref1, Ref2}
+use Rattle.form_codec.specs.Forms.{code_of}
+use Rattle.form_codec.specs.Values.{meant_in}
+use Rattle.abbrev_tables.specs.declared.decl.Spec.{Spec}
+use Rattle.abbrev_tables.specs.Tables.{Declared}
+use Rattle.abbrev_tables.specs.Listings.{Listing}
+use Rattle.entry_arena.specs.declared.entry.Entry.{Entry}
+use Rattle.entry_arena.specs.declared.entry.ChainEnd.{ChainEnd}
+use Rattle.entry_arena.specs.Arena.{Arena, entry_at, value_at}
+use Rattle.entry_arena.specs.Trees.{Listed}
+use Rattle.entry_arena.specs.Walks.{IsWhole}
+use Rattle.entry_read.specs.declared.head.UnitHead.{UnitHead}
+use Rattle.entry_read.specs.Heads.{IsHead}
+use Rattle.entry_read.specs.Units.{HeadAndForest, entries_at, declarations_of, IsUnit, IsUnitHeld}
+use Rattle.unit_write.specs.Values.{with_number}
+use Rattle.unit_write.specs.Placing.{EntrySize, ArePlaced}
+
+-- an entry is where it was among the entries, with the declaration that has its new number
+pub record IsMovedEntry (numbers : List ℕ) (old new : Entry) : Type 0 where
+  pub depth : new.depth ≡ old.depth
+  pub decl : new.decl ≡ slice_index numbers old.decl - 1
+  pub first : new.first ≡ old.first
+  pub count : new.count ≡ old.count
+
+-- it ends the children of the same entry
+abbrev pub IsMovedEnd : ChainEnd → ChainEnd → Type 0
+IsMovedEnd old new = new.entry ≡ old.entry
+
+-- There are as many values. Each means what it meant, but that references and section offsets have these numbers.
+pub record AreMovedValues (f : Arena) (held : List ℕ) (section : List ℕ) (new : Listed) : Type 0 where
+  pub count : length new.values ≡ length f.values
+  pub each : (k : ℕ) → k < length f.values → meant_in section (value_at new.values k) ≡ with_number (slice_index held k) (meant_in f.section (value_at f.values k))
+
+-- a reference of this form has room for any number that fits 32 bits
+abbrev pub IsRoomy : Spec → Type 0
+IsRoomy column = (column.form ≢ code_of Ref1) × (column.form ≢ code_of Ref2)
+
+-- What is needed of a unit that is to be written: it is held of its section, by the declarations of a table; the declaration of
+-- each entry is used; and something can be written for each value in its new column.
+pub record IsWritable (unit : HeadAndForest) (table : Listing) (columns : List Spec) (numbers : List ℕ) : Type 0 where
+  pub head : IsHead unit.forest.section unit.head
+  pub held : IsUnitHeld unit.forest.section unit.head (declarations_of table) unit.forest
+  pub numbered : length numbers ≡ length table.decls
+  pub renewed : length columns ≡ length table.specs
+  pub roomy : All IsRoomy columns
+  pub used : (id : ℕ) → id < length unit.forest.entries → slice_index numbers (entry_at unit.forest.entries id).decl ≢ 0
+  pub sized : (id : ℕ) → id < length unit.forest.entries → (size : ℕ) × EntrySize table columns numbers unit.forest id size
+
+-- The places of a unit's entries and codes 0, and where it begins and ends, in a new section.
+pub record IsPlacedAt (unit : HeadAndForest) (table : Listing) (columns : List Spec) (numbers : List ℕ) (start : ℕ) (entries ends : List ℕ) (to : ℕ) : Type 0 where
+  pub place : ℕ
+  pub whole : IsWhole unit.forest.section (declarations_of table) (entries_at unit.head) (record { entries = unit.forest.entries; values = unit.forest.values; ends = unit.forest.ends; place = place })
+  pub placed : ArePlaced (EntrySize table columns numbers unit.forest) 0 whole.items (start + (entries_at unit.head - unit.head.at)) entries ends to
+
+-- The new head: where the unit stands now, the new place of its table and of its type's entry, and all else as it was.
+pub record IsMovedHead (old new : UnitHead) (start end new_table type_offset : ℕ) : Type 0 where
+  pub at : new.at ≡ start
+  pub len : new.len ≡ end - start
+  pub kind : new.kind ≡ old.kind
+  pub table : new.table ≡ new_table
+  pub extra : new.extra ≡ old.extra
+  pub type_at : new.type_at ≡ type_offset
+
+-- The unit stands in the section from a place to its end, and no bytes follow its tree; its entries, values and codes 0 are
+-- those of the old unit at their new places, with these numbers.
+pub record IsWrittenAnew (unit : HeadAndForest) (table : Listing) (columns : List Spec) (numbers : List ℕ) (ds : List Declared) (new_table type_at : ℕ) (held : List ℕ) (start : ℕ) (section : List ℕ) : Type 0 where
+  pub head : UnitHead
+  pub fields : IsMovedHead unit.head head start (length section) new_table type_at
+  pub is_head : IsHead section head
+  pub forest : Listed
+  pub is_unit : IsUnit section head ds forest
+  pub ends_there : forest.place ≡ length section
+  pub entries : AllZip (IsMovedEntry numbers) unit.forest.entries forest.entries
+  pub values : AreMovedValues unit.forest held section forest
+  pub ends : AllZip IsMovedEnd unit.forest.ends forest.ends
+  pub placed : IsPlacedAt unit table columns numbers start (map (λ (e : Entry). e.at) forest.entries) (map (λ (e : ChainEnd). e.at) forest.ends) (length section)

@@ -1,0 +1,22 @@
+// Laws of the definitions.
+ghost use Rattle.unit_write.specs.Values.{OneSize};
+ghost use Rattle.unit_write.specs.Placing.{OnePlacing};
+ghost use Rattle.unit_write.specs.Sizes.{NumbersHaveSizes, ShortestHaveSizes};
+
+/// A law: the bytes that are written for a value in a column have one size, whatever number stands in the value.
+pub fn one_size()
+    ensures { OneSize }
+{}
+
+/// A law: the entries of a unit and its codes 0 have one place each where they are written one after the other from a place
+/// on. So a unit has one end.
+pub fn one_placing()
+    ensures { OnePlacing }
+{}
+
+/// Laws: something can be written for a reference or a section offset in a form that has room for it, whatever its number, and
+/// for another value that its column's form and constant spell. So callers show that a unit can be written.
+pub fn values_have_sizes()
+    ensures numbers { NumbersHaveSizes }
+    ensures others { ShortestHaveSizes }
+{}

@@ -1,0 +1,17 @@
+//! Units of .debug_info (DWARF 5 section 7.5) written anew: where their entries stand, and their bytes.
+#![tactic(auto)]
+
+mod items;
+mod laws;
+mod parts;
+#[cfg(test)]
+mod place_tests;
+mod places;
+mod values;
+mod write;
+#[cfg(test)]
+mod write_tests;
+
+pub use laws::{one_placing, one_size, values_have_sizes};
+pub use places::{Places, place_unit};
+pub use write::{NewNumbers, write_unit};

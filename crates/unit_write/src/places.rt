@@ -1,0 +1,170 @@
+// Where the entries of a unit stand when it is written anew.
+ghost use Rattle.std.specs.Prelude.{◌≡◌, ◌<◌, ◌+◌, ◌^◌, ℕ, List, length, slice_index, IfOk, OnOk};
+ghost use Rattle.std.specs.List.{All};
+ghost use Rattle.spelled.specs.Spelled.{AreBytes};
+ghost use Rattle.leb_codec.specs.Leb.{least_unsigned_len};
+ghost use Rattle.form_codec.specs.Values.{IsValueIn};
+ghost use Rattle.entry_arena.specs.Arena.{entry_at};
+ghost use Rattle.entry_read.specs.Heads.{least_reserved};
+ghost use Rattle.unit_write.specs.Values.{HaveSize};
+ghost use Rattle.unit_write.specs.Placing.{EntrySize, values_in};
+ghost use Rattle.unit_write.specs.Moved.{IsWritable, IsPlacedAt};
+ghost use Rattle.unit_write.specs.Readings.{AreStanding, HasItem, PutsItem};
+
+use crate::items::{Items, Next};
+use crate::parts::{new_columns, values_of};
+use crate::values::written_size;
+use abbrev_tables::{Spec, Table};
+use dw_base::NoMemory;
+use entry_arena::Forest;
+use entry_read::{Unit, header_size};
+use form_codec::Value;
+use leb_codec::len_u;
+use std::alloc::Global;
+
+/// Where a unit, its entries and the codes 0 that end chains stand in a new .debug_info, counted from its first byte.
+#[derive(Drop)]
+pub struct Places {
+    /// The first byte of the unit.
+    pub start: u64,
+    /// The entries, by their numbers.
+    pub entries: Vec<u32>,
+    /// The codes 0 that end chains, in their order.
+    pub ends: Vec<u32>,
+    /// The place after the unit's last byte.
+    pub end: u64,
+}
+
+// The first of the lengths that are reserved (DWARF 5 section 7.4). Places of a section of the 32-bit format are below it.
+const FIRST_RESERVED: u64 = 0xffff_fff0;
+
+// The place some bytes further on. NoMemory answers a place that no section of the 32-bit format has.
+fn further(at: u64, size: u64) -> Result<u64, NoMemory>
+    ensures sum { IfOk result (λ to. to ≡ at + size) }
+    ensures fits { IfOk result (λ to. to < least_reserved) }
+{
+    if size >= FIRST_RESERVED || at >= FIRST_RESERVED - size {
+        return Err(NoMemory);
+    }
+    Ok(at + size)
+}
+
+/// Contracts see a slice as a list of numbers. It has fewer than 2^63, and each is a byte.
+pub(crate) fn bytes_are_small(section: &[u8])
+    ensures few { length section.now < 2 ^ 63 }
+    ensures small { AreBytes section.now }
+{
+    let _section = section;
+}
+
+/// The place after the values of columns, which are written from a place on (DWARF 5 section 7.5.2). Both count from the
+/// section's first byte. `NoMemory` answers a place of 0xffff_fff0 or more.
+pub(crate) fn after_values(columns: &[Spec], values: &[Value], at: u64) -> Result<u64, NoMemory>
+    requires { at < least_reserved }
+    ensures size { IfOk result (λ to. (section : List ℕ) (size : ℕ) → length section < 2 ^ 63 → All (IsValueIn section) values.now → HaveSize section columns.now values.now size → to ≡ at + size) }
+    ensures fits { IfOk result (λ to. to < least_reserved) }
+{
+    let mut to = at;
+    for (column, value) in columns.iter().zip(values) {
+        to = further(to, written_size(*column, value))?;
+    }
+    Ok(to)
+}
+
+// How many bytes the new code of a declaration has.
+fn code_size(numbers: &Vec<u32>, number: u32) -> u64
+    requires { number < length numbers.now.items }
+    ensures { result ≡ least_unsigned_len (slice_index numbers.now.items number) }
+{
+    u64::from(len_u(u64::from(numbers[number as usize])))
+}
+
+// The place after an entry, which is written at a place.
+fn after_entry(
+    forest: &Forest<'_>,
+    decls: &Table,
+    specs: &Vec<Spec>,
+    numbers: &Vec<u32>,
+    id: u32,
+    at: u64,
+) -> Result<u64, NoMemory>
+    requires id { id < length forest.now.entries }
+    requires declared { (entry_at forest.now.entries id).decl < length decls.now.decls }
+    requires numbered { length numbers.now.items ≡ length decls.now.decls }
+    requires stands { AreStanding forest.now.section (values_in forest.now id) }
+    ensures size { IfOk result (λ to. (size : ℕ) → EntrySize decls.now specs.now.items numbers.now.items forest.now id size → to ≡ at + size) }
+    ensures fits { IfOk result (λ to. to < least_reserved) }
+{
+    bytes_are_small(forest.section());
+    let number = forest.entry(id).decl;
+    let values_at = further(at, code_size(numbers, number))?;
+    after_values(
+        new_columns(decls, specs, number),
+        values_of(forest, id),
+        values_at,
+    )
+}
+
+// Puts what stands next behind all that has its place.
+fn place_next(
+    places: &mut Places,
+    unit: &Unit<'_>,
+    decls: &Table,
+    specs: &Vec<Spec>,
+    numbers: &Vec<u32>,
+    next: Next,
+) -> Result<(), NoMemory>
+    requires fits { places.old.end < least_reserved }
+    requires writable { IsWritable unit.now decls.now specs.now.items numbers.now.items }
+    requires item { HasItem unit.now.forest next }
+    ensures start { places.new.start ≡ places.old.start }
+    ensures put { OnOk result (PutsItem (EntrySize decls.now specs.now.items numbers.now.items unit.now.forest) next places.old places.new) }
+    ensures fits { OnOk result (places.new.end < least_reserved) }
+{
+    let place = places.end as u32;
+    match next {
+        Next::Entry(id) => {
+            places.entries.push(place)?;
+            places.end = after_entry(unit.forest(), decls, specs, numbers, id, places.end)?;
+        }
+        Next::End => {
+            places.ends.push(place)?;
+            places.end = further(places.end, 1)?;
+        }
+    }
+    Ok(())
+}
+
+/// Where the entries of a unit and its codes 0 stand when the unit is written anew from `start` on (DWARF 5 section 7.5),
+/// counted from the first byte of the section, with the unit's table `decls`, a new column in place of each of the table's,
+/// and the new code of each declaration, which is 0 where no entry has it.
+///
+/// Every LEB128 number has its fewest bytes, but those of DW_FORM_ref_udata, which have five. `NoMemory` comes where memory is
+/// wanting, and where the unit would end at 0xffff_fff0 or later, past what a section of the 32-bit format can have (DWARF 5
+/// section 7.4).
+pub fn place_unit(
+    alloc: Global,
+    unit: &Unit<'_>,
+    decls: &Table,
+    specs: &Vec<Spec>,
+    numbers: &Vec<u32>,
+    start: u64,
+) -> Result<Places, NoMemory>
+    requires writable { IsWritable unit.now decls.now specs.now.items numbers.now.items }
+    requires small { start < 2 ^ 32 }
+    ensures start { IfOk result (λ places. places.start ≡ start) }
+    ensures placed { IfOk result (λ places. IsPlacedAt unit.now decls.now specs.now.items numbers.now.items start places.entries.items places.ends.items places.end) }
+    ensures fits { IfOk result (λ places. places.end < least_reserved) }
+{
+    let mut places = Places {
+        start,
+        entries: Vec::new(alloc),
+        ends: Vec::new(alloc),
+        end: further(start, header_size(unit.head().kind) as u64)?,
+    };
+    let mut items = Items::new();
+    while let Some(next) = items.next(unit.forest()) {
+        place_next(&mut places, unit, decls, specs, numbers, next)?;
+    }
+    Ok(places)
+}

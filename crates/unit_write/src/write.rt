@@ -1,0 +1,233 @@
+// A unit written anew.
+ghost use Rattle.std.specs.Prelude.{◌≡◌, ◌≢◌, ◌≤◌, ◌<◌, ◌+◌, ◌-◌, ◌^◌, ◌++◌, ℕ, List, length, OnOk, OnErr};
+ghost use Rattle.std.specs.List.{All};
+ghost use Rattle.spelled.specs.Spelled.{Appends};
+ghost use Rattle.leb_codec.specs.Digits.{Extends};
+ghost use Rattle.form_codec.specs.Values.{LiesIn};
+ghost use Rattle.abbrev_tables.specs.Tables.{Declared};
+ghost use Rattle.entry_arena.specs.Trees.{listed_to};
+ghost use Rattle.entry_arena.specs.Walks.{IsWhole};
+ghost use Rattle.entry_read.specs.Heads.{least_reserved, type_unit};
+ghost use Rattle.unit_write.specs.Values.{HaveSize};
+ghost use Rattle.unit_write.specs.Placing.{IsRenumbered};
+ghost use Rattle.unit_write.specs.Moved.{IsRoomy, IsWritable, IsPlacedAt, IsWrittenAnew};
+ghost use Rattle.unit_write.specs.Readings.{HasItem};
+ghost use Rattle.unit_write.specs.Puts.{PutsValues, PutsEntry, PutsItems, PutsNext, own_bytes, header_bytes};
+
+use crate::items::{Items, Next};
+use crate::parts::{new_columns, part, values_of};
+use crate::values::{put_low, put_value};
+use abbrev_tables::{Spec, Table};
+use dw_base::NoMemory;
+use entry_read::{Unit, UnitHead};
+use form_codec::{Value, Width};
+use leb_codec::put_u;
+
+const VERSION: u64 = 5;
+
+const ADDRESS_SIZE: u8 = 8;
+
+// DW_UT_type and DW_UT_skeleton
+const TYPE: u8 = 2;
+
+const SKELETON: u8 = 4;
+
+/// The new numbers of a unit.
+#[derive(Drop)]
+pub struct NewNumbers {
+    /// The place after its last byte, counted from the section's first byte.
+    pub end: u64,
+    /// debug_abbrev_offset
+    pub table: u64,
+    /// type_offset, which is 0 where the unit isn't a type unit.
+    pub type_offset: u64,
+    /// For each value, in the order of the values, the number that stands in it where it is a reference or a section offset;
+    /// for another value any number.
+    pub held: Vec<u64>,
+}
+
+// Appends the fields that only the headers of type units and of skeleton units have, or a front of them.
+fn put_own(out: &mut Vec<u8>, kind: u8, extra: u64, type_offset: u64) -> Result<(), NoMemory>
+    ensures ok { OnOk result (out.new.items ≡ out.old.items ++ own_bytes kind extra type_offset) }
+    ensures err { OnErr result (Extends out.old.items out.new.items) }
+{
+    match kind {
+        TYPE => {
+            put_low(out, Width::Eight, extra)?;
+            put_low(out, Width::Four, type_offset)
+        }
+        SKELETON => put_low(out, Width::Eight, extra),
+        _ => Ok(()),
+    }
+}
+
+/// Appends a header with a unit_length and the new numbers, or a front of it (DWARF 5 section 7.5.1).
+pub(crate) fn put_head(
+    out: &mut Vec<u8>,
+    head: UnitHead,
+    len: u64,
+    new: &NewNumbers,
+) -> Result<(), NoMemory>
+    ensures ok { OnOk result (out.new.items ≡ out.old.items ++ header_bytes len head.kind new.now.table head.extra new.now.type_offset) }
+    ensures err { OnErr result (Extends out.old.items out.new.items) }
+{
+    put_low(out, Width::Four, len)?;
+    put_low(out, Width::Two, VERSION)?;
+    out.push(head.kind)?;
+    out.push(ADDRESS_SIZE)?;
+    put_low(out, Width::Four, new.table)?;
+    put_own(out, head.kind, head.extra, new.type_offset)
+}
+
+// Appends the values of columns, each with a number of its own, or a front of them.
+fn put_values(
+    out: &mut Vec<u8>,
+    columns: &[Spec],
+    values: &[Value],
+    numbers: &[u64],
+    section: &[u8],
+) -> Result<(), NoMemory>
+    requires sized { (size : ℕ) × HaveSize section.now columns.now values.now size }
+    requires inside { All (LiesIn (length section.now)) values.now }
+    requires roomy { All IsRoomy columns.now }
+    requires numbered { length numbers.now ≡ length values.now }
+    requires narrow { All (λ number. number < 2 ^ 32) numbers.now }
+    ensures ok { OnOk result (Appends (PutsValues section.now columns.now values.now) numbers.now out.old.items out.new.items) }
+    ensures err { OnErr result (Extends out.old.items out.new.items) }
+{
+    for (place, column) in columns.iter().enumerate() {
+        put_value(out, *column, &values[place], numbers[place], section)?;
+    }
+    Ok(())
+}
+
+// Appends the entry with a number, or a front of it: the new code of its declaration, and its values.
+fn put_entry(
+    out: &mut Vec<u8>,
+    unit: &Unit<'_>,
+    decls: &Table,
+    specs: &[Spec],
+    numbers: &[u32],
+    held: &[u64],
+    id: u32,
+) -> Result<(), NoMemory>
+    requires writable { IsWritable unit.now decls.now specs.now numbers.now }
+    requires held { (length held.now ≡ length unit.now.forest.values) × All (λ number. number < 2 ^ 32) held.now }
+    requires inside { id < length unit.now.forest.entries }
+    ensures ok { OnOk result (Appends (PutsEntry decls.now specs.now numbers.now held.now unit.now.forest) id out.old.items out.new.items) }
+    ensures err { OnErr result (Extends out.old.items out.new.items) }
+{
+    let forest = unit.forest();
+    let entry = forest.entry(id);
+    put_u(out, u64::from(numbers[entry.decl as usize]))?;
+    put_values(
+        out,
+        new_columns(decls, specs, entry.decl),
+        values_of(forest, id),
+        part(held, entry.first, entry.count),
+        forest.section(),
+    )
+}
+
+// Appends what stands next, or a front of it: an entry, or a code 0, which ends a chain.
+fn put_next(
+    out: &mut Vec<u8>,
+    unit: &Unit<'_>,
+    decls: &Table,
+    specs: &[Spec],
+    numbers: &[u32],
+    held: &[u64],
+    next: Next,
+) -> Result<(), NoMemory>
+    requires writable { IsWritable unit.now decls.now specs.now numbers.now }
+    requires held { (length held.now ≡ length unit.now.forest.values) × All (λ number. number < 2 ^ 32) held.now }
+    requires inside { HasItem unit.now.forest next }
+    ensures ok { OnOk result (Appends (PutsNext (PutsEntry decls.now specs.now numbers.now held.now unit.now.forest)) next out.old.items out.new.items) }
+    ensures err { OnErr result (Extends out.old.items out.new.items) }
+{
+    match next {
+        Next::Entry(id) => put_entry(out, unit, decls, specs, numbers, held, id),
+        Next::End => {
+            out.push(0)?;
+            Ok(())
+        }
+    }
+}
+
+// Appends the entries of a unit and the codes 0 that end chains, in the order of their places, or a front of them.
+fn put_items(
+    out: &mut Vec<u8>,
+    unit: &Unit<'_>,
+    decls: &Table,
+    specs: &[Spec],
+    numbers: &[u32],
+    held: &[u64],
+) -> Result<(), NoMemory>
+    requires writable { IsWritable unit.now decls.now specs.now numbers.now }
+    requires held { (length held.now ≡ length unit.now.forest.values) × All (λ number. number < 2 ^ 32) held.now }
+    ensures ok { (ds : List Declared) (start place : ℕ) (whole : IsWhole unit.now.forest.section ds start (listed_to unit.now.forest place)) → OnOk result (Appends (PutsItems (PutsEntry decls.now specs.now numbers.now held.now unit.now.forest) 0) whole.items out.old.items out.new.items) }
+    ensures grows { Extends out.old.items out.new.items }
+{
+    let mut items = Items::new();
+    while let Some(next) = items.next(unit.forest()) {
+        put_next(out, unit, decls, specs, numbers, held, next)?;
+    }
+    Ok(())
+}
+
+// Appends a unit written anew, or a front of it.
+fn put_unit(
+    out: &mut Vec<u8>,
+    unit: &Unit<'_>,
+    decls: &Table,
+    specs: &[Spec],
+    numbers: &[u32],
+    new: &NewNumbers,
+) -> Result<(), NoMemory>
+    requires writable { IsWritable unit.now decls.now specs.now numbers.now }
+    requires ends { (entries : List ℕ) × (ends : List ℕ) × IsPlacedAt unit.now decls.now specs.now numbers.now (length out.old.items) entries ends new.now.end }
+    requires fits { new.now.end < least_reserved }
+    requires held { (length new.now.held.items ≡ length unit.now.forest.values) × All (λ number. number < 2 ^ 32) new.now.held.items }
+    requires narrow { (new.now.table < 2 ^ 32) × (new.now.type_offset < 2 ^ 32) }
+    requires type_offset { unit.now.head.kind ≢ type_unit → new.now.type_offset ≡ 0 }
+    ensures ok { (ds : List Declared) → IsRenumbered decls.now specs.now numbers.now ds → OnOk result (IsWrittenAnew unit.now decls.now specs.now numbers.now ds new.now.table new.now.type_offset new.now.held.items (length out.old.items) out.new.items) }
+    ensures grows { Extends out.old.items out.new.items }
+{
+    let len = new.end - out.len() as u64 - 4;
+    put_head(out, unit.head(), len, new)?;
+    put_items(out, unit, decls, specs, numbers, &new.held)
+}
+
+/// Appends a unit written anew (DWARF 5 section 7.5) to `out`, the front of a new .debug_info, with the unit's table `decls`, a
+/// new column in place of each of the table's, the new code of each declaration, and new numbers, each below 2^32.
+///
+/// The entries keep their order and their values, but that references and section offsets have their new numbers. Every
+/// LEB128 number has its fewest bytes, but those of DW_FORM_ref_udata, which have five. No byte follows the tree. The unit
+/// ends at `new.end`, as `place_unit` says. The only error is want of memory; it leaves `out` as it was.
+pub fn write_unit(
+    out: &mut Vec<u8>,
+    unit: &Unit<'_>,
+    decls: &Table,
+    specs: &Vec<Spec>,
+    numbers: &Vec<u32>,
+    new: &NewNumbers,
+) -> Result<(), NoMemory>
+    requires writable { IsWritable unit.now decls.now specs.now.items numbers.now.items }
+    requires ends { (entries : List ℕ) × (ends : List ℕ) × IsPlacedAt unit.now decls.now specs.now.items numbers.now.items (length out.old.items) entries ends new.now.end }
+    requires fits { new.now.end < least_reserved }
+    requires held { (length new.now.held.items ≡ length unit.now.forest.values) × All (λ number. number < 2 ^ 32) new.now.held.items }
+    requires narrow { (new.now.table < 2 ^ 32) × (new.now.type_offset < 2 ^ 32) }
+    requires type_offset { unit.now.head.kind ≢ type_unit → new.now.type_offset ≡ 0 }
+    ensures written { OnOk result ((ds : List Declared) → IsRenumbered decls.now specs.now.items numbers.now.items ds → IsWrittenAnew unit.now decls.now specs.now.items numbers.now.items ds new.now.table new.now.type_offset new.now.held.items (length out.old.items) out.new.items) }
+    ensures behind { OnOk result (Extends out.old.items out.new.items) }
+    ensures unchanged { OnErr result (out.new.items ≡ out.old.items) }
+{
+    let start = out.len();
+    match put_unit(out, unit, decls, specs, numbers, new) {
+        Ok(()) => Ok(()),
+        Err(error) => {
+            out.truncate(start);
+            Err(error)
+        }
+    }
+}

@@ -1,0 +1,305 @@
+// Bytes of units, written by hand from DWARF 5 sections 7.5 and 7.6.
+ghost use Rattle.std.specs.Prelude.{◌≡◌, ◌≢◌, ◌<◌, ◌^◌, ℕ, List, length, IsTrue};
+ghost use Rattle.std.specs.List.{All};
+ghost use Rattle.form_codec.specs.Values.{meant_in, IsValueIn};
+ghost use Rattle.entry_arena.specs.Arena.{entry_at};
+ghost use Rattle.entry_read.specs.Heads.{IsHead};
+ghost use Rattle.entry_read.specs.Units.{declarations_of, IsTable, IsUnitHeld};
+ghost use Rattle.unit_write.specs.Values.{HasSize, HaveSize};
+ghost use Rattle.unit_write.specs.Placing.{columns_of, values_in};
+ghost use Rattle.unit_write.specs.Moved.{IsRoomy, IsWritable};
+ghost use Rattle.unit_write.specs.Sizes.{HoldsNumber};
+
+use crate::parts::{new_columns, values_of};
+use crate::places::bytes_are_small;
+use crate::values::{moves, put_number};
+use crate::write::put_head;
+use crate::{NewNumbers, place_unit, write_unit};
+use abbrev_tables::{Spec, Table};
+use dw_base::NoMemory;
+use entry_read::{Counts, Unit, UnitHead, heads, read_unit};
+use form_codec::{Form, Value, admits, spelled_size};
+use std::alloc::Global;
+use std::process::Abort;
+use std::test::Fail;
+
+// A reference or a section offset in the form with a code.
+fn number_in(alloc: Global, form: u64, number: u64) -> Result<Vec<u8>, NoMemory> {
+    let mut out = Vec::new(alloc);
+    let Some(form) = Form::from_code(form) else {
+        return Ok(out);
+    };
+    if number < 1 << 32 {
+        put_number(&mut out, form, number)?;
+    }
+    Ok(out)
+}
+
+#[test]
+fn numbers_have_the_bytes_of_their_forms(rt: HostRuntime) -> Result<(), NoMemory> {
+    let rows: [(u64, u64, &[u8]); 7] = [
+        // DW_FORM_ref4, DW_FORM_ref8, DW_FORM_ref_addr and DW_FORM_sec_offset
+        (0x13, 0x1234, &[0x34, 0x12, 0, 0]),
+        (0x14, 0x1234, &[0x34, 0x12, 0, 0, 0, 0, 0, 0]),
+        (0x10, 0xffff_ffef, &[0xef, 0xff, 0xff, 0xff]),
+        (0x17, 7, &[7, 0, 0, 0]),
+        // DW_FORM_ref_udata has five bytes
+        (0x15, 0x2c, &[0xac, 0x80, 0x80, 0x80, 0]),
+        (0x15, 300, &[0xac, 0x82, 0x80, 0x80, 0]),
+        (0x15, 0xffff_ffff, &[0xff, 0xff, 0xff, 0xff, 0x0f]),
+    ];
+    for (form, number, bytes) in rows.iter() {
+        let out = number_in(rt.alloc(), *form, *number)?;
+        assert_eq!(rt; out.as_slice(), *bytes);
+    }
+    Ok(())
+}
+
+// The header of a unit of a kind.
+fn header_of(alloc: Global, kind: u8) -> Result<Vec<u8>, NoMemory> {
+    let head = UnitHead {
+        at: 9,
+        len: 99,
+        kind,
+        table: 3,
+        extra: 0x1122_3344_5566_7788,
+        type_at: 5,
+    };
+    let new = NewNumbers {
+        end: 1000,
+        table: 0x1234,
+        type_offset: 0x1d,
+        held: Vec::new(alloc),
+    };
+    let mut out = Vec::new(alloc);
+    put_head(&mut out, head, 0x21, &new)?;
+    Ok(out)
+}
+
+#[test]
+fn headers_have_the_fields_of_their_kinds(rt: HostRuntime) -> Result<(), NoMemory> {
+    let type_unit: [u8; 24] = [
+        0x21, 0, 0, 0, 5, 0, 2, 8, 0x34, 0x12, 0, 0, 0x88, 0x77, 0x66, 0x55, 0x44, 0x33, 0x22,
+        0x11, 0x1d, 0, 0, 0,
+    ];
+    let skeleton_unit: [u8; 20] = [
+        0x21, 0, 0, 0, 5, 0, 4, 8, 0x34, 0x12, 0, 0, 0x88, 0x77, 0x66, 0x55, 0x44, 0x33, 0x22, 0x11,
+    ];
+    let partial_unit: [u8; 12] = [0x21, 0, 0, 0, 5, 0, 3, 8, 0x34, 0x12, 0, 0];
+    assert_eq!(rt; header_of(rt.alloc(), 2)?.as_slice(), type_unit.as_slice());
+    assert_eq!(rt;
+        header_of(rt.alloc(), 4)?.as_slice(),
+        skeleton_unit.as_slice()
+    );
+    assert_eq!(rt;
+        header_of(rt.alloc(), 3)?.as_slice(),
+        partial_unit.as_slice()
+    );
+    Ok(())
+}
+
+// Whether a reference or a section offset has room in a form.
+fn holds_number(form: u64, value: &Value) -> bool
+    ensures { IsTrue result → (section : List ℕ) → HoldsNumber form (meant_in section value.now) }
+{
+    match *value {
+        Value::LocalRef(_) => form == 0x13 || form == 0x14 || form == 0x15,
+        Value::SectionRef(_) => form == 0x10,
+        Value::Offset(_) => form == 0x17,
+        _ => false,
+    }
+}
+
+// Whether something can be written for a value in a column, other than a constant of the declaration.
+fn is_sized(column: Spec, value: &Value) -> bool
+    ensures { IsTrue result → (section : List ℕ) → length section < 2 ^ 63 → IsValueIn section value.now → (size : ℕ) × HasSize column (meant_in section value.now) size }
+{
+    if moves(value) {
+        return holds_number(column.form, value);
+    }
+    let _size = spelled_size(column.form, value);
+    column.form != 0x21 && admits(column.form, value)
+}
+
+// Whether it can for the values of an entry.
+fn are_sized(columns: &[Spec], values: &[Value]) -> bool
+    ensures { IsTrue result → (section : List ℕ) → length section < 2 ^ 63 → All (IsValueIn section) values.now → (size : ℕ) × HaveSize section columns.now values.now size }
+{
+    if columns.len() != values.len() {
+        return false;
+    }
+    for (place, column) in columns.iter().enumerate() {
+        if !is_sized(*column, &values[place]) {
+            return false;
+        }
+    }
+    true
+}
+
+// Whether it can for all entries of a unit.
+fn entries_are_sized(unit: &Unit<'_>, table: &Table, specs: &[Spec]) -> bool
+    ensures { IsTrue result → (id : ℕ) → id < length unit.now.forest.entries → ((entry_at unit.now.forest.entries id).decl < length table.now.decls) × ((section : List ℕ) → length section < 2 ^ 63 → All (IsValueIn section) (values_in unit.now.forest id) → (size : ℕ) × HaveSize section (columns_of table.now specs.now (entry_at unit.now.forest.entries id).decl) (values_in unit.now.forest id) size) }
+{
+    let forest = unit.forest();
+    for id in 0..forest.len() {
+        let number = forest.entry(id).decl;
+        if number >= table.len() {
+            return false;
+        }
+        if !are_sized(new_columns(table, specs, number), values_of(forest, id)) {
+            return false;
+        }
+    }
+    true
+}
+
+fn are_roomy(columns: &[Spec]) -> bool
+    ensures { IsTrue result → All IsRoomy columns.now }
+{
+    columns
+        .iter()
+        .all(|column| column.form != 0x11 && column.form != 0x12)
+}
+
+fn are_used(numbers: &[u32]) -> bool
+    ensures { IsTrue result → All (λ number. number ≢ 0) numbers.now }
+{
+    numbers.iter().all(|number| *number != 0)
+}
+
+// Whether a unit can be written with these columns and codes.
+fn is_writable(unit: &Unit<'_>, table: &Table, specs: &Vec<Spec>, numbers: &Vec<u32>) -> bool
+    requires head { IsHead unit.now.forest.section unit.now.head }
+    requires held { IsUnitHeld unit.now.forest.section unit.now.head (declarations_of table.now) unit.now.forest }
+    ensures { IsTrue result → IsWritable unit.now table.now specs.now.items numbers.now.items }
+{
+    bytes_are_small(unit.forest().section());
+    if specs.len() != table.specs().len() || numbers.len() != table.len() as usize {
+        return false;
+    }
+    if !are_roomy(specs) {
+        return false;
+    }
+    if !are_used(numbers) {
+        return false;
+    }
+    entries_are_sized(unit, table, specs)
+}
+
+// A unit written behind two bytes, with its table at 0x30.
+fn write_sized(
+    alloc: Global,
+    unit: &Unit<'_>,
+    table: &Table,
+    specs: &[Spec],
+    numbers: &[u32],
+    held: &[u64],
+) -> Result<Vec<u8>, Fail>
+    requires head { IsHead unit.now.forest.section unit.now.head }
+    requires held { IsUnitHeld unit.now.forest.section unit.now.head (declarations_of table.now) unit.now.forest }
+{
+    let specs = specs.to_vec(alloc)?;
+    let numbers = numbers.to_vec(alloc)?;
+    let held = held.to_vec(alloc)?;
+    let narrow = held.iter().all(|number| *number < 1 << 32);
+    if !narrow || held.len() != unit.forest().value_count() as usize {
+        return Err("no numbers")?;
+    }
+    if !is_writable(unit, table, &specs, &numbers) {
+        return Err("not writable")?;
+    }
+    let places = place_unit(alloc, unit, table, &specs, &numbers, 2)?;
+    let new = NewNumbers {
+        end: places.end,
+        table: 0x30,
+        type_offset: 0,
+        held,
+    };
+    let mut out = [0xaa, 0xbb].to_vec(alloc)?;
+    write_unit(&mut out, unit, table, &specs, &numbers, &new)?;
+    Ok(out)
+}
+
+// The same of a unit of a section.
+fn write_at(
+    alloc: Global,
+    info: &[u8],
+    head: &UnitHead,
+    table: &Table,
+    specs: &[Spec],
+    numbers: &[u32],
+    held: &[u64],
+) -> Result<Vec<u8>, Fail>
+    requires head { IsHead info.now head.now }
+    requires table { IsTable table.now }
+{
+    let before = Counts {
+        entries: 0,
+        values: 0,
+    };
+    match read_unit(alloc, info, head, table, before, 0) {
+        Ok(unit) => write_sized(alloc, &unit, table, specs, numbers, held),
+        Err(_) => Err("refused")?,
+    }
+}
+
+// The same of the first unit of a section.
+fn written(
+    alloc: Global,
+    info: &[u8],
+    table: &[u8],
+    specs: &[Spec],
+    numbers: &[u32],
+    held: &[u64],
+) -> Result<Vec<u8>, Fail> {
+    if table.is_empty() {
+        return Err("no table")?;
+    }
+    let table = Table::read(alloc, table, 0, 0).ok().ok_or("no table")?;
+    let heads = heads(alloc, info, 0).ok().ok_or("no heads")?;
+    for head in heads.iter() {
+        return write_at(alloc, info, head, &table, specs, numbers, held);
+    }
+    Err("no unit")?
+}
+
+fn column(name: u64, form: u64) -> Spec {
+    Spec {
+        name,
+        form,
+        constant: 0,
+    }
+}
+
+// A root with a line table and a number, whose child refers to itself twice in its unit and to the root in the section. The
+// root's number, the child's code and the code 0 after it are padded.
+const UNIT: [u8; 36] = [
+    0x20, 0, 0, 0, 5, 0, 1, 8, 0, 0, 0, 0, 1, 0x11, 0, 0, 0, 0x85, 0x80, 0, 0x82, 0, 0x14, 0, 0, 0,
+    0x14, 0, 0, 0, 0x0c, 0, 0, 0, 0x80, 0,
+];
+
+// DW_FORM_sec_offset and DW_FORM_udata; DW_FORM_ref4 twice and DW_FORM_ref_addr
+const TABLE: [u8; 21] = [
+    1, 0x11, 1, 0x10, 0x17, 0x13, 0x0f, 0, 0, 2, 0x34, 0, 0x49, 0x13, 0x01, 0x13, 0x18, 0x10, 0, 0,
+    0,
+];
+
+#[test]
+fn units_are_written_anew(rt: HostRuntime) -> Result<(), Fail> {
+    // the first reference is written in DW_FORM_ref_udata
+    let specs = [
+        column(0x10, 0x17),
+        column(0x13, 0x0f),
+        column(0x49, 0x15),
+        column(0x01, 0x13),
+        column(0x18, 0x10),
+    ];
+    let bytes: [u8; 35] = [
+        0xaa, 0xbb, 0x1d, 0, 0, 0, 5, 0, 1, 8, 0x30, 0, 0, 0, 2, 0x40, 0, 0, 0, 5, 1, 0x92, 0x80,
+        0x80, 0x80, 0, 0x13, 0, 0, 0, 0x0e, 0, 0, 0, 0,
+    ];
+    let held = [0x40, 99, 0x12, 0x13, 0x0e];
+    let out = written(rt.alloc(), &UNIT, &TABLE, &specs, &[2, 1], &held)?;
+    assert_eq!(rt; out.as_slice(), bytes.as_slice());
+    Ok(())
+}
