@@ -13,7 +13,8 @@ use Rattle.value_links.specs.Resolved.{Resolved, IsTargetAt, IsSectionTarget, Is
 use Rattle.value_links.specs.Resolved.Resolved.{Refers, Program}
 use Rattle.value_links.specs.Laws.{OneMeaning}
 use Rattle.value_links.proofs.Targets.{HasTargets, held_targets, target_once}
-use Rattle.value_links.proofs.Tiles.{has_bytes, lies_once, units_chained, programs_chained}
+use Rattle.entry_read.proofs.Chained.{has_bytes, lies_once}
+use Rattle.value_links.proofs.Tiles.{units_chained, programs_chained}
 
 module _ (file : List ℕ) (r : Reading) (read : IsReadToLinks file r) where
   unit_read : (u : ℕ) → u < length r.units → IsUnitRead (debug_info file) (debug_abbrev file) (unit_at r u)

@@ -35,6 +35,7 @@ use Rattle.value_links.specs.Debug.{EntryMeaning, UnitMeaning, Debug, described,
 use Rattle.value_links.specs.Faults.{FaultLinks, IsValid}
 use Rattle.value_links.specs.Faults.Pass.{OfLinks}
 use Rattle.value_links.specs.Laws.{ValidFilesMean}
+use Rattle.value_links.specs.Parts.{LinkedFilesMean}
 use Rattle.value_links.proofs.Resolving.{search_below, resolved_or_faulty}
 
 -- WHERE VALUES STAND
@@ -77,16 +78,15 @@ module _ (r : Reading) (u id : ℕ) where
       let (ys, zip) = columns_mean section (earlier ++ c ∷ []) cs (evs ++ v ∷ []) vs values_at next to (values_push section earlier evs c v values_at from next prior spelled placed) valued (λ before k after values w more place e f. each before k after values w more place (sym (append_assoc earlier (c ∷ []) cs) ∙ e) (sym (append_assoc evs (v ∷ []) vs) ∙ f)) in
       ((c.name, y) ∷ ys, (record { name = refl; value = means }, zip))
 
-module _ (file : List ℕ) (reach : Reach) (r : Reading) (read : IsReading file r) (valid : IsValid file reach) where
-  no_link_fault : (kind : Kind) (place : ℕ) → FaultLinks file reach kind place → ⊥
-  no_link_fault kind place f = valid OfLinks kind (offset_named file info_name + place) (inl (place, refl, f))
+-- each value means something
+abbrev ValuesMean : Reading → Type 0
+ValuesMean r = (u id number name : ℕ) (meaning : Meaning) (place : ℕ) → u < length r.units → HasValueAt (unit_at r u) id number name meaning place → (v : Resolved) × Resolves r u id name meaning v
 
-  value_means : (u id number name : ℕ) (meaning : Meaning) (place : ℕ) → u < length r.units → HasValueAt (unit_at r u) id number name meaning place → (v : Resolved) × Resolves r u id name meaning v
-  value_means u id number name meaning place inside h = elim (resolved_or_faulty r u id name meaning) [
-    | inl means ↦ means
-    | inr faulty ↦ absurd (no_link_fault faulty.0 place (record { r = r; read = read.parts; u = u; inside = inside; fault = inl (record { id = id; number = number; name = name; meaning = meaning; stands = h; fault = faulty.1 }) }))
-  ]
+-- each type unit has the entry of its type
+abbrev TypesStand : Reading → Type 0
+TypesStand r = (u : ℕ) → u < length r.units → (unit_at r u).head.kind ≡ type_unit → (id : ℕ) × IsTypeEntry r u id
 
+module _ (file : List ℕ) (r : Reading) (read : IsReading file r) (value_means : ValuesMean r) (type_stands : TypesStand r) where
   entry_means : (u : ℕ) → u < length r.units → (id : ℕ) → id < length (unit_at r u).forest.entries → (e : EntryMeaning) × MeansEntry r u id (described_by (unit_at r u).forest.section (declarations (unit_at r u)) (unit_at r u).forest.values (entry_of (unit_at r u) id)) e
   entry_means u inside id known =
       let unit = unit_at r u in
@@ -115,10 +115,7 @@ module _ (file : List ℕ) (reach : Reach) (r : Reading) (read : IsReading file 
   type_means : (u : ℕ) → u < length r.units → (entry : Option ℕ) × MeansType r u entry
   type_means u inside = elim (cases_eq (unit_at r u).head.kind type_unit) [
     | inr other ↦ (None, other)
-    | inl is_type ↦ elim (search_below (λ i. (entry_at (unit_at r u).forest.entries i).at ≡ (unit_at r u).head.at + (unit_at r u).head.type_at) (λ i. cases_eq (entry_at (unit_at r u).forest.entries i).at ((unit_at r u).head.at + (unit_at r u).head.type_at)) (length (unit_at r u).forest.entries)) [
-      | inl found ↦ (Some found.0, (is_type, (found.1, found.2)))
-      | inr none ↦ absurd (no_link_fault NoTarget ((unit_at r u).head.at + 20) (record { r = r; read = read.parts; u = u; inside = inside; fault = inr (is_type, (λ (x : (id : ℕ) × IsTypeEntry r u id). none x.0 x.1.0 x.1.1), refl) }))
-    ]
+    | inl is_type ↦ let (id, here) = type_stands u inside is_type in (Some id, (is_type, here))
   ]
 
   unit_means : (u : ℕ) → u < length r.units → (m : UnitMeaning) × MeansUnit r u m
@@ -142,5 +139,28 @@ module _ (file : List ℕ) (reach : Reach) (r : Reading) (read : IsReading file 
       let debug : Debug = record { programs = programs; units = units; aranges = map set_meaning r.sets } in
       (debug, record { programs = meant; units = record { count = size; each = each }; aranges = refl })
 
+-- VALID FILES
+
+module _ (file : List ℕ) (reach : Reach) (r : Reading) (read : IsReading file r) (valid : IsValid file reach) where
+  no_link_fault : (kind : Kind) (place : ℕ) → FaultLinks file reach kind place → ⊥
+  no_link_fault kind place f = valid OfLinks kind (offset_named file info_name + place) (inl (place, refl, f))
+
+  valid_values : ValuesMean r
+  valid_values u id number name meaning place inside h = elim (resolved_or_faulty r u id name meaning) [
+    | inl means ↦ means
+    | inr faulty ↦ absurd (no_link_fault faulty.0 place (record { r = r; read = read.parts; u = u; inside = inside; fault = inl (record { id = id; number = number; name = name; meaning = meaning; stands = h; fault = faulty.1 }) }))
+  ]
+
+  valid_types : TypesStand r
+  valid_types u inside is_type = elim (search_below (λ i. (entry_at (unit_at r u).forest.entries i).at ≡ (unit_at r u).head.at + (unit_at r u).head.type_at) (λ i. cases_eq (entry_at (unit_at r u).forest.entries i).at ((unit_at r u).head.at + (unit_at r u).head.type_at)) (length (unit_at r u).forest.entries)) [
+    | inl found ↦ (found.0, (found.1, found.2))
+    | inr none ↦ absurd (no_link_fault NoTarget ((unit_at r u).head.at + 20) (record { r = r; read = read.parts; u = u; inside = inside; fault = inr (is_type, (λ (x : (id : ℕ) × IsTypeEntry r u id). none x.0 x.1.0 x.1.1), refl) }))
+  ]
+
 pub valid_means : ValidFilesMean
-valid_means file reach r read valid = file_means file reach r read valid
+valid_means file reach r read valid = file_means file r read (valid_values file reach r read valid) (valid_types file reach r read valid)
+
+-- LINKED FILES
+
+pub linked_means : LinkedFilesMean
+linked_means file r read linked = (file_means file r read linked.values linked.types, linked.read)

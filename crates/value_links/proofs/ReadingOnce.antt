@@ -28,7 +28,8 @@ use Rattle.value_links.specs.Sections.{debug_info, debug_abbrev, debug_line, deb
 use Rattle.value_links.specs.Reading.{ProgramRead, UnitRead, line_heads, unit_heads, unit_starts, no_unit, HasRows, declarations, IsUnitRead}
 use Rattle.value_links.specs.Laws.{OneReading}
 use Rattle.abbrev_tables.proofs.ListingOnce.{listing_once}
-use Rattle.value_links.proofs.Tiles.{stand_apart, has_bytes, units_chained}
+use Rattle.entry_read.proofs.Chained.{stand_apart, has_bytes}
+use Rattle.value_links.proofs.Tiles.{units_chained}
 
 -- LINE NUMBER PROGRAMS
 

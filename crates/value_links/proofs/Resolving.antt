@@ -46,14 +46,14 @@ target_or_none f place = elim (search_below (λ i. (entry_at f.entries i).at ≡
     neither no_entry no_end (TheEntry id, (inside, here)) = no_entry id inside here
     neither no_entry no_end (TheEnd id, (i, inside, here)) = no_end i inside (ap (λ e. e.at) here)
 
-abbrev is_place : Meaning → Bool
+abbrev pub is_place : Meaning → Bool
 is_place (SectionPlace n) = true
 is_place meaning = false
 
-abbrev IsBase : ℕ × Meaning → ℕ → Type 0
+abbrev pub IsBase : ℕ × Meaning → ℕ → Type 0
 IsBase a wanted = (n : ℕ) × (a ≡ (wanted, SectionPlace n))
 
-is_base : (a : ℕ × Meaning) (wanted : ℕ) → IsBase a wanted ⊎ (¬ IsBase a wanted)
+pub is_base : (a : ℕ × Meaning) (wanted : ℕ) → IsBase a wanted ⊎ (¬ IsBase a wanted)
 is_base (name, SectionPlace n) wanted = elim (cases_eq name wanted) [
   | inl same ↦ inl (n, ap (λ (z : ℕ). (z, SectionPlace n)) same)
   | inr apart ↦ inr (λ (x : IsBase (name, SectionPlace n) wanted). apart (ap (λ (z : ℕ × Meaning). z.0) x.1))
@@ -63,6 +63,14 @@ is_base (name, meaning) wanted = inr (λ (x : IsBase (name, meaning) wanted). tr
 split_first : (a : ℕ × Meaning) (attributes : List (ℕ × Meaning)) (name n : ℕ) (before after : List (ℕ × Meaning)) → a ∷ attributes ≡ before ++ (name, SectionPlace n) ∷ after → ((m : ℕ) → ¬ Contains before (name, SectionPlace m)) → IsBase a name ⊎ IsFirstBase attributes name n
 split_first a attributes name n [] after parts first = inl (n, cc)
 split_first a attributes name n (b ∷ before) after parts first = inr (record { before = before; after = after; parts = cc; first = λ (m : ℕ) (x : Contains before (name, SectionPlace m)). first m (suc x.0, omega (arith, x.1), x.2) })
+
+-- a first one behind what isn't one is the first of all
+pub behind : (a : ℕ × Meaning) (attributes : List (ℕ × Meaning)) (name : ℕ) → (¬ IsBase a name) → (n : ℕ) → IsFirstBase attributes name n → IsFirstBase (a ∷ attributes) name n
+behind a attributes name other n h = record { before = a ∷ h.before; after = h.after; parts = ap (λ z. a ∷ z) h.parts; first = no_earlier }
+  where
+    no_earlier : (m : ℕ) → ¬ Contains (a ∷ h.before) (name, SectionPlace m)
+    no_earlier m (zero, inside, e) = other (m, e)
+    no_earlier m (suc i, inside, e) = h.first m (i, omega arith, e)
 
 -- some attribute is a section offset of this name, and then there is a first one, or none is
 first_or_none : (attributes : List (ℕ × Meaning)) (name : ℕ) → ((n : ℕ) × IsFirstBase attributes name n) ⊎ (¬ ((n : ℕ) × IsFirstBase attributes name n))
@@ -74,17 +82,10 @@ first_or_none [] name = inr (λ (x : (n : ℕ) × IsFirstBase [] name n). no_par
 first_or_none (a ∷ attributes) name = elim (is_base a name) [
   | inl here ↦ inl (here.0, record { before = []; after = attributes; parts = ap (λ z. z ∷ attributes) here.1; first = λ (m : ℕ) (x : Contains [] (name, SectionPlace m)). let inside = x.1 in absurd (omega arith) })
   | inr other ↦ elim (first_or_none attributes name) [
-    | inl found ↦ inl (found.0, behind other found.0 found.1)
+    | inl found ↦ inl (found.0, behind a attributes name other found.0 found.1)
     | inr none ↦ inr (λ (x : (n : ℕ) × IsFirstBase (a ∷ attributes) name n). elim (split_first a attributes name x.0 x.1.before x.1.after x.1.parts x.1.first) [ inl here ↦ other here | inr later ↦ none (x.0, later) ])
   ]
 ]
-  where
-    behind : (¬ IsBase a name) → (n : ℕ) → IsFirstBase attributes name n → IsFirstBase (a ∷ attributes) name n
-    behind other n h = record { before = a ∷ h.before; after = h.after; parts = ap (λ z. a ∷ z) h.parts; first = no_earlier }
-      where
-        no_earlier : (m : ℕ) → ¬ Contains (a ∷ h.before) (name, SectionPlace m)
-        no_earlier m (zero, inside, e) = other (m, e)
-        no_earlier m (suc i, inside, e) = h.first m (i, omega arith, e)
 
 module _ (r : Reading) (u id : ℕ) where
   offset_or_fault : (class : OffsetClass) (n : ℕ) → ((v : Resolved) × OffsetMeans r u id class n v) ⊎ NamesNothing r u id class n

@@ -47,7 +47,7 @@ chain_once f order i j place (k, k_in, k_is) (l, l_in, l_is) = elim (cases_lt k 
   ]
 ]
 
-never_both : (f : Arena) → IsInOrder f → (i j place : ℕ) → IsEntryAt f i place → IsChainEndAt f j place → ⊥
+pub never_both : (f : Arena) → IsInOrder f → (i j place : ℕ) → IsEntryAt f i place → IsChainEndAt f j place → ⊥
 never_both f order i j place (i_in, i_at) (k, k_in, k_is) =
     let wide : 0 < (entry_at f.entries i).len = order.entered.wide i i_in in
     let end : (chain_end_at f.ends k).at ≡ place = ap (λ e. e.at) k_is in

@@ -1,43 +1,11 @@
--- Things that stand one after the other: units, and line number programs. Their places rise.
-use Rattle.std.proofs.Common.{◌≡◌, ◌≤◌, ◌<◌, ◌+◌, ◌-◌, inl, inr, ℕ, zero, suc, List, [], ◌∷◌, length, get_or, ap, arith}
-use Rattle.std.proofs.lemmas.Bool.{cases_lt}
+-- Units, and line number programs, stand one after the other.
+use Rattle.std.proofs.Common.{◌≡◌, ◌<◌, ◌+◌, ◌-◌, ℕ, List, [], ◌∷◌, ap, arith}
 use Rattle.line_machine.specs.Heads.{unit_end as line_end}
 use Rattle.line_write.specs.Programs.{Follow as ProgramsFollow}
 use Rattle.entry_read.specs.Heads.{Follow as UnitsFollow}
+use Rattle.entry_read.proofs.Chained.{Chained}
 use Rattle.entry_read.proofs.Tiling.{head_len}
 use Rattle.value_links.specs.Reading.{ProgramRead, UnitRead, line_heads, unit_heads}
-
--- each begins where the one before it ends, and has bytes
-module _ {X : Type 0} (at len : X → ℕ) where
-  abbrev pub Chained : List X → ℕ → ℕ → Type 0
-  Chained [] a e = a ≡ e
-  Chained (x ∷ xs) a e = (at x ≡ a) × (0 < len x) × Chained xs (a + len x) e
-
-  pub begins_from : (xs : List X) (a e i : ℕ) (d : X) → Chained xs a e → i < length xs → a ≤ at (get_or xs i d)
-  begins_from [] a e i d c inside = absurd (omega arith)
-  begins_from (x ∷ xs) a e zero d (first, filled, rest) inside = omega arith
-  begins_from (x ∷ xs) a e (suc i) d (first, filled, rest) inside = let later : a + len x ≤ at (get_or xs i d) = begins_from xs (a + len x) e i d rest (omega arith) in omega arith
-
-  pub stand_apart : (xs : List X) (a e i j : ℕ) (d : X) → Chained xs a e → i < j → j < length xs → at (get_or xs i d) + len (get_or xs i d) ≤ at (get_or xs j d)
-  stand_apart [] a e i j d c less inside = absurd (omega arith)
-  stand_apart (x ∷ xs) a e i zero d c less inside = absurd (omega arith)
-  stand_apart (x ∷ xs) a e zero (suc j) d (first, filled, rest) less inside = let later : a + len x ≤ at (get_or xs j d) = begins_from xs (a + len x) e j d rest (omega arith) in omega arith
-  stand_apart (x ∷ xs) a e (suc i) (suc j) d (first, filled, rest) less inside = stand_apart xs (a + len x) e i j d rest (omega arith) (omega arith)
-
-  pub has_bytes : (xs : List X) (a e i : ℕ) (d : X) → Chained xs a e → i < length xs → 0 < len (get_or xs i d)
-  has_bytes [] a e i d c inside = absurd (omega arith)
-  has_bytes (x ∷ xs) a e zero d (first, filled, rest) inside = filled
-  has_bytes (x ∷ xs) a e (suc i) d (first, filled, rest) inside = has_bytes xs (a + len x) e i d rest (omega arith)
-
-  -- a place lies in one of them at most
-  pub lies_once : (xs : List X) (a e i j place : ℕ) (d : X) → Chained xs a e → i < length xs → j < length xs → at (get_or xs i d) ≤ place → place < at (get_or xs i d) + len (get_or xs i d) → at (get_or xs j d) ≤ place → place < at (get_or xs j d) + len (get_or xs j d) → i ≡ j
-  lies_once xs a e i j place d c i_in j_in i_from i_to j_from j_to = elim (cases_lt i j) [
-    | inl less ↦ let apart : at (get_or xs i d) + len (get_or xs i d) ≤ at (get_or xs j d) = stand_apart xs a e i j d c less j_in in absurd (omega arith)
-    | inr rest ↦ elim (cases_lt j i) [
-      | inl less ↦ let apart : at (get_or xs j d) + len (get_or xs j d) ≤ at (get_or xs i d) = stand_apart xs a e j i d c less i_in in absurd (omega arith)
-      | inr more ↦ omega arith
-    ]
-  ]
 
 pub units_chained : (section : List ℕ) (units : List UnitRead) (a e : ℕ) → UnitsFollow section (unit_heads units) a e → Chained (λ (u : UnitRead). u.head.at) (λ (u : UnitRead). u.head.len) units a e
 units_chained section [] a e f = f

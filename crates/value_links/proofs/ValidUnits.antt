@@ -172,7 +172,7 @@ module _ (info abbrevs : List ℕ) (units : List UnitRead) (tiled : Tile info (u
         sym (append_assoc front end (drop (t.end - at) (drop at abbrevs))) ∙ ap (λ z. z ++ drop (t.end - at) (drop at abbrevs)) (sym parts) ∙ take-append-drop (t.end - at) (drop at abbrevs) ∙ f.stands.whole in
         let one : Contains (declarations_of t) f.d = declared_in_table (declarations_of t) f.before f.d front end f.stands.front f.stands.body (drop (t.end - at) (drop at abbrevs)) f.stands.rest joined ended f.stands.spelled f.stands.here whole in
         let is : IsBuilt f.d = All-contains IsBuilt (declarations_of t) f.d can one in
-        elim f.unbuilt [ inl wide ↦ is.code wide | inr short ↦ is.columns short ]
+        is f.unbuilt
     rest_faultless t at stands can kind inner f =
         table_whole (declarations_of t) kind inner (take (t.end - at) (drop at abbrevs)) (drop (t.end - at) (drop at abbrevs)) stands.table (subst (λ (z : List ℕ). FaultTable kind inner z) (sym (take-append-drop (t.end - at) (drop at abbrevs))) f)
 

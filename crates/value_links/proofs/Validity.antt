@@ -4,10 +4,10 @@ use Rattle.std.specs.List.{All, sum_by}
 use Rattle.std.proofs.lemmas.List.Elements.{All-head, All-tail}
 use Rattle.std.proofs.lemmas.List.Sums.{sum_by-cons}
 use Rattle.dw_base.specs.declared.fault.Kind.{Kind}
-use Rattle.dw_base.specs.declared.fault.Kind.TheVariants.{NotElf64, Companion, Limit, Unbuilt}
+use Rattle.dw_base.specs.declared.fault.Kind.TheVariants.{Companion, Unbuilt}
 use Rattle.dw_base.specs.declared.fault.Reach.{Reach}
-use Rattle.elf_sections.specs.Faults.{file_limit, IsRead}
-use Rattle.elf_sections.proofs.Faultless.{no_fault}
+use Rattle.elf_sections.specs.Faults.{IsRead}
+use Rattle.elf_sections.proofs.Faultless.{images_whole}
 use Rattle.line_machine.specs.Faults.{row_limit}
 use Rattle.line_write.proofs.Tiling.{AreGiven, lines_whole}
 use Rattle.value_links.specs.Sections.{debug_info, debug_abbrev, debug_line}
@@ -19,17 +19,11 @@ use Rattle.value_links.proofs.ValidUnits.{info_faultless, tables_faultless}
 use Rattle.value_links.proofs.ValidLinks.{links_whole}
 
 file_faultless : (file : List ℕ) (reach : Reach) → IsRead file reach → (kind : Kind) (place : ℕ) → FaultOfFile file reach kind place → ⊥
-file_faultless file reach read NotElf64 place (here, other) = other read.elf
-file_faultless file reach read Limit place f = elim f [
-  | inl long ↦ let few : length file ≤ file_limit reach = read.small.bytes in let past : file_limit reach < length file = long.1 in absurd (omega arith)
-  | inr other ↦ no_fault file reach read Limit place other.1
-]
-file_faultless file reach read Companion place f = f
-file_faultless file reach read kind place f = no_fault file reach read kind place f.1
+file_faultless file reach read = (images_whole file reach read).0
 
 names_faultless : (file : List ℕ) (reach : Reach) → IsImageInOrder file reach → (kind : Kind) (place : ℕ) → FaultOfNames file reach kind place → ⊥
-names_faultless file reach order Companion place (elf, f) = no_fault file reach order.image Companion place f
-names_faultless file reach order Unbuilt place (elf, (i, inside, here, lists)) = order.names i inside lists
+names_faultless file reach order Companion place f = (images_whole file reach order.image).1 Companion place f
+names_faultless file reach order Unbuilt place (elf, (i, inside, here, lists)) = order.names i inside.0 lists
 names_faultless file reach order kind place f = f
 
 abbrev row_count : ProgramRead → ℕ

@@ -1,15 +1,15 @@
 -- The faults of a file, as conditions on its bytes, in the order in which they decide: passes over the file, of which the
 -- first that has a fault refuses it. The place of a fault is an offset in the file.
-use Rattle.std.specs.Prelude.{◌≡◌, ◌≤◌, ◌<◌, ◌+◌, ◌^◌, ◌⊎◌, ℕ, List, [], ◌∷◌, ◌++◌, length, drop, map, Bool, ◌||◌, bytes_eq}
+use Rattle.std.specs.Prelude.{◌≡◌, ◌≤◌, ◌<◌, ◌+◌, ◌⊎◌, ℕ, List, [], ◌∷◌, ◌++◌, length, drop, map, Bool, ◌||◌, bytes_eq}
 use Rattle.std.specs.List.{All, Contains}
 use Rattle.dw_base.specs.declared.fault.Kind.{Kind}
-use Rattle.dw_base.specs.declared.fault.Kind.TheVariants.{NotElf64, Companion, Limit, Target as NoTarget, Pointer, NoBase, Unbuilt}
+use Rattle.dw_base.specs.declared.fault.Kind.TheVariants.{Companion, Limit, Target as NoTarget, Pointer, NoBase, Unbuilt}
 use Rattle.dw_base.specs.declared.fault.Reach.{Reach}
 use Rattle.dw_base.specs.declared.fault.Refusal.{Refusal}
 use Rattle.dw_base.specs.declared.fault.Refusal.TheVariants.{Refused, NoMemory}
 use Rattle.elf_sections.specs.Elf.{IsElf64}
 use Rattle.elf_sections.specs.Names.{name_of}
-use Rattle.elf_sections.specs.Faults.{file_limit, ImageFault, SomeSection}
+use Rattle.elf_sections.specs.Faults.{SomeSection, ElfFault, NameFault}
 use Rattle.line_write.specs.Faults.{LinesFault}
 use Rattle.spelled.specs.Spelled.{StandsAt}
 use Rattle.form_codec.specs.declared.form.Form.TheVariants.{Ref1, Ref2}
@@ -22,7 +22,7 @@ use Rattle.abbrev_tables.specs.Faults.{FaultTable}
 use Rattle.entry_arena.specs.declared.entry.Target.{Target}
 use Rattle.entry_read.specs.declared.head.UnitHead.{UnitHead}
 use Rattle.entry_read.specs.declared.unit.Counts.{Counts}
-use Rattle.entry_read.specs.Heads.{type_unit, Follow, Tile}
+use Rattle.entry_read.specs.Heads.{type_offset_at, type_unit, Follow, Tile}
 use Rattle.entry_read.specs.Units.{declarations_of}
 use Rattle.entry_read.specs.Faults.{FaultHeads, FaultUnit}
 use Rattle.companions.specs.Faults.{FaultSets}
@@ -39,12 +39,8 @@ FaultIn file name FaultOf kind place = (inner : ℕ) × (place ≡ offset_named 
 
 -- FIRST PASS: the ELF header, its tables, and the sections that these tell
 
--- A file past its limit of bytes has that fault whatever its first bytes hold. All else is said of ELF-64 files.
 abbrev pub FaultOfFile : List ℕ → Reach → Kind → ℕ → Type 0
-FaultOfFile file reach NotElf64 place = (place ≡ 0) × (¬ IsElf64 file)
-FaultOfFile file reach Limit place = ((place ≡ 0) × (file_limit reach < length file)) ⊎ (IsElf64 file × ImageFault file reach Limit place)
-FaultOfFile file reach Companion place = ⊥
-FaultOfFile file reach kind place = IsElf64 file × ImageFault file reach kind place
+FaultOfFile file reach kind place = ElfFault file reach kind place
 
 -- SECOND PASS: the names of sections
 
@@ -54,7 +50,7 @@ is_list_section file i = bytes_eq (name_of file i) rnglists_name || bytes_eq (na
 
 -- A section goes with debug sections and isn't known, or isn't rewritten yet.
 abbrev pub FaultOfNames : List ℕ → Reach → Kind → ℕ → Type 0
-FaultOfNames file reach Companion place = IsElf64 file × ImageFault file reach Companion place
+FaultOfNames file reach Companion place = NameFault file Companion place
 FaultOfNames file reach Unbuilt place = IsElf64 file × SomeSection file (is_list_section file) place
 FaultOfNames file reach kind place = ⊥
 
@@ -78,11 +74,7 @@ FaultOffset info abbrevs kind place = ⊥
 abbrev pub IsTablePlace : List ℕ → List ℕ → ℕ → Type 0
 IsTablePlace info abbrevs at = (head : UnitHead) × IsUnitOf info head × (head.table ≡ at) × (at < length abbrevs)
 
--- the code of a declaration is above 2 ^ 32 - 1
-abbrev pub HasWideCode : Declared → Type 0
-HasWideCode d = 2 ^ 32 ≤ d.code
-
--- a column of it has the form DW_FORM_ref1 or DW_FORM_ref2
+-- a column of a declaration has the form DW_FORM_ref1 or DW_FORM_ref2
 abbrev pub HasShortReference : Declared → Type 0
 HasShortReference d = (column : Spec) × Contains d.columns column × ((column.form ≡ code_of Ref1) ⊎ (column.form ≡ code_of Ref2))
 
@@ -91,7 +83,7 @@ pub record IsUnbuiltDeclaration (rest : List ℕ) (at : ℕ) : Type 0 where
   pub before : List Declared
   pub d : Declared
   pub stands : StandsAt SpellsDeclared rest before d at
-  pub unbuilt : HasWideCode d ⊎ HasShortReference d
+  pub unbuilt : HasShortReference d
 
 -- the faults of the bytes from a table's first byte on
 abbrev pub FaultRest : List ℕ → Kind → ℕ → Type 0
@@ -196,11 +188,6 @@ pub record FaultAttribute (r : Reading) (u : ℕ) (kind : Kind) (place : ℕ) : 
   pub meaning : Meaning
   pub stands : HasValueAt (unit_at r u) id number name meaning place
   pub fault : FaultValue r u id name meaning kind
-
--- the field type_offset of a type unit, after the 12 bytes that all headers have and the 8 of the signature (DWARF 5 section
--- 7.5.1.3)
-abbrev pub type_offset_at : UnitHead → ℕ
-type_offset_at head = head.at + 20
 
 -- The type_offset of a type unit names no entry of the unit. The place is that of the field.
 abbrev pub FaultType : Reading → ℕ → Kind → ℕ → Type 0

@@ -14,7 +14,7 @@ use Rattle.value_links.specs.Reading.{ProgramRead, UnitRead, Reading, declaratio
 use Rattle.value_links.specs.Values.{HasValueAt}
 use Rattle.value_links.specs.Resolved.{Resolved, Resolves}
 use Rattle.value_links.specs.Debug.{Debug, MeansDebug, Means}
-use Rattle.value_links.specs.Faults.{is_list_section, HasWideCode, HasShortReference, FaultValue, FaultOfFile, FaultOfNames, FaultOfPrograms, FaultOfUnits, FaultOfLinks, Faulty, IsValid}
+use Rattle.value_links.specs.Faults.{is_list_section, HasShortReference, FaultValue, FaultOfFile, FaultOfNames, FaultOfPrograms, FaultOfUnits, FaultOfLinks, Faulty, IsValid}
 
 -- A file is read in one way.
 abbrev pub OneReading : Type 0
@@ -52,10 +52,9 @@ pub record HaveFewRows (programs : List ProgramRead) : Type 0 where
   pub each : All (λ (p : ProgramRead). length p.rows ≤ row_limit) programs
   pub all : sum_by (λ (p : ProgramRead). length p.rows) programs ≤ total_limit
 
--- a declaration that can be written
-pub record IsBuilt (d : Declared) : Type 0 where
-  pub code : ¬ HasWideCode d
-  pub columns : ¬ HasShortReference d
+-- a declaration whose entries can be written
+abbrev pub IsBuilt : Declared → Type 0
+IsBuilt d = ¬ HasShortReference d
 
 -- all declarations that units name can be written
 abbrev pub AreBuilt : List UnitRead → Type 0

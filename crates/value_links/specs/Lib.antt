@@ -7,4 +7,9 @@ pub mod Debug
 pub mod Faults
 pub mod Same
 pub mod World
+pub mod Tabled
 pub mod Laws
+pub mod Parts
+pub mod Links
+pub mod Checks
+pub mod Passes

@@ -11,7 +11,7 @@ use Rattle.abbrev_tables.specs.Listings.{Listing, IsTableAt}
 use Rattle.entry_arena.specs.Arena.{Arena, nothing_of}
 use Rattle.entry_read.specs.declared.head.UnitHead.{UnitHead}
 use Rattle.entry_read.specs.declared.unit.Counts.{Counts}
-use Rattle.entry_read.specs.Heads.{Tile as UnitsTile}
+use Rattle.entry_read.specs.Heads.{no_head, Tile as UnitsTile}
 use Rattle.entry_read.specs.Units.{declarations_of, IsUnitHeld, IsWithin}
 use Rattle.companions.specs.declared.set.ArangeSet.{ArangeSet}
 use Rattle.companions.specs.Aranges.{SetsTile}
@@ -44,10 +44,14 @@ line_heads programs = map (λ (p : ProgramRead). p.head) programs
 abbrev pub HasRows : List ℕ → ProgramRead → Type 0
 HasRows section p = GivesRows p.head (program_of section p.head) p.rows
 
--- the programs are all of .debug_line, one after the other
-pub record AreProgramsOf (file : List ℕ) (programs : List ProgramRead) : Type 0 where
-  pub tiled : ProgramsTile (debug_line file) (line_heads programs)
-  pub given : All (HasRows (debug_line file)) programs
+-- the programs are all of the section, one after the other
+pub record AreProgramsIn (section : List ℕ) (programs : List ProgramRead) : Type 0 where
+  pub tiled : ProgramsTile section (line_heads programs)
+  pub given : All (HasRows section) programs
+
+-- the programs of .debug_line
+abbrev pub AreProgramsOf : List ℕ → List ProgramRead → Type 0
+AreProgramsOf file programs = AreProgramsIn (debug_line file) programs
 
 -- the program with a number; past the end there is none, and an empty one stands for it
 abbrev pub no_program : ProgramRead
@@ -91,22 +95,29 @@ pub record IsUnitRead (info abbrevs : List ℕ) (u : UnitRead) : Type 0 where
   pub section : u.forest.section ≡ info
   pub entries : IsUnitHeld info u.head (declarations u) u.forest
 
--- the units are all of .debug_info, one after the other, and keep the limits
-pub record AreUnitsOf (file : List ℕ) (units : List UnitRead) : Type 0 where
-  pub tiled : UnitsTile (debug_info file) (unit_heads units)
-  pub each : All (IsUnitRead (debug_info file) (debug_abbrev file)) units
+-- the units are the whole section, one after the other, by the tables of another, and keep the limits
+pub record AreUnitsIn (info abbrevs : List ℕ) (units : List UnitRead) : Type 0 where
+  pub tiled : UnitsTile info (unit_heads units)
+  pub each : All (IsUnitRead info abbrevs) units
   pub within : AreWithin units
+
+-- the units of .debug_info, by the tables of .debug_abbrev
+abbrev pub AreUnitsOf : List ℕ → List UnitRead → Type 0
+AreUnitsOf file units = AreUnitsIn (debug_info file) (debug_abbrev file) units
 
 -- the unit with a number; past the end there is none, and an empty one stands for it
 abbrev pub no_unit : UnitRead
 no_unit = record {
-  head = record { at = 0; len = 0; kind = 0; table = 0; extra = 0; type_at = 0 };
+  head = no_head;
   table = record { decls = []; specs = []; end = 0 };
   forest = nothing_of [];
 }
 
+abbrev pub unit_among : List UnitRead → ℕ → UnitRead
+unit_among units u = slice_index_or units u no_unit
+
 abbrev pub unit_at : Reading → ℕ → UnitRead
-unit_at r u = slice_index_or r.units u no_unit
+unit_at r u = unit_among r.units u
 
 -- THE FILE
 

@@ -1,5 +1,6 @@
 // Laws of the definitions.
 ghost use Rattle.value_links.specs.Sections.{FindsSections};
+ghost use Rattle.value_links.specs.Parts.{LinkedFilesMean};
 ghost use Rattle.value_links.specs.Laws.{OneReading, OneMeaning, OneDebug, ResolvedHaveNoFault, ResolvedOrFaulty, FirstFaultsDecide, MeaningFilesAreValid, ValidFilesMean};
 
 /// A law: the section of a name is found exactly where one has it, and is the first that does.
@@ -42,4 +43,10 @@ pub fn first_faults_decide()
 pub fn valid_files()
     ensures mean { ValidFilesMean }
     ensures whole { MeaningFilesAreValid }
+{}
+
+/// A law: a file of which all is read, each of whose values refers to what it may and each of whose type units names an entry,
+/// means something, and none of its values waits for a later version of this program.
+pub fn linked_files_mean()
+    ensures { LinkedFilesMean }
 {}

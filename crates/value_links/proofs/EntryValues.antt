@@ -1,0 +1,75 @@
+-- The values of entries, by the numbers of their columns.
+use Rattle.std.proofs.Common.{◌≡◌, ◌≤◌, ◌<◌, ◌+◌, ◌++◌, ◌∙◌, ℕ, List, [], ◌∷◌, length, take, drop, sym, ap, subst, refl, arith}
+use Rattle.std.specs.Prelude.{pos}
+use Rattle.std.proofs.Math.Seq.{get_or-append_seam}
+use Rattle.std.proofs.lemmas.List.{length-append, length-take-le, take-append-drop, drop_more}
+use Rattle.form_codec.specs.declared.value.Value.{Value}
+use Rattle.form_codec.specs.declared.value.Value.TheVariants as value
+use Rattle.form_codec.specs.Forms.{Meaning}
+use Rattle.form_codec.specs.Values.{meant_in}
+use Rattle.abbrev_tables.specs.declared.decl.Spec.{Spec}
+use Rattle.abbrev_tables.specs.Listings.{spec_at}
+use Rattle.entry_arena.specs.Arena.{value_at}
+use Rattle.entry_arena.specs.Trees.{ValuesBetween}
+use Rattle.entry_read.specs.Places.{HaveOwners, StandsAtColumn}
+use Rattle.value_links.specs.Reading.{UnitRead, declarations}
+use Rattle.value_links.specs.Values.{entry_of, declaration_of, values_of, HasValueAt}
+use Rattle.value_links.proofs.Causes.{own_value, own_count}
+
+abbrev no_spec : Spec
+no_spec = record { name = 0; form = 0; constant = pos 0 }
+
+-- as many values as columns
+counted_between : (section : List ℕ) (columns : List Spec) (values : List Value) (from to : ℕ) → ValuesBetween section columns values from to → length values ≡ length columns
+counted_between section [] [] from to same = refl
+counted_between section [] (v ∷ vs) from to none = absurd none
+counted_between section (c ∷ cs) [] from to none = absurd none
+counted_between section (c ∷ cs) (v ∷ vs) from to (next, spelled, placed, rest) = let later : length vs ≡ length cs = counted_between section cs vs next to rest in omega arith
+
+-- values end in the section
+pub values_inside : (section : List ℕ) (columns : List Spec) (values : List Value) (from to : ℕ) → from ≤ length section → ValuesBetween section columns values from to → to ≤ length section
+values_inside section [] [] from to inside same = let here : from ≡ to = same in omega arith
+values_inside section [] (v ∷ vs) from to inside none = absurd none
+values_inside section (c ∷ cs) [] from to inside none = absurd none
+values_inside section (c ∷ cs) (v ∷ vs) from to inside (next, spelled, placed, rest) = values_inside section cs vs next to spelled.inside rest
+
+module _ (unit : UnitRead) (owned : HaveOwners (declarations unit) unit.forest) (id : ℕ) (known : id < length unit.forest.entries) where
+  -- the value of a column stands where the code and the values before it end
+  pub stands_at : (k place : ℕ) → k < (entry_of unit id).count → StandsAtColumn unit.forest.section (declarations unit) unit.forest.values (entry_of unit id) k place → HasValueAt unit id ((entry_of unit id).first + k) (spec_at (declaration_of unit id).columns k).name (meant_in unit.forest.section (value_at unit.forest.values ((entry_of unit id).first + k))) place
+  stands_at k place inside stands =
+      let columns : List Spec = (declaration_of unit id).columns in
+      let values : List Value = values_of unit id in
+      let k_columns : k < length columns = subst (λ (z : ℕ). k < z) (owned.counted id known) inside in
+      let size : length values ≡ (entry_of unit id).count = own_count unit.forest.values (entry_of unit id).first (entry_of unit id).count (owned.inside id known) in
+      let k_values : k < length values = omega arith in
+      let front : length (take k values) ≡ k = length-take-le k values (omega arith) in
+      record {
+        known = known;
+        earlier_columns = take k columns;
+        column = spec_at columns k;
+        later_columns = drop (k + 1) columns;
+        columns = sym (take-append-drop k columns) ∙ ap (λ z. take k columns ++ z) (drop_more columns k no_spec k_columns);
+        earlier = take k values;
+        value = value_at values k;
+        later = drop (k + 1) values;
+        values = sym (take-append-drop k values) ∙ ap (λ z. take k values ++ z) (drop_more values k (value.Addr 0) k_values);
+        numbered = ap (λ z. (entry_of unit id).first + z) (sym front);
+        values_at = stands.values_at;
+        coded = stands.coded;
+        valued = stands.valued;
+        named = refl;
+        meant = ap (meant_in unit.forest.section) (sym (own_value unit.forest.values (entry_of unit id).first (entry_of unit id).count k inside));
+      }
+
+  -- each value is that of a column with a number
+  pub column_of : (number name : ℕ) (meaning : Meaning) (place : ℕ) → HasValueAt unit id number name meaning place → (k : ℕ) × (k < (entry_of unit id).count) × (name ≡ (spec_at (declaration_of unit id).columns k).name) × (meaning ≡ meant_in unit.forest.section (value_at unit.forest.values ((entry_of unit id).first + k)))
+  column_of number name meaning place h =
+      let k : ℕ = length h.earlier_columns in
+      let same : length h.earlier ≡ length h.earlier_columns = counted_between unit.forest.section h.earlier_columns h.earlier h.values_at place h.valued in
+      let whole : length (declaration_of unit id).columns ≡ length (h.earlier_columns ++ h.column ∷ h.later_columns) = ap length h.columns in
+      let sum : length (h.earlier_columns ++ h.column ∷ h.later_columns) ≡ length h.earlier_columns + length (h.column ∷ h.later_columns) = length-append h.earlier_columns (h.column ∷ h.later_columns) in
+      let count : (entry_of unit id).count ≡ length (declaration_of unit id).columns = owned.counted id known in
+      let inside : k < (entry_of unit id).count = omega arith in
+      let column : spec_at (declaration_of unit id).columns k ≡ h.column = ap (λ z. spec_at z k) h.columns ∙ get_or-append_seam h.earlier_columns h.column h.later_columns no_spec in
+      let value : value_at (values_of unit id) k ≡ h.value = ap (λ z. value_at z k) h.values ∙ ap (value_at (h.earlier ++ h.value ∷ h.later)) (sym same) ∙ get_or-append_seam h.earlier h.value h.later (value.Addr 0) in
+      (k, inside, h.named ∙ ap (λ z. z.name) (sym column), h.meant ∙ ap (meant_in unit.forest.section) (sym value ∙ own_value unit.forest.values (entry_of unit id).first (entry_of unit id).count k inside))

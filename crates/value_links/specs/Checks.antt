@@ -1,0 +1,110 @@
+-- What the parts of the check of all values give.
+use Rattle.std.specs.Prelude.{◌≡◌, ◌<◌, ◌+◌, ◌⊎◌, ℕ, List, length, slice_index, Option, Some, None, Bool, true, false}
+use Rattle.dw_base.specs.declared.fault.Kind.{Kind}
+use Rattle.dw_base.specs.declared.fault.Kind.TheVariants.{Target as NoTarget, Pointer, NoBase}
+use Rattle.dw_base.specs.declared.fault.Fault.{Fault}
+use Rattle.line_machine.specs.declared.head.Head.{Head}
+use Rattle.form_codec.specs.declared.value.Value.{Value}
+use Rattle.form_codec.specs.declared.value.Value.TheVariants as value
+use Rattle.form_codec.specs.Forms.{Meaning}
+use Rattle.form_codec.specs.Values.{meant_in}
+use Rattle.abbrev_tables.specs.Tables.{Declared}
+use Rattle.abbrev_tables.specs.Listings.{Listing, spec_at}
+use Rattle.entry_arena.specs.Arena.{Arena, entry_at, value_at, IsEntryAt}
+use Rattle.entry_arena.specs.Forests.{described_by}
+use Rattle.entry_read.specs.Heads.{type_unit, IsHead}
+use Rattle.entry_read.specs.Units.{HeadAndForest, declarations_of, IsTable, IsUnitHeld}
+use Rattle.value_links.specs.declared.units.Units.{Units}
+use Rattle.value_links.specs.Attributes.{rnglists_base, loclists_base}
+use Rattle.value_links.specs.Reading.{Reading, unit_at}
+use Rattle.value_links.specs.Values.{entry_of, declaration_of, IsFirstBase}
+use Rattle.value_links.specs.World.{table_at}
+use Rattle.value_links.specs.Resolved.{Resolved, Resolves, IsTypeEntry}
+use Rattle.value_links.specs.Faults.{IsUnread, FaultValue, FaultAttribute, FaultType}
+use Rattle.value_links.specs.Parts.{AreUnitsHeld, AreParts}
+
+-- WHAT IS HELD
+
+-- the units of some section are held, by the tables of some other
+abbrev pub AreSomeUnits : Units → Type 0
+AreSomeUnits held = (info : List ℕ) × (abbrevs : List ℕ) × AreUnitsHeld info abbrevs held
+
+-- the table of the unit with a number
+abbrev pub table_held : Units → ℕ → Listing
+table_held held u = (table_at held.tables.items (slice_index held.table_of.items u)).table
+
+-- a unit of its section, with the table by which it was read
+pub record IsUnitWithTable (unit : HeadAndForest) (t : Listing) : Type 0 where
+  pub table : IsTable t
+  pub head : IsHead unit.forest.section unit.head
+  pub held : IsUnitHeld unit.forest.section unit.head (declarations_of t) unit.forest
+
+-- VALUES THAT MEAN NOTHING
+
+-- the attributes of the first entry
+abbrev pub root_attributes : Arena → List Declared → List (ℕ × Meaning)
+root_attributes forest ds = (described_by forest.section ds forest.values (entry_at forest.entries 0)).attributes
+
+-- the value is a section offset
+abbrev pub is_offset : Value → Bool
+is_offset (value.Offset n) = true
+is_offset v = false
+
+-- attributes have a base of a name, or none
+abbrev pub HasBase : List (ℕ × Meaning) → ℕ → Type 0
+HasBase attributes name = (n : ℕ) × IsFirstBase attributes name n
+
+-- why an index that counts from a base names nothing
+abbrev pub IsBaseCause : List (ℕ × Meaning) → ℕ → Kind → Type 0
+IsBaseCause root name Pointer = HasBase root name
+IsBaseCause root name NoBase = ¬ HasBase root name
+IsBaseCause root name kind = ⊥
+
+-- why a value names nothing, where it does
+abbrev pub IsCause : List (ℕ × Meaning) → Value → Kind → Type 0
+IsCause root (value.LocalRef n) kind = kind ≡ NoTarget
+IsCause root (value.SectionRef n) kind = kind ≡ NoTarget
+IsCause root (value.LocIndex i) kind = IsBaseCause root loclists_base kind
+IsCause root (value.RangeIndex i) kind = IsBaseCause root rnglists_base kind
+IsCause root v kind = kind ≡ Pointer
+
+-- the type_offset of a unit names an entry
+abbrev pub NamesType : HeadAndForest → Type 0
+NamesType unit = (id : ℕ) × IsEntryAt unit.forest id (unit.head.at + unit.head.type_at)
+
+-- whether a unit that is a type unit has the entry of its type
+abbrev pub IsTyped : HeadAndForest → Bool → Type 0
+IsTyped unit true = unit.head.kind ≡ type_unit → NamesType unit
+IsTyped unit false = (unit.head.kind ≡ type_unit) × (¬ NamesType unit)
+
+-- WHAT IS CHECKED
+
+-- a value means something and waits for nothing, or has a fault
+abbrev pub IsChecked : Reading → ℕ → ℕ → ℕ → Meaning → Option Kind → Type 0
+IsChecked r u id name meaning None = ((v : Resolved) × Resolves r u id name meaning v) × (¬ IsUnread meaning)
+IsChecked r u id name meaning (Some kind) = FaultValue r u id name meaning kind
+
+-- the value of a column of an entry means something and waits for nothing
+abbrev pub IsColumnLinked : Reading → ℕ → ℕ → ℕ → Type 0
+IsColumnLinked r u id column = IsChecked r u id (spec_at (declaration_of (unit_at r u) id).columns column).name (meant_in (unit_at r u).forest.section (value_at (unit_at r u).forest.values ((entry_of (unit_at r u) id).first + column))) None
+
+-- the values of so many columns of an entry do
+abbrev pub AreColumnsLinked : Reading → ℕ → ℕ → ℕ → Type 0
+AreColumnsLinked r u id n = (column : ℕ) → column < n → IsColumnLinked r u id column
+
+-- all values of so many entries of a unit do
+abbrev pub AreEntriesLinked : Reading → ℕ → ℕ → Type 0
+AreEntriesLinked r u n = (id : ℕ) → id < n → AreColumnsLinked r u id (entry_of (unit_at r u) id).count
+
+-- all values of a unit do, and a type unit has the entry of its type
+pub record IsUnitLinked (r : Reading) (u : ℕ) : Type 0 where
+  pub entries : AreEntriesLinked r u (length (unit_at r u).forest.entries)
+  pub typed : (unit_at r u).head.kind ≡ type_unit → (id : ℕ) × IsTypeEntry r u id
+
+-- this holds of each reading of which these are the units and the programs
+abbrev pub InEach : Units → List Head → (Reading → Type 0) → Type 0
+InEach held heads P = (file : List ℕ) (r : Reading) → AreParts file r held heads → P r
+
+-- the fault is one of a value, or of the type, of a unit
+abbrev pub IsUnitFault : ℕ → Fault → Reading → Type 0
+IsUnitFault u fault r = FaultAttribute r u fault.kind fault.place ⊎ FaultType r u fault.kind fault.place

@@ -1,0 +1,263 @@
+// What all values of a file refer to.
+ghost use Rattle.std.specs.Prelude.{◌≡◌, ◌≤◌, ◌<◌, ◌+◌, ◌^◌, ◌↔◌, ℕ, List, OnOk, IfErr, IsTrue, true, length};
+ghost use Rattle.std.specs.List.{list_any};
+ghost use Rattle.dw_base.specs.Refusals.{IsFaultOf};
+ghost use Rattle.form_codec.specs.Values.{meant_in, LiesIn};
+ghost use Rattle.abbrev_tables.specs.Listings.{spec_at};
+ghost use Rattle.entry_arena.specs.Arena.{entry_at};
+ghost use Rattle.entry_arena.specs.Order.{IsInOrder};
+ghost use Rattle.entry_arena.specs.Trees.{declared_at};
+ghost use Rattle.entry_read.specs.Units.{declarations_of, IsTable};
+ghost use Rattle.value_links.specs.Attributes.{is_among};
+ghost use Rattle.value_links.specs.Reading.{Reading, unit_at};
+ghost use Rattle.value_links.specs.Faults.{unread_opcodes, IsUnread, FaultAttribute};
+ghost use Rattle.value_links.specs.Links.{held_at};
+ghost use Rattle.value_links.specs.Checks.{AreSomeUnits, table_held, IsUnitWithTable, root_attributes, is_offset, HasBase, IsBaseCause, IsCause, NamesType, IsTyped, IsChecked, AreColumnsLinked, IsUnitLinked, InEach, IsUnitFault};
+ghost use Rattle.value_links.specs.Parts.{AreUnitsHeld, AreParts, AreLinked, LinkFault};
+
+use crate::link::{local_target, resolve, unit_of};
+use crate::units::Units;
+use abbrev_tables::Table;
+use dw_base::{Fault, Kind};
+use entry_arena::Target;
+use entry_read::{Unit, place_of_value};
+use form_codec::Value;
+use line_machine::Head;
+
+// The attributes that give the base of location lists and of range lists.
+const LOCLISTS_BASE: u64 = 0x8c;
+
+const RNGLISTS_BASE: u64 = 0x74;
+
+// DW_UT_type.
+const TYPE_UNIT: u8 = 2;
+
+// Where type_offset stands in a type unit (DWARF 5 section 7.5.1.3).
+const TYPE_OFFSET_AT: u64 = 20;
+
+// The table by which a unit was read.
+fn table_of<'a>(held: &'a Units<'_>, number: u32) -> &'a Table
+    requires held { AreSomeUnits held.now }
+    requires number { number < length held.now.units.items }
+    ensures table { result.now ≡ table_held held.now number }
+    ensures unit { IsUnitWithTable (held_at held.now.units.items number) result.now }
+{
+    &held.tables[held.table_of[number as usize] as usize].table
+}
+
+// The name of a column of a declaration.
+fn column_name(table: &Table, number: u32, column: u32) -> u64
+    requires table { IsTable table.now }
+    requires number { number < length (declarations_of table.now) }
+    requires column { column < length (declared_at (declarations_of table.now) number).columns }
+    ensures { result ≡ (spec_at (declared_at (declarations_of table.now) number).columns column).name }
+{
+    let first = table.decl(number).first as usize;
+    table.specs()[first + column as usize].name
+}
+
+// Whether an opcode is that of an operation that names an entry, which isn't read yet.
+fn is_unread_opcode(byte: u8) -> bool
+    ensures { result ≡ is_among unread_opcodes byte }
+{
+    match byte {
+        0x98 | 0x99 | 0x9a | 0xa0 | 0xa4 | 0xa5 | 0xa6 | 0xa7 | 0xa8 | 0xa9 | 0xfa | 0xfd => true,
+        _ => false,
+    }
+}
+
+// Whether such a byte stands among these.
+fn has_unread_opcode(bytes: &[u8]) -> bool
+    ensures { result ≡ list_any (is_among unread_opcodes) bytes.now }
+{
+    bytes.iter().any(|byte| is_unread_opcode(*byte))
+}
+
+// Whether a value is an expression that isn't read yet.
+fn is_unread(unit: &Unit<'_>, value: &Value) -> bool
+    requires { LiesIn (length unit.now.forest.section) value.now }
+    ensures { IsTrue result ↔ IsUnread (meant_in unit.now.forest.section value.now) }
+{
+    match *value {
+        Value::Expr(span) => has_unread_opcode(unit.forest().bytes(span)),
+        _ => false,
+    }
+}
+
+// Whether an attribute gives a base of this name: it has the name, and its value is a section offset.
+fn is_base(named: u64, value: &Value, name: u64) -> bool
+    ensures { IsTrue result ↔ ((named ≡ name) × (is_offset value.now ≡ true)) }
+{
+    match *value {
+        Value::Offset(_) => named == name,
+        _ => false,
+    }
+}
+
+// Whether the root of a unit gives a base of this name: the attribute with a section offset.
+fn gives_base(unit: &Unit<'_>, table: &Table, name: u64) -> bool
+    requires { IsUnitWithTable unit.now table.now }
+    ensures { IsTrue result ↔ HasBase (root_attributes unit.now.forest (declarations_of table.now)) name }
+{
+    let forest = unit.forest();
+    let root = forest.entry(0);
+    let values = forest.values();
+    for column in 0..root.count {
+        let named = column_name(table, root.decl, column);
+        let value = values[root.first as usize + column as usize];
+        if is_base(named, &value, name) {
+            return true;
+        }
+    }
+    false
+}
+
+// Why an index that counts from a base names nothing.
+fn base_cause(unit: &Unit<'_>, table: &Table, name: u64) -> Kind
+    requires { IsUnitWithTable unit.now table.now }
+    ensures { IsBaseCause (root_attributes unit.now.forest (declarations_of table.now)) name result }
+{
+    if gives_base(unit, table, name) {
+        Kind::Pointer
+    } else {
+        Kind::NoBase
+    }
+}
+
+// Why a value names nothing, where it does.
+fn cause_of(unit: &Unit<'_>, table: &Table, value: &Value) -> Kind
+    requires { IsUnitWithTable unit.now table.now }
+    ensures { IsCause (root_attributes unit.now.forest (declarations_of table.now)) value.now result }
+{
+    match *value {
+        Value::LocalRef(_) | Value::SectionRef(_) => Kind::Target,
+        Value::LocIndex(_) => base_cause(unit, table, LOCLISTS_BASE),
+        Value::RangeIndex(_) => base_cause(unit, table, RNGLISTS_BASE),
+        _ => Kind::Pointer,
+    }
+}
+
+// The fault of a value of the unit with a number, as that of an attribute with a name.
+fn fault_of(
+    held: &Units<'_>,
+    programs: &Vec<Head>,
+    number: u32,
+    name: u64,
+    value: &Value,
+) -> Option<Kind>
+    requires held { AreSomeUnits held.now }
+    requires number { number < length held.now.units.items }
+    requires lies { LiesIn (length (held_at held.now.units.items number).forest.section) value.now }
+    ensures { (id : ℕ) → InEach held.now programs.now.items (λ r. IsChecked r number id name (meant_in (unit_at r number).forest.section value.now) result) }
+{
+    let unit = unit_of(held, number);
+    if is_unread(unit, value) {
+        return Some(Kind::Unbuilt);
+    }
+    match resolve(held, programs, number, name, value) {
+        Some(_) => None,
+        None => Some(cause_of(unit, table_of(held, number), value)),
+    }
+}
+
+// Checks the values of the entry with number `id` of a unit. The place of a fault counts from the section's first byte.
+fn check_entry(held: &Units<'_>, programs: &Vec<Head>, number: u32, id: u32) -> Result<(), Fault>
+    requires held { AreSomeUnits held.now }
+    requires number { number < length held.now.units.items }
+    requires id { id < length (held_at held.now.units.items number).forest.entries }
+    ensures linked { OnOk result (InEach held.now programs.now.items (λ r. AreColumnsLinked r number id (entry_at (held_at held.now.units.items number).forest.entries id).count)) }
+    ensures fault { IfErr result (λ fault. InEach held.now programs.now.items (λ r. FaultAttribute r number fault.kind fault.place)) }
+    ensures inside { IfErr result (λ fault. fault.place ≤ length (held_at held.now.units.items number).forest.section) }
+{
+    let unit = unit_of(held, number);
+    let table = table_of(held, number);
+    let forest = unit.forest();
+    let entry = forest.entry(id);
+    let values = forest.values();
+    for column in 0..entry.count {
+        let name = column_name(table, entry.decl, column);
+        let value = values[entry.first as usize + column as usize];
+        if let Some(kind) = fault_of(held, programs, number, name, &value) {
+            let place = place_of_value(unit, table, id, column);
+            return Err(Fault { kind, place });
+        }
+    }
+    Ok(())
+}
+
+// Whether the type_offset of a unit names an entry.
+fn names_type(unit: &Unit<'_>) -> bool
+    ensures { IsInOrder unit.now.forest → IsTrue result ↔ NamesType unit.now }
+{
+    let Some(target) = local_target(unit, unit.head().type_at) else {
+        return false;
+    };
+    match target {
+        Target::Entry(_) => true,
+        Target::ChainEnd(_) => false,
+    }
+}
+
+// Whether a unit that is a type unit has the entry of its type.
+fn is_typed(unit: &Unit<'_>) -> bool
+    ensures { IsInOrder unit.now.forest → IsTyped unit.now result }
+{
+    unit.head().kind != TYPE_UNIT || names_type(unit)
+}
+
+// Checks the values of a unit, and the type of a type unit. The place of a fault counts from the section's first byte.
+fn check_unit(held: &Units<'_>, programs: &Vec<Head>, number: u32) -> Result<(), Fault>
+    requires held { AreSomeUnits held.now }
+    requires number { number < length held.now.units.items }
+    requires room { length (held_at held.now.units.items number).forest.section < 2 ^ 64 }
+    ensures linked { OnOk result (InEach held.now programs.now.items (λ r. IsUnitLinked r number)) }
+    ensures fault { IfErr result (λ fault. InEach held.now programs.now.items (IsUnitFault number fault)) }
+    ensures inside { IfErr result (λ fault. fault.place ≤ length (held_at held.now.units.items number).forest.section) }
+{
+    let unit = unit_of(held, number);
+    for id in 0..unit.forest().len() {
+        match check_entry(held, programs, number, id) {
+            Ok(()) => {}
+            Err(fault) => return Err(fault),
+        }
+    }
+    if !is_typed(unit) {
+        return Err(Fault {
+            kind: Kind::Target,
+            place: unit.head().at + TYPE_OFFSET_AT,
+        });
+    }
+    Ok(())
+}
+
+/// Whether each value of the units refers to what it may (DWARF 5 sections 7.5.4 and 7.5.5), and each type unit names an entry.
+/// `info` is the body of .debug_info, of which the units were read by the tables of `abbrevs`, and `origin` its file offset.
+///
+/// A fault stands at the first byte of a value: Target where a reference has no target, Pointer where a section offset names
+/// nothing that its attribute's class allows, or an index counts from such a base, NoBase where an index has no base, and
+/// Unbuilt where an expression isn't read yet. Target stands at the field type_offset that names no entry.
+pub fn check_links(
+    held: &Units<'_>,
+    programs: &Vec<Head>,
+    info: &[u8],
+    abbrevs: &[u8],
+    origin: u64,
+) -> Result<(), Fault>
+    requires held { AreUnitsHeld info.now abbrevs.now held.now }
+    requires room { origin + length info.now < 2 ^ 64 }
+    ensures linked { OnOk result ((file : List ℕ) (r : Reading) → AreParts file r held.now programs.now.items → AreLinked r) }
+    ensures fault { IfErr result (λ fault. (file : List ℕ) (r : Reading) → AreParts file r held.now programs.now.items → IsFaultOf (LinkFault r) origin fault) }
+{
+    for number in 0..held.units.len() as u32 {
+        match check_unit(held, programs, number) {
+            Ok(()) => {}
+            Err(fault) => {
+                return Err(Fault {
+                    kind: fault.kind,
+                    place: origin + fault.place,
+                });
+            }
+        }
+    }
+    Ok(())
+}

@@ -1,0 +1,131 @@
+// What values refer to.
+ghost use Rattle.std.specs.Prelude.{◌≡◌, ◌≢◌, ◌≤◌, ◌<◌, ◌+◌, ◌^◌, ℕ, List, length, IfSome, MatchOption};
+ghost use Rattle.form_codec.specs.Values.{meant_in};
+ghost use Rattle.entry_arena.specs.Order.{IsInOrder};
+ghost use Rattle.value_links.specs.Attributes.{offset_class};
+ghost use Rattle.value_links.specs.Reading.{Reading, unit_at};
+ghost use Rattle.value_links.specs.Resolved.{Resolved, Resolves};
+ghost use Rattle.value_links.specs.Links.{resolved_by, program_among, held_at, IsLastFrom, IsTargetFound, IsSectionTargetFound, IsOffsetFound, AreProgramsApart, AreUnitsApart};
+ghost use Rattle.value_links.specs.Parts.{AreParts};
+
+use crate::units::Units;
+use entry_arena::Target;
+use entry_read::Unit;
+use form_codec::Value;
+use line_machine::Head;
+
+/// What the value of an attribute refers to. Units, entries and line number programs are numbered from 0 in their order.
+#[derive(Clone, Copy, Debug, PartialEq, Eq)]
+pub enum Link {
+    /// Nothing: the value is what it says.
+    Plain,
+    /// An entry, or the end of the children of an entry, of the unit with a number.
+    Place(u32, Target),
+    /// A line number program.
+    Lines(u32),
+    /// A place of a section into which it isn't followed.
+    Kept(u64),
+}
+
+// DW_AT_stmt_list, whose section offset is that of a line number program.
+const STMT_LIST: u64 = 0x10;
+
+// DW_AT_addr_base, DW_AT_str_offsets_base and DW_AT_macros, whose section offsets are kept.
+const ADDR_BASE: u64 = 0x73;
+
+const STR_OFFSETS_BASE: u64 = 0x72;
+
+const MACROS: u64 = 0x79;
+
+// The unit with a number.
+pub(crate) fn unit_of<'a, 'b>(held: &'a Units<'b>, number: u32) -> &'a Unit<'b>
+    requires { number < length held.now.units.items }
+    ensures { result.now ≡ held_at held.now.units.items number }
+{
+    &held.units[number as usize]
+}
+
+// The target of a local reference, which counts from the unit's first byte. Past the section's end there is none.
+pub(crate) fn local_target(unit: &Unit<'_>, offset: u64) -> Option<Target>
+    ensures { IsInOrder unit.now.forest → IsTargetFound unit.now.forest (unit.now.head.at + offset) result }
+{
+    let forest = unit.forest();
+    let from = unit.head().at;
+    let room = (forest.section().len() as u64).saturating_sub(from);
+    if offset >= room {
+        return None;
+    }
+    forest.target_at(from + offset)
+}
+
+// The number in 32 bits, where it has no more.
+fn narrow(number: usize) -> Option<u32>
+    ensures { MatchOption result (2 ^ 32 ≤ number) (λ same. same ≡ number) }
+{
+    u32::try_from(number).ok()
+}
+
+// The number of the last unit that begins at a place or before it.
+fn last_from(units: &[Unit<'_>], place: u64) -> Option<usize>
+    ensures bound { IfSome result (λ i. i < length units.now) }
+    ensures last { AreUnitsApart units.now → IsLastFrom units.now place result }
+{
+    units
+        .partition_point(|unit| unit.head().at <= place)
+        .checked_sub(1)
+}
+
+// What a reference that counts from the first byte of .debug_info refers to.
+fn section_target(units: &[Unit<'_>], place: u64) -> Option<Link>
+    ensures { AreUnitsApart units.now → IsSectionTargetFound units.now place result }
+{
+    let number = last_from(units, place)?;
+    let target = units[number].forest().target_at(place)?;
+    let unit = narrow(number)?;
+    Some(Link::Place(unit, target))
+}
+
+// The number of the line number program that begins at a place of .debug_line.
+fn program_from(programs: &[Head], place: u64) -> Option<u32>
+    ensures { AreProgramsApart programs.now → MatchOption result ((i : ℕ) → i < length programs.now → (program_among programs.now i).at ≢ place) (λ i. (i < length programs.now) × ((program_among programs.now i).at ≡ place)) }
+{
+    match programs.binary_search_by_key(&place, |head| head.at) {
+        Ok(number) => narrow(number),
+        Err(_) => None,
+    }
+}
+
+// What a section offset refers to, which is the value of an attribute of this name.
+fn section_place(programs: &[Head], name: u64, place: u64) -> Option<Link>
+    ensures { AreProgramsApart programs.now → IsOffsetFound programs.now (offset_class name) place result }
+{
+    match name {
+        STMT_LIST => Some(Link::Lines(program_from(programs, place)?)),
+        ADDR_BASE | STR_OFFSETS_BASE | MACROS => Some(Link::Kept(place)),
+        _ => None,
+    }
+}
+
+/// What a value refers to that stands in the unit with this number, counted from 0, as the value of an attribute of this name
+/// (DWARF 5 sections 7.5.4 and 7.5.5), or None exactly where it names nothing that it may name. It takes no memory.
+pub fn resolve(
+    held: &Units<'_>,
+    programs: &Vec<Head>,
+    unit: u32,
+    name: u64,
+    value: &Value,
+) -> Option<Link>
+    requires { unit < length held.now.units.items }
+    ensures { (file : List ℕ) (r : Reading) (id : ℕ) → AreParts file r held.now programs.now.items → MatchOption result ((v : Resolved) → Resolves r unit id name (meant_in (unit_at r unit).forest.section value.now) v → ⊥) (λ link. Resolves r unit id name (meant_in (unit_at r unit).forest.section value.now) (resolved_by (meant_in (unit_at r unit).forest.section value.now) link)) }
+{
+    match *value {
+        Value::LocalRef(offset) => {
+            let target = local_target(unit_of(held, unit), offset)?;
+            Some(Link::Place(unit, target))
+        }
+        Value::SectionRef(place) => section_target(&held.units, place),
+        Value::Offset(place) => section_place(programs, name, place),
+        Value::LocIndex(_) | Value::RangeIndex(_) => None,
+        _ => Some(Link::Plain),
+    }
+}

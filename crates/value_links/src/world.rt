@@ -1,0 +1,230 @@
+// A file that is held with what is read of it.
+ghost use Rattle.std.specs.Prelude.{◌≡◌, ◌<◌, ◌^◌, ℕ, List, length, slice_index, IfOk, IfErr, OnOk, MatchOption};
+ghost use Rattle.dw_base.specs.declared.fault.Reach.{Reach};
+ghost use Rattle.dw_base.specs.declared.fault.Reach.TheVariants.{Wide};
+ghost use Rattle.elf_sections.specs.Faults.{IsRead};
+ghost use Rattle.form_codec.specs.Values.{meant_in};
+ghost use Rattle.line_write.specs.Readings.{AreRead};
+ghost use Rattle.companions.specs.Aranges.{SetsTile};
+ghost use Rattle.value_links.specs.Sections.{debug_info, debug_abbrev, debug_line, debug_aranges};
+ghost use Rattle.value_links.specs.Reading.{Reading, unit_at};
+ghost use Rattle.value_links.specs.Resolved.{Resolved, Resolves};
+ghost use Rattle.value_links.specs.Faults.{NamesFault};
+ghost use Rattle.value_links.specs.Laws.{IsImageInOrder};
+ghost use Rattle.value_links.specs.Links.{resolved_by};
+ghost use Rattle.value_links.specs.Passes.{starts_of, ArePartsInOrder, NamesLaterFault};
+ghost use Rattle.value_links.specs.World.{World, Holds, table_at, IsWorldOf};
+
+use crate::check::check_links;
+use crate::link::{Link, resolve};
+use crate::sections::{debug_section, list_section};
+use crate::units::{NamedTable, Units, read_units};
+use abbrev_tables::Table;
+use companions::{ArangeSet, read_aranges};
+use dw_base::{Fault, Kind, NoMemory, Reach, Refusal};
+use elf_sections::Image;
+use entry_read::Unit;
+use form_codec::Value;
+use line_machine::Head;
+use line_write::read_lines;
+use std::alloc::Global;
+use std::marker::Model;
+
+// The image of a file in which no section holds lists.
+fn read_image<'a>(alloc: Global, file: &'a [u8], reach: Reach) -> Result<Image<'a>, Refusal>
+    ensures image { IfOk result (λ image. image ≡ file.entry.now) }
+    ensures read { OnOk result (IsRead file.entry.now Wide) }
+    ensures order { OnOk result (IsImageInOrder file.entry.now reach) }
+    ensures refused { IfErr result (λ refusal. NamesFault file.entry.now reach refusal) }
+{
+    let image = match Image::read(alloc, file, reach) {
+        Ok(image) => image,
+        Err(refusal) => return Err(refusal),
+    };
+    if let Some(place) = list_section(&image) {
+        return Err(Refusal::Refused(Fault {
+            kind: Kind::Unbuilt,
+            place,
+        }));
+    }
+    Ok(image)
+}
+
+// The headers of the line number programs of a file.
+fn read_programs<'a>(alloc: Global, file: &'a [u8], image: &Image<'a>) -> Result<Vec<Head>, Refusal>
+    requires image { image.now ≡ file.now }
+    requires read { IsRead file.now Wide }
+    ensures read { IfOk result (λ heads. AreRead (debug_line file.now) heads.items) }
+    ensures refused { IfErr result (NamesLaterFault file.now) }
+{
+    let line = debug_section(file, image, b".debug_line".as_slice());
+    read_lines(alloc, line.bytes, line.origin)
+}
+
+// The units of a file, of whose values all refer to what they may. `programs` are its line number programs.
+fn read_linked<'a>(
+    alloc: Global,
+    file: &'a [u8],
+    image: &Image<'a>,
+    programs: &Vec<Head>,
+) -> Result<Units<'a>, Refusal>
+    requires image { image.now ≡ file.now }
+    requires read { IsRead file.now Wide }
+    requires programs { AreRead (debug_line file.now) programs.now.items }
+    ensures parts { IfOk result (λ units. (reach : Reach) → IsImageInOrder file.entry.now reach → ArePartsInOrder file.entry.now programs.now.items units) }
+    ensures refused { IfErr result (NamesLaterFault file.entry.now) }
+{
+    let info = debug_section(file, image, b".debug_info".as_slice());
+    let abbrev = debug_section(file, image, b".debug_abbrev".as_slice());
+    let units = match read_units(alloc, info.bytes, abbrev.bytes, info.origin, abbrev.origin) {
+        Ok(units) => units,
+        Err(refusal) => return Err(refusal),
+    };
+    match check_links(&units, programs, info.bytes, abbrev.bytes, info.origin) {
+        Ok(()) => Ok(units),
+        Err(fault) => Err(Refusal::Refused(fault)),
+    }
+}
+
+// Where units begin.
+fn unit_starts(alloc: Global, units: &[Unit<'_>]) -> Result<Vec<u64>, NoMemory>
+    ensures { IfOk result (λ starts. starts.items ≡ starts_of units.now) }
+{
+    let starts = units.iter().map(|unit| unit.head().at).collect(alloc)?;
+    Ok(starts)
+}
+
+// The sets of address ranges of a file. `programs` are its line number programs, and `units` its units.
+fn read_sets<'a>(
+    alloc: Global,
+    file: &'a [u8],
+    image: &Image<'a>,
+    programs: &Vec<Head>,
+    units: &Units<'a>,
+) -> Result<Vec<ArangeSet>, Refusal>
+    requires image { image.now ≡ file.now }
+    requires read { IsRead file.now Wide }
+    requires parts { (reach : Reach) × IsImageInOrder file.now reach × ArePartsInOrder file.now programs.now.items units.now }
+    ensures sets { IfOk result (λ sets. SetsTile (debug_aranges file.now) (starts_of units.now.units.items) sets.items) }
+    ensures refused { IfErr result (NamesLaterFault file.now) }
+{
+    let Ok(starts) = unit_starts(alloc, &units.units) else {
+        return Err(Refusal::NoMemory);
+    };
+    let aranges = debug_section(file, image, b".debug_aranges".as_slice());
+    read_aranges(alloc, aranges.bytes, &starts, aranges.origin)
+}
+
+/// A valid file with what is read of it: its image, the headers of its line number programs, its units with the abbreviation
+/// tables that they name, and its sets of address ranges. It borrows the bytes of the file.
+#[derive(Drop)]
+pub struct World<'a> {
+    image: Image<'a>,
+    programs: Vec<Head>,
+    units: Units<'a>,
+    sets: Vec<ArangeSet>,
+}
+
+impl<'a> Model for World<'a> {
+    ghost use Rattle.value_links.specs.World.{World, IsWorldOf};
+    ghost use Rattle.dw_base.specs.declared.fault.Reach.{Reach};
+
+    ghost Value = { World };
+
+    ghost view = { λ w. record { image = w.image; programs = w.programs.items; units = w.units.units.items; tables = w.units.tables.items; table_of = w.units.table_of.items; sets = w.sets.items } };
+
+    ghost invariant = { λ w. (reach : Reach) × IsWorldOf w.image reach (record { image = w.image; programs = w.programs.items; units = w.units.units.items; tables = w.units.tables.items; table_of = w.units.table_of.items; sets = w.sets.items }) };
+}
+
+impl<'a> World<'a> {
+    /// Reads a file, which is held to the limits of `reach`.
+    ///
+    /// A refusal names a fault of the first pass that has one, and never comes where the file is valid. `NoMemory` may come
+    /// wherever memory is wanting.
+    pub fn read(alloc: Global, file: &'a [u8], reach: Reach) -> Result<World<'a>, Refusal>
+        ensures world { IfOk result (λ world. IsWorldOf file.entry.now reach world) }
+        ensures refused { IfErr result (λ refusal. NamesFault file.entry.now reach refusal) }
+    {
+        let image = match read_image(alloc, file, reach) {
+            Ok(image) => image,
+            Err(refusal) => return Err(refusal),
+        };
+        let programs = match read_programs(alloc, file, &image) {
+            Ok(programs) => programs,
+            Err(refusal) => return Err(refusal),
+        };
+        let units = match read_linked(alloc, file, &image, &programs) {
+            Ok(units) => units,
+            Err(refusal) => return Err(refusal),
+        };
+        let sets = match read_sets(alloc, file, &image, &programs, &units) {
+            Ok(sets) => sets,
+            Err(refusal) => return Err(refusal),
+        };
+        Ok(World {
+            image,
+            programs,
+            units,
+            sets,
+        })
+    }
+
+    /// The image of the file.
+    pub fn image(&self) -> &Image<'a>
+        ensures { result.now ≡ self.now.image }
+    {
+        &self.image
+    }
+
+    /// The headers of the line number programs of .debug_line, in their order.
+    pub fn programs(&self) -> &Vec<Head>
+        ensures { result.now.items ≡ self.now.programs }
+    {
+        &self.programs
+    }
+
+    /// The units of .debug_info, in their order.
+    pub fn units(&self) -> &Vec<Unit<'a>>
+        ensures { result.now.items ≡ self.now.units }
+    {
+        &self.units.units
+    }
+
+    /// The abbreviation tables that units name, each once, by rising place.
+    pub fn tables(&self) -> &Vec<NamedTable>
+        ensures { result.now.items ≡ self.now.tables }
+    {
+        &self.units.tables
+    }
+
+    /// For each unit the number of its table in `tables`.
+    pub fn table_numbers(&self) -> &Vec<u32>
+        ensures { result.now.items ≡ self.now.table_of }
+    {
+        &self.units.table_of
+    }
+
+    /// The abbreviation table of the unit with a number, counted from 0.
+    pub fn table(&self, unit: u32) -> &Table
+        requires { unit < length self.now.units }
+        ensures { result.now ≡ (table_at self.now.tables (slice_index self.now.table_of unit)).table }
+    {
+        &self.units.tables[self.units.table_of[unit as usize] as usize].table
+    }
+
+    /// The sets of address ranges of .debug_aranges, in their order.
+    pub fn aranges(&self) -> &Vec<ArangeSet>
+        ensures { result.now.items ≡ self.now.sets }
+    {
+        &self.sets
+    }
+
+    /// What a value refers to that stands in the unit with this number, counted from 0, as the value of an attribute of this
+    /// name (DWARF 5 sections 7.5.4 and 7.5.5), or None exactly where it names nothing that it may name. It takes no memory.
+    pub fn resolve(&self, unit: u32, name: u64, value: &Value) -> Option<Link>
+        requires { unit < length self.now.units }
+        ensures { (file : List ℕ) (r : Reading) (id : ℕ) → Holds file self.now r → MatchOption result ((v : Resolved) → Resolves r unit id name (meant_in (unit_at r unit).forest.section value.now) v → ⊥) (λ link. Resolves r unit id name (meant_in (unit_at r unit).forest.section value.now) (resolved_by (meant_in (unit_at r unit).forest.section value.now) link)) }
+    {
+        resolve(&self.units, &self.programs, unit, name, value)
+    }
+}
