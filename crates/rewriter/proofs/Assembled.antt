@@ -1,0 +1,190 @@
+-- A file with new debug sections.
+use Rattle.std.proofs.Common.{◌≡◌, ◌≢◌, ◌≤◌, ◌<◌, ◌+◌, ◌-◌, ◌*◌, ◌^◌, ℕ, List, [], ◌∷◌, length, Bool, true, false, sym, ◌∙◌, ap, refl, subst, arith}
+use Rattle.std.specs.Prelude.{◌==◌, ◌||◌, ◌&&◌, not, if◌then◌else◌, IfOk, bytes_eq}
+use Rattle.std.specs.declared.result.Result.{Result}
+use Rattle.std.specs.declared.result.Result.TheVariants.{Ok, Err}
+use Rattle.std.specs.List.{All}
+use Rattle.std.proofs.lemmas.Bool.{true≢false, eq-eqb}
+use Rattle.std.proofs.lemmas.List.Elements.{All-cons, All-nil}
+use Rattle.std.proofs.lemmas.Slice.Eq.{bytes_eq-Decides}
+use Rattle.dw_base.specs.declared.fault.Reach.TheVariants.{Narrow, Wide}
+use Rattle.elf_sections.specs.Elf.{section_count, names_index, offset_of, size_of, fixed_end_of, is_movable, body_of}
+use Rattle.elf_sections.specs.Names.{name_of, is_written}
+use Rattle.elf_sections.specs.Sections.{IsFirstNamed}
+use Rattle.elf_sections.specs.Faults.{IsRead}
+use Rattle.elf_place.specs.declared.bodies.NewBody.{NewBody}
+use Rattle.elf_place.specs.Bodies.{has_new_body, body_after, IsReplaceable, KeepsNames, AreApart, AreSmall, bytes_of}
+use Rattle.elf_place.specs.Layout.{IsLaidOut, Stand}
+use Rattle.elf_place.specs.Same.{SameImage}
+use Rattle.elf_place.proofs.BodyLaws.{body_after-kept}
+use Rattle.value_links.specs.Sections.{info_name, abbrev_name, line_name, aranges_name, rnglists_name, loclists_name}
+use Rattle.value_links.specs.Laws.{HasNoLists, IsImageInOrder}
+use Rattle.rewriter.specs.declared.sections.NewSections.{NewSections}
+use Rattle.rewriter.specs.Bodies.{NewBytes, IsBodyWith, AddsBody, AreBodiesWith, new_bytes}
+use Rattle.rewriter.specs.Sections.{AreFor, HasSections, body_in}
+use Rattle.rewriter.proofs.NewBodies.{added, all_bodies, spared, bodies_apart, bytes_in, bodies_few, HaveOwnNames, written_bodies, body_written}
+
+-- NAMES
+
+-- what holds of the bytes of each of the four sections holds of all
+each_section : (P : NewBytes → Type 0) (new : NewSections) → P (record { name = info_name; bytes = new.info.items }) → P (record { name = abbrev_name; bytes = new.abbrevs.items }) → P (record { name = line_name; bytes = new.lines.items }) → P (record { name = aranges_name; bytes = new.aranges.items }) → All P (new_bytes new)
+each_section P new info abbrevs lines aranges =
+    let last : NewBytes = record { name = aranges_name; bytes = new.aranges.items } in
+    let third : NewBytes = record { name = line_name; bytes = new.lines.items } in
+    let second : NewBytes = record { name = abbrev_name; bytes = new.abbrevs.items } in
+    let first : NewBytes = record { name = info_name; bytes = new.info.items } in
+    All-cons P first (second ∷ third ∷ last ∷ []) info (All-cons P second (third ∷ last ∷ []) abbrevs (All-cons P third (last ∷ []) lines (All-cons P last [] aranges (All-nil P))))
+
+-- two names that differ in a byte
+differ : (one other : List ℕ) → bytes_eq one other ≡ false → one ≢ other
+differ one other apart same = true≢false (sym ((bytes_eq-Decides one other).1 same) ∙ apart)
+
+own_names : (new : NewSections) → HaveOwnNames (new_bytes new)
+own_names new =
+    let last : NewBytes = record { name = aranges_name; bytes = new.aranges.items } in
+    let third : NewBytes = record { name = line_name; bytes = new.lines.items } in
+    let second : NewBytes = record { name = abbrev_name; bytes = new.abbrevs.items } in (
+      All-cons (λ (n : NewBytes). info_name ≢ n.name) second (third ∷ last ∷ []) (differ info_name abbrev_name refl) (All-cons (λ (n : NewBytes). info_name ≢ n.name) third (last ∷ []) (differ info_name line_name refl) (All-cons (λ (n : NewBytes). info_name ≢ n.name) last [] (differ info_name aranges_name refl) (All-nil (λ (n : NewBytes). info_name ≢ n.name)))),
+      (
+        All-cons (λ (n : NewBytes). abbrev_name ≢ n.name) third (last ∷ []) (differ abbrev_name line_name refl) (All-cons (λ (n : NewBytes). abbrev_name ≢ n.name) last [] (differ abbrev_name aranges_name refl) (All-nil (λ (n : NewBytes). abbrev_name ≢ n.name))),
+        (
+          All-cons (λ (n : NewBytes). line_name ≢ n.name) last [] (differ line_name aranges_name refl) (All-nil (λ (n : NewBytes). line_name ≢ n.name)),
+          (All-nil (λ (n : NewBytes). aranges_name ≢ n.name), tt),
+        ),
+      ),
+    )
+
+-- a name that isn't written anew is none of those that are
+unwritten : (name wanted : List ℕ) → is_written wanted ≡ true → is_written name ≡ false → name ≢ wanted
+unwritten name wanted anew kept same = true≢false (sym anew ∙ sym (ap is_written same) ∙ kept)
+
+unlisted : (new : NewSections) (name : List ℕ) → is_written name ≡ false → All (λ (n : NewBytes). name ≢ n.name) (new_bytes new)
+unlisted new name kept =
+    each_section (λ (n : NewBytes). name ≢ n.name) new (unwritten name info_name refl kept) (unwritten name abbrev_name refl kept) (unwritten name line_name refl kept) (unwritten name aranges_name refl kept)
+
+-- the four bodies, one after the other
+pub four_added : (file : List ℕ) (new : NewSections) (first second third fourth : List ℕ) (none one two three four : List NewBody) → first ≡ info_name → second ≡ abbrev_name → third ≡ line_name → fourth ≡ aranges_name → none ≡ [] → AddsBody file (record { name = first; bytes = new.info.items }) none one → AddsBody file (record { name = second; bytes = new.abbrevs.items }) one two → AddsBody file (record { name = third; bytes = new.lines.items }) two three → AddsBody file (record { name = fourth; bytes = new.aranges.items }) three four → AreBodiesWith file (new_bytes new) four
+four_added file new first second third fourth none one two three four e f g h empty info abbrevs lines aranges =
+    let a : NewBytes = record { name = info_name; bytes = new.info.items } in
+    let b : NewBytes = record { name = abbrev_name; bytes = new.abbrevs.items } in
+    let c : NewBytes = record { name = line_name; bytes = new.lines.items } in
+    let d : NewBytes = record { name = aranges_name; bytes = new.aranges.items } in
+    let with_info = added file [] a none one empty (subst (λ (z : List ℕ). AddsBody file (record { name = z; bytes = new.info.items }) none one) e info) in
+    let with_abbrevs = added file (a ∷ []) b one two with_info (subst (λ (z : List ℕ). AddsBody file (record { name = z; bytes = new.abbrevs.items }) one two) f abbrevs) in
+    let with_lines = added file (a ∷ b ∷ []) c two three with_abbrevs (subst (λ (z : List ℕ). AddsBody file (record { name = z; bytes = new.lines.items }) two three) g lines) in
+    added file (a ∷ b ∷ c ∷ []) d three four with_lines (subst (λ (z : List ℕ). AddsBody file (record { name = z; bytes = new.aranges.items }) three four) h aranges)
+
+-- WHERE THE SECTIONS STAND
+
+written_moves : (written moves last : Bool) → (written && (not moves || last)) ≡ false → written ≡ true → moves ≡ true
+written_moves true true last f e = refl
+written_moves true false last f e = absurd (true≢false f)
+written_moves false moves last f e = absurd (true≢false (sym e))
+
+names_stay : (written moves last : Bool) → last ≡ true → (written && (not moves || last)) ≡ false → written ≡ false
+names_stay false moves last e f = refl
+names_stay true true true e f = absurd (true≢false f)
+names_stay true false last e f = absurd (true≢false f)
+names_stay true true false e f = absurd (true≢false (sym e))
+
+-- sections that stand with some bytes stand with the same ones
+stand_as : (new : List ℕ) (f g : ℕ → List ℕ) → ((i : ℕ) → body_of new i ≡ f i → f i ≡ g i) → (order : List ℕ) (start end : ℕ) → Stand new f order start end → Stand new g order start end
+stand_as new f g same [] start end h = h
+stand_as new f g same (i ∷ order) start end (p, rest) =
+    let e = same i p.body in
+    (record { place = p.place; gap = p.gap; size = p.size ∙ ap length e; body = p.body ∙ e }, stand_as new f g same order (offset_of new i + size_of new i) end rest)
+
+-- THE BODIES
+
+module _ (file : List ℕ) (new : NewSections) (bodies : List NewBody) (made : AreBodiesWith file (new_bytes new) bodies) where
+  kept : (i : ℕ) → is_written (name_of file i) ≡ false → has_new_body bodies i ≡ false
+  kept i own = spared file (new_bytes new) bodies i made (unlisted new (name_of file i) own)
+
+  pub apart : AreApart bodies
+  apart = bodies_apart file (new_bytes new) bodies made (own_names new)
+
+  module _ (order : IsImageInOrder file Narrow) where
+    replaceable : (name : List ℕ) → is_written name ≡ true → (i : ℕ) → IsFirstNamed file name i → IsReplaceable file i
+    replaceable name anew i first = record {
+      inside = first.inside;
+      moves = written_moves (is_written (name_of file i)) (is_movable file i) (i == names_index file) (order.image.sound.sections i first.inside).placed (ap is_written first.named ∙ anew);
+    }
+
+    pub movable : All (λ (body : NewBody). IsReplaceable file body.section) bodies
+    movable =
+        all_bodies (λ (body : NewBody). IsReplaceable file body.section) file (new_bytes new) bodies made (each_section (λ (n : NewBytes). (body : NewBody) → IsBodyWith file n body → IsReplaceable file body.section) new (λ body is. replaceable info_name refl body.section is.first) (λ body is. replaceable abbrev_name refl body.section is.first) (λ body is. replaceable line_name refl body.section is.first) (λ body is. replaceable aranges_name refl body.section is.first))
+
+    pub names : KeepsNames file bodies
+    names some =
+        let i = names_index file in
+        kept i (names_stay (is_written (name_of file i)) (is_movable file i) (i == i) (eq-eqb i i refl) (order.image.sound.sections i (order.image.whole.section_table.names some)).placed)
+
+  module _ (fits : AreFor file new) where
+    total : bytes_of bodies ≤ 4 * 2 ^ 32
+    total =
+        let few : bytes_of bodies ≤ bytes_in (new_bytes new) = bodies_few file (new_bytes new) bodies made in
+        let whole : bytes_in (new_bytes new) ≡ 0 + length new.info.items + length new.abbrevs.items + length new.lines.items + length new.aranges.items = refl in
+        omega (arith, fits.info_fits, fits.abbrevs_fit, fits.lines_fit, fits.aranges_fit)
+
+    pub few : bytes_of bodies < 2 ^ 35
+    few = omega (arith, total)
+
+    short : (n : NewBytes) → length n.bytes < 2 ^ 32 - 1 → (body : NewBody) → IsBodyWith file n body → length body.bytes.items < 2 ^ 32
+    short n low body is = let size : length body.bytes.items ≡ length n.bytes = ap length is.holds in omega arith
+
+    pub small : AreSmall bodies
+    small = record {
+      each = all_bodies (λ (body : NewBody). length body.bytes.items < 2 ^ 32) file (new_bytes new) bodies made (each_section (λ (n : NewBytes). (body : NewBody) → IsBodyWith file n body → length body.bytes.items < 2 ^ 32) new (short (record { name = info_name; bytes = new.info.items }) fits.info_fits) (short (record { name = abbrev_name; bytes = new.abbrevs.items }) fits.abbrevs_fit) (short (record { name = line_name; bytes = new.lines.items }) fits.lines_fit) (short (record { name = aranges_name; bytes = new.aranges.items }) fits.aranges_fit));
+      all = omega (arith, total);
+    }
+
+  module _ (written : List ℕ) where
+    body_is : (anew : Bool) (i : ℕ) → is_written (name_of file i) ≡ anew → body_of written i ≡ body_after file bodies i → body_after file bodies i ≡ (if anew then body_of written i else body_of file i)
+    body_is true i e h = sym h
+    body_is false i e h = body_after-kept file bodies i (kept i e)
+
+    laid_out : IsLaidOut file (body_after file bodies) written → IsLaidOut file (body_in file written) written
+    laid_out l = record {
+      loaded = l.loaded;
+      headers = l.headers;
+      order = l.order;
+      moving = l.moving;
+      end = l.end;
+      sections = stand_as written (body_after file bodies) (body_in file written) (λ i h. body_is (is_written (name_of file i)) i refl h) l.order (fixed_end_of file) l.end l.sections;
+      table = l.table;
+      gap = l.gap;
+      whole = l.whole;
+    }
+
+    module _ (same : SameImage (has_new_body bodies) file written) where
+      pub still_no_lists : HasNoLists file → HasNoLists written
+      still_no_lists none = λ i lt is.
+          let count : section_count written ≡ section_count file = same.headers.count in
+          let name : name_of written i ≡ name_of file i = same.names i (omega arith) in
+          none i (omega arith) (ap (λ z. bytes_eq z rnglists_name || bytes_eq z loclists_name) (sym name) ∙ is)
+
+      pub has_sections : AreFor file new → IsRead written Wide → HasNoLists file → All (λ (body : NewBody). body_of written body.section ≡ body.bytes.items) bodies → (section_count file ≡ 0 → written ≡ file) → (section_count file ≢ 0 → IsLaidOut file (body_after file bodies) written) → HasSections file new written
+      has_sections lacks read lists holds bare placed =
+          let found = written_bodies file written (new_bytes new) bodies made holds in
+          let d : NewBytes = record { name = []; bytes = [] } in
+          record {
+            info = body_written file written same.headers.count same.names info_name new.info.items lacks.info (found 0 d (omega arith));
+            abbrevs = body_written file written same.headers.count same.names abbrev_name new.abbrevs.items lacks.abbrevs (found 1 d (omega arith));
+            lines = body_written file written same.headers.count same.names line_name new.lines.items lacks.lines (found 2 d (omega arith));
+            aranges = body_written file written same.headers.count same.names aranges_name new.aranges.items lacks.aranges (found 3 d (omega arith));
+            image = record {
+              loaded = same.loaded;
+              headers = same.headers;
+              names = same.names;
+              bodies = λ i lt own. same.bodies i lt (kept i own);
+            };
+            order = record { image = read; names = still_no_lists lists };
+            placed = record { bare = bare; laid_out = λ some. laid_out (placed some) };
+          }
+
+-- so where the bodies are placed, the file has the new sections
+pub assembled : {T E : Type 0} (file : List ℕ) (new : NewSections) (bodies : List NewBody) (items : T → List ℕ) (result : Result T E) → AreBodiesWith file (new_bytes new) bodies → IsImageInOrder file Narrow → AreFor file new → IfOk result (λ out. section_count file ≢ 0 → IsLaidOut file (body_after file bodies) (items out)) → IfOk result (λ out. section_count file ≡ 0 → items out ≡ file) → IfOk result (λ out. KeepsNames file bodies → SameImage (has_new_body bodies) file (items out)) → IfOk result (λ out. All (λ (body : NewBody). body_of (items out) body.section ≡ body.bytes.items) bodies) → IfOk result (λ out. IsRead file Narrow → KeepsNames file bodies → AreSmall bodies → IsRead (items out) Wide) → IfOk result (λ out. HasSections file new (items out))
+assembled file new bodies items (Ok out) made order fits placed bare same holds read =
+    let stay : KeepsNames file bodies = names file new bodies made order in
+    has_sections file new bodies made (items out) (same stay) fits (read order.image stay (small file new bodies made fits)) order.names holds bare placed
+assembled file new bodies items (Err e) made order fits placed bare same holds read = tt

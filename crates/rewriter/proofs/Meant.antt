@@ -1,0 +1,214 @@
+-- Each value of a unit of a valid file means something, and a type unit has its type.
+use Rattle.std.proofs.Common.{◌≡◌, ◌≤◌, ◌<◌, ◌+◌, ◌-◌, ℕ, zero, suc, List, [], ◌∷◌, length, get_or, take, drop, ◌∙◌, sym, ap, refl, subst, arith}
+use Rattle.std.specs.Prelude.{slice_index_or, Option, Some, None}
+use Rattle.std.specs.List.{All, AllZip}
+use Rattle.std.proofs.lemmas.List.{length-map, length-drop, length-take-le, get_or-take, get_or-drop}
+use Rattle.std.proofs.lemmas.List.Elements.{All-get_or}
+use Rattle.std.proofs.Math.ListN.{get_or-map}
+use Rattle.dw_base.specs.declared.fault.Reach.{Reach}
+use Rattle.form_codec.specs.declared.value.Value.{Value}
+use Rattle.form_codec.specs.Forms.{Meaning}
+use Rattle.form_codec.specs.Values.{meant_in}
+use Rattle.abbrev_tables.specs.declared.decl.Spec.{Spec}
+use Rattle.abbrev_tables.specs.Tables.{Declared}
+use Rattle.abbrev_tables.specs.Listings.{Listing, decl_at, spec_at}
+use Rattle.entry_arena.specs.declared.entry.Entry.{Entry}
+use Rattle.entry_arena.specs.Arena.{entry_at, value_at, IsEntryAt}
+use Rattle.entry_arena.specs.Forests.{Described, attributes_of, described_by}
+use Rattle.entry_arena.specs.Trees.{declared_at, listed_to}
+use Rattle.entry_arena.proofs.TreeLaws.{trees_are_walks}
+use Rattle.entry_read.specs.Heads.{type_unit}
+use Rattle.entry_read.specs.Units.{HeadAndForest, entries_at, IsTable}
+use Rattle.entry_read.specs.Places.{HaveOwners}
+use Rattle.entry_read.proofs.Declarations.{columns_inside, count_same, declared_is}
+use Rattle.entry_read.proofs.OwnerLaws.{values_belong}
+use Rattle.value_links.specs.Sections.{debug_info, debug_abbrev}
+use Rattle.value_links.specs.Reading.{UnitRead, Reading, no_unit, declarations, unit_at, IsUnitRead}
+use Rattle.value_links.specs.Resolved.{Resolved, Resolves}
+use Rattle.value_links.specs.Debug.{EntryMeaning, UnitMeaning, described, MeansAttribute, MeansEntry, MeansType, MeansUnit}
+use Rattle.value_links.specs.World.{World, head_and_forest, IsWorldOf}
+use Rattle.value_links.specs.declared.units.NamedTable.{NamedTable}
+use Rattle.rewriter.specs.Placed.{unit_in}
+use Rattle.rewriter.specs.Held.{MeansSomething, table_for, HaveAllValues, UnitMeans, HasType}
+use Rattle.rewriter.proofs.Standing.{filled, held_unit, held_count}
+
+-- AN ENTRY'S ATTRIBUTES
+
+all_zip_at : {A B : Type 0} (R : A → B → Type 0) (xs : List A) (ys : List B) (i : ℕ) (d : A) → AllZip R xs ys → i < length xs → (y : B) × R (get_or xs i d) y
+all_zip_at R [] ys i d all inside = absurd (let b : i < 0 = inside in omega arith)
+all_zip_at R (x ∷ xs) [] i d all inside = absurd all
+all_zip_at R (x ∷ xs) (y ∷ ys) zero d all inside = (y, all.0)
+all_zip_at R (x ∷ xs) (y ∷ ys) (suc i) d all inside = all_zip_at R xs ys i d all.1 (omega arith)
+
+attributes_count : (section : List ℕ) (cs : List Spec) (vs : List Value) → length vs ≡ length cs → length (attributes_of section cs vs) ≡ length cs
+attributes_count section [] vs same = refl
+attributes_count section (c ∷ cs) [] same = absurd (omega arith)
+attributes_count section (c ∷ cs) (v ∷ vs) same = let rest : length (attributes_of section cs vs) ≡ length cs = attributes_count section cs vs (omega arith) in omega arith
+
+attribute_at : (section : List ℕ) (cs : List Spec) (vs : List Value) (j : ℕ) (d : ℕ × Meaning) → length vs ≡ length cs → j < length cs → get_or (attributes_of section cs vs) j d ≡ ((spec_at cs j).name, meant_in section (value_at vs j))
+attribute_at section [] vs j d same inside = absurd (let b : j < 0 = inside in omega arith)
+attribute_at section (c ∷ cs) [] j d same inside = absurd (omega arith)
+attribute_at section (c ∷ cs) (v ∷ vs) zero d same inside = refl
+attribute_at section (c ∷ cs) (v ∷ vs) (suc j) d same inside = attribute_at section cs vs j d (omega arith) (omega arith)
+
+-- the unit with a number is read
+pub read_unit_at : (file : List ℕ) (r : Reading) (u : ℕ) → All (IsUnitRead (debug_info file) (debug_abbrev file)) r.units → u < length r.units → IsUnitRead (debug_info file) (debug_abbrev file) (unit_at r u)
+read_unit_at file r u all inside = All-get_or (IsUnitRead (debug_info file) (debug_abbrev file)) r.units u no_unit inside all
+
+module _ (info abbrevs : List ℕ) (unit : UnitRead) (is : IsUnitRead info abbrevs unit) where
+  pub owners : HaveOwners (declarations unit) unit.forest
+  owners = values_belong info unit.head (declarations unit) unit.forest is.section is.entries
+
+  pub all_values : HaveAllValues unit.forest
+  all_values =
+      let walk = (trees_are_walks info (declarations unit) (entries_at unit.head) (listed_to unit.forest is.entries.0)).0 is.entries.1.tree in
+      record {
+        some = filled unit.forest.entries walk.some;
+        first = owners.first;
+        adjacent = owners.adjacent;
+        last = owners.last;
+      }
+
+  table_is : IsTable unit.table
+  table_is = (abbrevs, unit.head.table, is.table)
+
+  module _ (id : ℕ) (inside : id < length unit.forest.entries) where
+    pub entry_declared : (entry_at unit.forest.entries id).decl < length unit.table.decls
+    entry_declared =
+        let size : length (declarations unit) ≡ length unit.table.decls = count_same unit.table in
+        let known : (entry_at unit.forest.entries id).decl < length (declarations unit) = owners.declared id inside in
+        omega arith
+
+    columns_are : (declared_at (declarations unit) (entry_at unit.forest.entries id).decl).columns ≡ take (decl_at unit.table.decls (entry_at unit.forest.entries id).decl).count (drop (decl_at unit.table.decls (entry_at unit.forest.entries id).decl).first unit.table.specs)
+    columns_are = ap (λ (d : Declared). d.columns) (declared_is unit.table (entry_at unit.forest.entries id).decl entry_declared)
+
+    columns_size : length (take (decl_at unit.table.decls (entry_at unit.forest.entries id).decl).count (drop (decl_at unit.table.decls (entry_at unit.forest.entries id).decl).first unit.table.specs)) ≡ (decl_at unit.table.decls (entry_at unit.forest.entries id).decl).count
+    columns_size =
+        let within : (decl_at unit.table.decls (entry_at unit.forest.entries id).decl).first + (decl_at unit.table.decls (entry_at unit.forest.entries id).decl).count ≤ length unit.table.specs = columns_inside unit.table (entry_at unit.forest.entries id).decl table_is entry_declared in
+        let rest : length (drop (decl_at unit.table.decls (entry_at unit.forest.entries id).decl).first unit.table.specs) ≡ length unit.table.specs - (decl_at unit.table.decls (entry_at unit.forest.entries id).decl).first = length-drop (decl_at unit.table.decls (entry_at unit.forest.entries id).decl).first unit.table.specs in
+        length-take-le (decl_at unit.table.decls (entry_at unit.forest.entries id).decl).count (drop (decl_at unit.table.decls (entry_at unit.forest.entries id).decl).first unit.table.specs) (omega arith)
+
+    counted : (entry_at unit.forest.entries id).count ≡ (decl_at unit.table.decls (entry_at unit.forest.entries id).decl).count
+    counted = owners.counted id inside ∙ ap length columns_are ∙ columns_size
+
+    pub columns_within : (decl_at unit.table.decls (entry_at unit.forest.entries id).decl).first + (entry_at unit.forest.entries id).count ≤ length unit.table.specs
+    columns_within =
+        let within : (decl_at unit.table.decls (entry_at unit.forest.entries id).decl).first + (decl_at unit.table.decls (entry_at unit.forest.entries id).decl).count ≤ length unit.table.specs = columns_inside unit.table (entry_at unit.forest.entries id).decl table_is entry_declared in
+        let same : (entry_at unit.forest.entries id).count ≡ (decl_at unit.table.decls (entry_at unit.forest.entries id).decl).count = counted in
+        omega arith
+
+    pub values_size : length (take (entry_at unit.forest.entries id).count (drop (entry_at unit.forest.entries id).first unit.forest.values)) ≡ (entry_at unit.forest.entries id).count
+    values_size =
+        let within : (entry_at unit.forest.entries id).first + (entry_at unit.forest.entries id).count ≤ length unit.forest.values = owners.inside id inside in
+        let rest : length (drop (entry_at unit.forest.entries id).first unit.forest.values) ≡ length unit.forest.values - (entry_at unit.forest.entries id).first = length-drop (entry_at unit.forest.entries id).first unit.forest.values in
+        length-take-le (entry_at unit.forest.entries id).count (drop (entry_at unit.forest.entries id).first unit.forest.values) (omega arith)
+
+    -- the column with a number, among those of the declaration and of the table
+    pub column_same : (j : ℕ) → j < (entry_at unit.forest.entries id).count → spec_at (declared_at (declarations unit) (entry_at unit.forest.entries id).decl).columns j ≡ spec_at unit.table.specs ((decl_at unit.table.decls (entry_at unit.forest.entries id).decl).first + j)
+    column_same j below =
+        let same : (entry_at unit.forest.entries id).count ≡ (decl_at unit.table.decls (entry_at unit.forest.entries id).decl).count = counted in
+        let within : j < (decl_at unit.table.decls (entry_at unit.forest.entries id).decl).count = omega arith in
+        ap (λ (cs : List Spec). spec_at cs j) columns_are
+        ∙ get_or-take (decl_at unit.table.decls (entry_at unit.forest.entries id).decl).count (drop (decl_at unit.table.decls (entry_at unit.forest.entries id).decl).first unit.table.specs) j _ within
+        ∙ get_or-drop (decl_at unit.table.decls (entry_at unit.forest.entries id).decl).first unit.table.specs j _
+
+    pub value_same : (j : ℕ) → j < (entry_at unit.forest.entries id).count → value_at (take (entry_at unit.forest.entries id).count (drop (entry_at unit.forest.entries id).first unit.forest.values)) j ≡ value_at unit.forest.values ((entry_at unit.forest.entries id).first + j)
+    value_same j below =
+        get_or-take (entry_at unit.forest.entries id).count (drop (entry_at unit.forest.entries id).first unit.forest.values) j _ below
+        ∙ get_or-drop (entry_at unit.forest.entries id).first unit.forest.values j _
+
+-- the attribute with a number means something
+attribute_means : (info abbrevs : List ℕ) (r : Reading) (u id j : ℕ) (unit : UnitMeaning) → IsUnitRead info abbrevs (unit_at r u) → MeansUnit r u unit → (inside : id < length (unit_at r u).forest.entries) → j < (entry_at (unit_at r u).forest.entries id).count → (v : Resolved) × Resolves r u id (spec_at (unit_at r u).table.specs ((decl_at (unit_at r u).table.decls (entry_at (unit_at r u).forest.entries id).decl).first + j)).name (meant_in (unit_at r u).forest.section (value_at (unit_at r u).forest.values ((entry_at (unit_at r u).forest.entries id).first + j))) v
+attribute_means info abbrevs r u id j unit is means inside below =
+    let f = (unit_at r u).forest in
+    let ds = declarations (unit_at r u) in
+    let e = entry_at (unit_at r u).forest.entries id in
+    let none : Entry = record { at = 0; len = 0; depth = 0; decl = 0; first = 0; count = 0 } in
+    let by : Entry → Described = described_by (unit_at r u).forest.section (declarations (unit_at r u)) (unit_at r u).forest.values in
+    let size : length (described (unit_at r u)) ≡ length (unit_at r u).forest.entries = length-map (unit_at r u).forest.entries by in
+    let count : length unit.forest ≡ length (described (unit_at r u)) = means.forest.count in
+    let no_meaning : EntryMeaning = slice_index_or unit.forest id (record { depth = 0; tag = 0; children = (by none).children; attributes = [] }) in
+    let entry : MeansEntry r u id (slice_index_or (described (unit_at r u)) id (by none)) (slice_index_or unit.forest id no_meaning) = means.forest.each id (by none) no_meaning (omega arith) in
+    let stands : slice_index_or (described (unit_at r u)) id (by none) ≡ by e = get_or-map by (unit_at r u).forest.entries id none in
+    let zip : AllZip (MeansAttribute r u id) (by e).attributes (slice_index_or unit.forest id no_meaning).attributes = subst (λ (d : Described). AllZip (MeansAttribute r u id) d.attributes (slice_index_or unit.forest id no_meaning).attributes) stands entry.attributes in
+    let columns = (declared_at (declarations (unit_at r u)) e.decl).columns in
+    let values = take e.count (drop e.first (unit_at r u).forest.values) in
+    let have : length (take e.count (drop e.first (unit_at r u).forest.values)) ≡ e.count = values_size info abbrevs (unit_at r u) is id inside in
+    let counted : e.count ≡ length (declared_at (declarations (unit_at r u)) e.decl).columns = (owners info abbrevs (unit_at r u) is).counted id inside in
+    let many : length (take e.count (drop e.first (unit_at r u).forest.values)) ≡ length (declared_at (declarations (unit_at r u)) e.decl).columns = have ∙ counted in
+    let long : length (attributes_of (unit_at r u).forest.section (declared_at (declarations (unit_at r u)) e.decl).columns (take e.count (drop e.first (unit_at r u).forest.values))) ≡ length (declared_at (declarations (unit_at r u)) e.decl).columns = attributes_count (unit_at r u).forest.section columns values many in
+    let d : ℕ × Meaning = (0, meant_in (unit_at r u).forest.section (value_at values j)) in
+    let at = all_zip_at (MeansAttribute r u id) (attributes_of (unit_at r u).forest.section columns values) (slice_index_or unit.forest id no_meaning).attributes j d zip (omega arith) in
+    let here : get_or (attributes_of (unit_at r u).forest.section columns values) j d ≡ ((spec_at columns j).name, meant_in (unit_at r u).forest.section (value_at values j)) = attribute_at (unit_at r u).forest.section columns values j d many (omega arith) in
+    let raw : Resolves r u id (spec_at columns j).name (meant_in (unit_at r u).forest.section (value_at values j)) at.0.1 = subst (λ (a : ℕ × Meaning). Resolves r u id a.0 a.1 at.0.1) here at.1.value in
+    let named : Resolves r u id (spec_at (unit_at r u).table.specs ((decl_at (unit_at r u).table.decls e.decl).first + j)).name (meant_in (unit_at r u).forest.section (value_at values j)) at.0.1 = subst (λ (c : Spec). Resolves r u id c.name (meant_in (unit_at r u).forest.section (value_at values j)) at.0.1) (column_same info abbrevs (unit_at r u) is id inside j below) raw in
+    (at.0.1, subst (λ (v : Value). Resolves r u id (spec_at (unit_at r u).table.specs ((decl_at (unit_at r u).table.decls e.decl).first + j)).name (meant_in (unit_at r u).forest.section v) at.0.1) (value_same info abbrevs (unit_at r u) is id inside j below) named)
+
+-- THE WORLD
+
+-- what is said of an entry, of a unit and a table that are given
+record EntryIn (world : World) (u id : ℕ) (h : HeadAndForest) (t : Listing) : Type 0 where
+  pub entry : id < length h.forest.entries
+  pub declared : (entry_at h.forest.entries id).decl < length t.decls
+  pub columns : (decl_at t.decls (entry_at h.forest.entries id).decl).first + (entry_at h.forest.entries id).count ≤ length t.specs
+  pub values : (entry_at h.forest.entries id).first + (entry_at h.forest.entries id).count ≤ length h.forest.values
+  pub means : (column : ℕ) → column < (entry_at h.forest.entries id).count → MeansSomething world u (spec_at t.specs ((decl_at t.decls (entry_at h.forest.entries id).decl).first + column)).name (value_at h.forest.values ((entry_at h.forest.entries id).first + column))
+
+module _ (world : World) (u : ℕ) (reach : Reach) (is : IsWorldOf world.image reach world) (known : u < length world.units) where
+  inside_read : u < length is.r.units
+  inside_read = let size : length world.units ≡ length is.r.units = held_count world.image world is.r is.holds in omega arith
+
+  unit_is : IsUnitRead (debug_info world.image) (debug_abbrev world.image) (unit_at is.r u)
+  unit_is = read_unit_at world.image is.r u is.read.parts.units.each inside_read
+
+  unit_held : unit_in world.units u ≡ head_and_forest (unit_at is.r u)
+  unit_held = held_unit world.image world is.r u is.holds
+
+  table_held : table_for world u ≡ (unit_at is.r u).table
+  table_held = ap (λ (t : NamedTable). t.table) (is.holds.tables.each u inside_read)
+
+  means_unit : MeansUnit is.r u (slice_index_or is.debug.units u (record { unit_type = 0; signature = 0; type_entry = None; forest = [] }))
+  means_unit =
+      let count : length is.debug.units ≡ length is.r.units = is.means.units.count in
+      let inside : u < length is.r.units = inside_read in
+      is.means.units.each u (record { unit_type = 0; signature = 0; type_entry = None; forest = [] }) (omega arith)
+
+  entry_read : (id : ℕ) → id < length (unit_at is.r u).forest.entries → EntryIn world u id (head_and_forest (unit_at is.r u)) (unit_at is.r u).table
+  entry_read id inside = record {
+    entry = inside;
+    declared = entry_declared (debug_info world.image) (debug_abbrev world.image) (unit_at is.r u) unit_is id inside;
+    columns = columns_within (debug_info world.image) (debug_abbrev world.image) (unit_at is.r u) unit_is id inside;
+    values = (owners (debug_info world.image) (debug_abbrev world.image) (unit_at is.r u) unit_is).inside id inside;
+    means = λ column below.
+        let m = attribute_means (debug_info world.image) (debug_abbrev world.image) is.r u id column (slice_index_or is.debug.units u (record { unit_type = 0; signature = 0; type_entry = None; forest = [] })) unit_is means_unit inside below in
+        record { file = world.image; r = is.r; holds = is.holds; id = id; resolved = m.0; resolves = m.1 };
+  }
+
+  pub unit_means : UnitMeans world u
+  unit_means = record {
+    known = known;
+    values = subst (λ (h : HeadAndForest). HaveAllValues h.forest) (sym unit_held) (all_values (debug_info world.image) (debug_abbrev world.image) (unit_at is.r u) unit_is);
+    entries = λ id inside.
+        let within : id < length (unit_at is.r u).forest.entries = subst (λ (h : HeadAndForest). id < length h.forest.entries) unit_held inside in
+        let e : EntryIn world u id (unit_in world.units u) (table_for world u) = subst (λ (h : HeadAndForest). EntryIn world u id h (table_for world u)) (sym unit_held) (subst (EntryIn world u id (head_and_forest (unit_at is.r u))) (sym table_held) (entry_read id within)) in
+        let size : length world.units ≡ length is.r.units = held_count world.image world is.r is.holds in
+        let count : length world.table_of ≡ length is.r.units = is.holds.tables.count in
+        let there : u < length is.r.units = inside_read in
+        record {
+          unit = known;
+          numbered = omega arith;
+          table = is.holds.tables.inside u there;
+          entry = inside;
+          declared = e.declared;
+          columns = e.columns;
+          values = e.values;
+          means = e.means;
+        };
+  }
+
+  type_there : (type : Option ℕ) → MeansType is.r u type → (unit_at is.r u).head.kind ≡ type_unit → (id : ℕ) × IsEntryAt (unit_at is.r u).forest id ((unit_at is.r u).head.at + (unit_at is.r u).head.type_at)
+  type_there (Some id) means kind = (id, means.1)
+  type_there None means kind = absurd (means kind)
+
+  pub has_type : HasType (unit_in world.units u)
+  has_type = subst HasType (sym unit_held) (λ kind. let t = type_there (slice_index_or is.debug.units u (record { unit_type = 0; signature = 0; type_entry = None; forest = [] })).type_entry means_unit.type_entry kind in (t.0, t.1.0, t.1.1))

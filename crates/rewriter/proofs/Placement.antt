@@ -1,0 +1,62 @@
+-- Units that stand one after the other.
+use Rattle.std.proofs.Common.{◌≡◌, ◌<◌, ◌+◌, ℕ, List, [], ◌∷◌, ◌++◌, length, get_or, ◌∙◌, sym, ap, refl, subst, arith, inl, inr}
+use Rattle.std.specs.Prelude.{map}
+use Rattle.std.proofs.lemmas.Bool.{cases_lt}
+use Rattle.std.proofs.lemmas.List.{length-append, length-map, map-append}
+use Rattle.std.proofs.Math.ListN.{get_or-append}
+use Rattle.std.proofs.Math.Seq.{get_or-append_seam}
+use Rattle.entry_read.specs.Heads.{least_reserved}
+use Rattle.unit_write.specs.declared.places.Places.{Places}
+use Rattle.value_links.specs.World.{World}
+use Rattle.rewriter.specs.declared.tables.NewTable.{NewTable}
+use Rattle.rewriter.specs.Placed.{PlacesAnew, places_anew, places_at, IsPlacedBy, PlacesFollow}
+use Rattle.rewriter.specs.Held.{IsPlacedFrom}
+
+-- so many units stand from 0 up to a place
+pub record ArePlacedUpTo (world : World) (tables : List NewTable) (places : List Places) (number end : ℕ) : Type 0 where
+  pub count : length places ≡ number
+  pub follow : PlacesFollow places 0 end
+  pub small : end < least_reserved
+  pub each : (u : ℕ) → u < number → IsPlacedBy world tables u (places_at places u)
+
+pub follow_more : (places : List Places) (at end : ℕ) (next : Places) → PlacesFollow places at end → next.start ≡ end → PlacesFollow (places ++ next ∷ []) at next.end
+follow_more [] at end next same begins = (begins ∙ sym same, refl)
+follow_more (unit ∷ units) at end next (first, rest) begins = (first, follow_more units unit.end end next rest begins)
+
+none : PlacesAnew
+none = record { start = 0; entries = []; ends = []; end = 0 }
+
+module _ (places : List Places) (next : Places) where
+  size : length (map places_anew places) ≡ length places
+  size = length-map places places_anew
+
+  front : (u : ℕ) → u < length places → places_at (places ++ next ∷ []) u ≡ places_at places u
+  front u inside =
+      ap (λ (z : List PlacesAnew). get_or z u (record { start = 0; entries = []; ends = []; end = 0 })) (map-append places_anew places (next ∷ []))
+      ∙ get_or-append (map places_anew places) (places_anew next ∷ []) (record { start = 0; entries = []; ends = []; end = 0 }) u (let same : length (map places_anew places) ≡ length places = size in omega arith)
+
+  last : places_at (places ++ next ∷ []) (length places) ≡ places_anew next
+  last =
+      ap (λ (z : List PlacesAnew). get_or z (length places) (record { start = 0; entries = []; ends = []; end = 0 })) (map-append places_anew places (next ∷ []))
+      ∙ subst (λ (z : ℕ). get_or (map places_anew places ++ places_anew next ∷ []) z (record { start = 0; entries = []; ends = []; end = 0 }) ≡ places_anew next) size (get_or-append_seam (map places_anew places) (places_anew next) [] (record { start = 0; entries = []; ends = []; end = 0 }))
+
+-- none stands yet
+pub placed_none : (world : World) (tables : List NewTable) → ArePlacedUpTo world tables [] 0 0
+placed_none world tables = record { count = refl; follow = refl; small = omega arith; each = λ u below. absurd (let no : u < 0 = below in omega arith) }
+
+-- one more
+pub placed_more : (world : World) (tables : List NewTable) (places : List Places) (number end : ℕ) (next : Places) → ArePlacedUpTo world tables places number end → IsPlacedFrom world tables number end next → ArePlacedUpTo world tables (places ++ next ∷ []) (number + 1) next.end
+placed_more world tables places number end next up is = record {
+  count = let longer : length (places ++ next ∷ []) ≡ length places + 1 = length-append places (next ∷ []) in let c : length places ≡ number = up.count in omega arith;
+  follow = follow_more places 0 end next up.follow is.begins;
+  small = is.fits;
+  each = λ u below.
+      let c : length places ≡ number = up.count in
+      elim (cases_lt u number) [
+        | inl early ↦ subst (IsPlacedBy world tables u) (sym (front places next u (omega arith))) (up.each u early)
+        | inr late ↦
+            let here : number ≡ u = omega arith in
+            let there : length places ≡ u = omega arith in
+            subst (IsPlacedBy world tables u) (sym (subst (λ (z : ℕ). places_at (places ++ next ∷ []) z ≡ places_anew next) there (last places next))) (subst (λ (z : ℕ). IsPlacedBy world tables z (places_anew next)) here is.placed)
+      ];
+}

@@ -1,0 +1,359 @@
+-- What is read of the new sections of a file.
+use Rattle.std.proofs.Common.{◌≡◌, ◌≤◌, ◌<◌, ◌+◌, ◌-◌, ◌^◌, ◌∙◌, ℕ, zero, suc, List, [], ◌∷◌, length, map, get_or, take, drop, sym, ap, refl, subst, arith, inl, inr}
+use Rattle.std.specs.Prelude.{slice_index, slice_range, Option, Some, None}
+use Rattle.std.specs.List.{All}
+use Rattle.std.proofs.lemmas.Bool.{cases_lt}
+use Rattle.std.proofs.lemmas.List.{get_or-map, length-map}
+use Rattle.std.proofs.lemmas.List.Elements.{All-nil, All-cons, All-head, All-tail, All-map, All-get_or, All-from_get_or}
+use Rattle.std.proofs.lemmas.Grind.{same_number_lists}
+use Rattle.dw_base.specs.declared.fault.Kind.TheVariants.{Limit as TooMuch}
+use Rattle.dw_base.specs.declared.fault.Reach.TheVariants.{Narrow}
+use Rattle.elf_sections.specs.Elf.{body_span}
+use Rattle.elf_sections.specs.Sections.{HasNone}
+use Rattle.line_machine.specs.declared.head.Head.{Head}
+use Rattle.line_write.specs.Meaning.{ProgramMeaning, HaveMeanings}
+use Rattle.line_write.specs.Programs.{Follow as ProgramsFollow, Tile as ProgramsTile}
+use Rattle.line_write.specs.Readings.{AreRead, StandAnew}
+use Rattle.line_write.proofs.ReadBack.{bounds}
+use Rattle.companions.specs.declared.set.ArangeSet.{ArangeSet}
+use Rattle.companions.specs.Aranges.{IsOutside, SetsTile, SetsFollow, HaveUnits}
+use Rattle.abbrev_tables.specs.ListingLaws.{DeclarationsStand}
+use Rattle.entry_arena.specs.Walks.{Item}
+use Rattle.entry_arena.specs.Walks.Item.{AnEntry, AnEnd}
+use Rattle.entry_read.specs.declared.head.UnitHead.{UnitHead}
+use Rattle.entry_read.specs.Heads.{Tile as UnitsTile}
+use Rattle.entry_read.specs.Units.{HeadAndForest}
+use Rattle.unit_write.specs.declared.places.Places.{Places}
+use Rattle.unit_write.specs.Placing.{ArePlaced}
+use Rattle.unit_write.specs.Sizes.{NumbersHaveSizes, ShortestHaveSizes}
+use Rattle.value_links.specs.Sections.{body_named, body_or_none, section_named, debug_info, debug_abbrev, debug_line, debug_aranges, info_name, abbrev_name, line_name, aranges_name}
+use Rattle.value_links.specs.Reading.{ProgramRead, UnitRead, Reading, no_program, no_unit, line_heads, unit_heads, unit_starts, program_at, IsReading}
+use Rattle.value_links.specs.Faults.{IsValid}
+use Rattle.value_links.specs.Faults.Pass.{OfFile}
+use Rattle.value_links.specs.World.{World, head_and_forest, Holds, IsWorldOf}
+use Rattle.value_links.proofs.SectionLaws.{sections_are_found}
+use Rattle.rewriter.specs.declared.tables.NewTable.{NewTable}
+use Rattle.rewriter.specs.declared.sections.NewSections.{NewSections}
+use Rattle.rewriter.specs.Tables.{TablesFollow, AreTablesWritten}
+use Rattle.rewriter.specs.Placed.{PlacesAnew, places_anew, places_at, PlacesFollow, ArePlacesOf, AreWritable}
+use Rattle.rewriter.specs.Units.{AreUnitsWritten}
+use Rattle.rewriter.specs.Sections.{IsFor, AreFor}
+use Rattle.rewriter.specs.Anew.{AreProgramsAnew, AreAnew}
+use Rattle.rewriter.proofs.FewRows.{AreProgramsFew, programs_few, few_rows, programs_read}
+use Rattle.rewriter.proofs.KeptColumns.{kept_columns_are_writable}
+use Rattle.rewriter.proofs.UsedDeclarations.{unit_is}
+
+-- SIZES
+
+take_small : (n : ℕ) (xs : List ℕ) → length (take n xs) ≤ length xs
+take_small zero xs = omega arith
+take_small (suc n) [] = omega arith
+take_small (suc n) (x ∷ xs) = let few : length (take n xs) ≤ length xs = take_small n xs in omega arith
+
+drop_small : (n : ℕ) (xs : List ℕ) → length (drop n xs) ≤ length xs
+drop_small zero xs = omega arith
+drop_small (suc n) [] = omega arith
+drop_small (suc n) (x ∷ xs) = let few : length (drop n xs) ≤ length xs = drop_small n xs in omega arith
+
+range_small : (xs : List ℕ) (from to : ℕ) → length (slice_range xs from to) ≤ length xs
+range_small xs from to =
+    let front : length (take (to - from) (drop from xs)) ≤ length (drop from xs) = take_small (to - from) (drop from xs) in
+    let rest : length (drop from xs) ≤ length xs = drop_small from xs in
+    omega arith
+
+body_small : (file : List ℕ) (found : Option ℕ) → length (body_or_none file found) ≤ length file
+body_small file (Some i) = range_small file (body_span file i).at ((body_span file i).at + (body_span file i).len)
+body_small file None = omega arith
+
+-- no section of a valid file is longer than the file may be
+pub section_small : (file name : List ℕ) → IsValid file Narrow → length (body_named file name) ≤ 2 ^ 30
+section_small file name valid =
+    let part : length (body_named file name) ≤ length file = body_small file (section_named file name) in
+    elim (cases_lt (2 ^ 30) (length file)) [
+      | inl long ↦ absurd (valid OfFile TooMuch 0 (inl (refl, long)))
+      | inr few ↦ omega arith
+    ]
+
+-- SECTIONS THAT A FILE LACKS
+
+-- a section that no section has the name of is empty
+pub none_empty : (file name : List ℕ) → HasNone file name → body_named file name ≡ []
+none_empty file name none = ap (body_or_none file) ((sections_are_found.missing file name).1 none)
+
+empty_list : {X : Type 0} (xs : List X) → length xs ≡ 0 → xs ≡ []
+empty_list [] e = refl
+empty_list (x ∷ xs) e = absurd (omega (arith, e))
+
+no_programs : (section : List ℕ) (heads : List Head) → section ≡ [] → ProgramsTile section heads → length heads ≡ 0
+no_programs section [] none tile = refl
+no_programs section (head ∷ heads) none tile =
+    let b = bounds section head.at tile.1.rules in
+    let inside = b.inside in
+    let size : length section ≡ 0 = ap (λ (z : List ℕ). length z) none in
+    absurd (omega (arith, inside, size))
+
+no_units : (section : List ℕ) (heads : List UnitHead) → section ≡ [] → UnitsTile section heads → length heads ≡ 0
+no_units section [] none tile = refl
+no_units section (head ∷ heads) none tile =
+    let inside = tile.1.rules.inside in
+    let size : length section ≡ 0 = ap (λ (z : List ℕ). length z) none in
+    absurd (omega (arith, inside, size))
+
+programs_empty : (section : List ℕ) (heads : List Head) → length heads ≡ 0 → ProgramsTile section heads → section ≡ []
+programs_empty section [] none tile = empty_list section (sym tile)
+programs_empty section (head ∷ heads) none tile = absurd (omega (arith, none))
+
+units_empty : (section : List ℕ) (heads : List UnitHead) → length heads ≡ 0 → UnitsTile section heads → section ≡ []
+units_empty section [] none tile = empty_list section (sym tile)
+units_empty section (head ∷ heads) none tile = absurd (omega (arith, none))
+
+tables_empty : (section : List ℕ) (tables : List NewTable) → length tables ≡ 0 → TablesFollow section tables 0 → section ≡ []
+tables_empty section [] none tile = empty_list section (sym tile)
+tables_empty section (table ∷ tables) none tile = absurd (omega (arith, none))
+
+-- PARTS
+
+-- where units begin
+abbrev pub starts_of : List Places → List ℕ
+starts_of places = map (λ (unit : Places). unit.start) places
+
+start_at : (places : List Places) (u : ℕ) → u < length places → get_or (starts_of places) u 0 ≡ (places_at places u).start
+start_at (p ∷ places) u inside =
+    let none : PlacesAnew = record { start = 0; entries = []; ends = []; end = 0 } in
+    get_or-map (λ (unit : Places). unit.start) (p ∷ places) u p 0 inside
+    ∙ sym (ap (λ (z : PlacesAnew). z.start) (get_or-map places_anew (p ∷ places) u p none inside))
+start_at [] u inside = absurd (omega arith)
+
+-- What the steps of the writer give, for one reading of the file.
+pub record AreParts (file : List ℕ) (world : World) (r : Reading) (tables : List NewTable) (places : List Places) (starts info abbrevs lines aranges : List ℕ) : Type 0 where
+  pub holds : Holds file world r
+  pub stand : StandAnew (debug_line file) world.programs lines starts
+  pub written : AreTablesWritten world abbrevs tables
+  pub count : length places ≡ length world.units
+  pub units : (units : List UnitRead) × AreUnitsWritten world r tables places starts info abbrevs units
+  pub tiled : SetsTile aranges (starts_of places) world.sets
+  pub others : (k : ℕ) → IsOutside world.sets k → slice_index aranges k ≡ slice_index (debug_aranges file) k
+  pub size : length aranges ≡ length (debug_aranges file)
+
+pub parts_of : {file : List ℕ} {world : World} {r : Reading} {tables : List NewTable} {places : List Places} {starts info abbrevs lines aranges : List ℕ} → Holds file world r → StandAnew (debug_line file) world.programs lines starts → AreTablesWritten world abbrevs tables → length places ≡ length world.units → ((units : List UnitRead) × AreUnitsWritten world r tables places starts info abbrevs units) → SetsTile aranges (starts_of places) world.sets → ((k : ℕ) → IsOutside world.sets k → slice_index aranges k ≡ slice_index (debug_aranges file) k) → length aranges ≡ length (debug_aranges file) → AreParts file world r tables places starts info abbrevs lines aranges
+parts_of holds stand written count units tiled others size = record { holds = holds; stand = stand; written = written; count = count; units = units; tiled = tiled; others = others; size = size }
+
+module _ {file : List ℕ} {world : World} {r : Reading} {tables : List NewTable} {places : List Places} {starts info abbrevs lines aranges : List ℕ} (parts : AreParts file world r tables places starts info abbrevs lines aranges) where
+  units_count : length world.units ≡ length r.units
+  units_count = ap (λ (z : List HeadAndForest). length z) parts.holds.units ∙ length-map r.units head_and_forest
+
+  -- units begin where their places say
+  starts_are : starts_of places ≡ unit_starts parts.units.0
+  starts_are =
+      let units : List UnitRead = parts.units.0 in
+      let written = parts.units.1 in
+      let one : length (starts_of places) ≡ length places = length-map places (λ (unit : Places). unit.start) in
+      let two : length (unit_starts units) ≡ length units = length-map units (λ (u : UnitRead). u.head.at) in
+      let among = parts.count in
+      let counted = units_count in
+      let count = written.count in
+      same_number_lists (starts_of places) (unit_starts units) (omega (arith, one, two, among, counted, count)) (λ k inside. (
+      let placed : k < length places = omega (arith, one, inside) in
+      let known : k < length r.units = omega (arith, placed, among, counted) in
+      let here : k < length units = omega (arith, known, count) in
+      start_at places k placed ∙ sym (get_or-map (λ (u : UnitRead). u.head.at) units k no_unit 0 here ∙ (written.each k known).at)
+      ))
+
+  abbrev few : AreProgramsFew lines parts.stand.written
+  few = programs_few lines parts.stand.written parts.stand.read
+
+  abbrev new_reading : Reading
+  new_reading = record { programs = few.programs; units = parts.units.0; sets = r.sets }
+
+  programs_count : length few.programs ≡ length r.programs
+  programs_count =
+      sym (length-map few.programs (λ (p : ProgramRead). p.head))
+      ∙ ap (λ (z : List Head). length z) few.same
+      ∙ parts.stand.count
+      ∙ ap (λ (z : List Head). length z) parts.holds.programs
+      ∙ length-map r.programs (λ (p : ProgramRead). p.head)
+
+  program_place : (p : ℕ) → p < length r.programs → (program_at new_reading p).head.at ≡ slice_index starts p
+  program_place p inside =
+      let count = programs_count in
+      let here : p < length few.programs = omega (arith, inside, count) in
+      let size : length (line_heads few.programs) ≡ length few.programs = length-map few.programs (λ (x : ProgramRead). x.head) in
+      let head : get_or (line_heads few.programs) p no_program.head ≡ (program_at new_reading p).head = get_or-map (λ (x : ProgramRead). x.head) few.programs p no_program no_program.head here in
+      let at : get_or (map (λ (h : Head). h.at) (line_heads few.programs)) p 0 ≡ (get_or (line_heads few.programs) p no_program.head).at = get_or-map (λ (h : Head). h.at) (line_heads few.programs) p no_program.head 0 (omega (arith, here, size)) in
+      let all : starts ≡ map (λ (h : Head). h.at) (line_heads few.programs) = parts.stand.places ∙ ap (λ (z : List Head). map (λ (h : Head). h.at) z) (sym few.same) in
+      sym (ap (λ (z : List ℕ). get_or z p 0) all ∙ at ∙ ap (λ (h : Head). h.at) head)
+
+  programs_mean : (meanings : List ProgramMeaning) → HaveMeanings (debug_line file) (line_heads r.programs) meanings → HaveMeanings lines (line_heads few.programs) meanings
+  programs_mean meanings means =
+      let old = subst (λ (z : List Head). HaveMeanings (debug_line file) z meanings) (sym parts.holds.programs) means in
+      subst (λ (z : List Head). HaveMeanings lines z meanings) (sym few.same) (parts.stand.means meanings old)
+
+  programs_anew : AreProgramsAnew (debug_line file) r new_reading lines starts
+  programs_anew = record { read = few.are; few = few.few; count = programs_count; places = program_place; means = programs_mean }
+
+  sets_tile : SetsTile aranges (unit_starts parts.units.0) r.sets
+  sets_tile =
+      let by_sets = subst (λ (z : List ArangeSet). SetsTile aranges (starts_of places) z) parts.holds.sets parts.tiled in
+      subst (λ (z : List ℕ). SetsTile aranges z r.sets) starts_are by_sets
+
+  -- The new sections are read, and mean what the old ones mean.
+  pub are_anew : (new : NewSections) → new.info.items ≡ info → new.abbrevs.items ≡ abbrevs → new.lines.items ≡ lines → new.aranges.items ≡ aranges → (size : ℕ) × ArePlacesOf world tables places size → (s : Reading) × AreAnew file world r s new
+  are_anew new i a l g placed = (
+    new_reading,
+    record {
+      tables = tables;
+      places = places;
+      starts = starts;
+      placed = placed;
+      tables_written = subst (λ (z : List ℕ). AreTablesWritten world z tables) (sym a) parts.written;
+      programs = subst (λ (z : List ℕ). AreProgramsAnew (debug_line file) r new_reading z starts) (sym l) programs_anew;
+      units = subst (λ (z : List ℕ). AreUnitsWritten world r tables places starts z new.abbrevs.items parts.units.0) (sym i) (subst (λ (z : List ℕ). AreUnitsWritten world r tables places starts info z parts.units.0) (sym a) parts.units.1);
+      sets = record {
+        same = refl;
+        tiled = subst (λ (z : List ℕ). SetsTile z (unit_starts parts.units.0) r.sets) (sym g) sets_tile;
+        size = ap (λ (z : List ℕ). length z) g ∙ parts.size;
+        bytes = λ k outside. ap (λ (z : List ℕ). slice_index z k) g ∙ parts.others k (subst (λ (z : List ArangeSet). IsOutside z k) (sym parts.holds.sets) outside);
+      };
+    },
+  )
+
+module _ {file : List ℕ} {world : World} {r : Reading} {tables : List NewTable} {places : List Places} {starts info abbrevs lines aranges : List ℕ} (parts : AreParts file world r tables places starts info abbrevs lines aranges) (read : IsReading file r) (valid : IsValid file Narrow) where
+  -- A section that the file lacks has no new bytes.
+  pub lines_for : IsFor file line_name lines
+  lines_for none =
+      let old : ProgramsTile (debug_line file) (line_heads r.programs) = read.parts.programs.tiled in
+      let no : length (line_heads r.programs) ≡ 0 = no_programs (debug_line file) (line_heads r.programs) (none_empty file line_name none) old in
+      let count : length parts.stand.written ≡ length world.programs = parts.stand.count in
+      let held : length world.programs ≡ length (line_heads r.programs) = ap (λ (z : List Head). length z) parts.holds.programs in
+      programs_empty lines parts.stand.written (omega (arith, no, count, held)) parts.stand.read.tiled
+
+  pub info_for : IsFor file info_name info
+  info_for none =
+      let no : length (unit_heads r.units) ≡ 0 = no_units (debug_info file) (unit_heads r.units) (none_empty file info_name none) read.parts.units.tiled in
+      let old : length (unit_heads r.units) ≡ length r.units = length-map r.units (λ (u : UnitRead). u.head) in
+      let new : length (unit_heads parts.units.0) ≡ length parts.units.0 = length-map parts.units.0 (λ (u : UnitRead). u.head) in
+      let count = parts.units.1.count in
+      units_empty info (unit_heads parts.units.0) (omega (arith, no, old, new, count)) parts.units.1.read.tiled
+
+  pub abbrevs_for : IsFor file abbrev_name abbrevs
+  abbrevs_for none =
+      let empty : length (debug_abbrev file) ≡ 0 = ap (λ (z : List ℕ). length z) (none_empty file abbrev_name none) in
+      let no_table : (i : ℕ) → i < length world.tables → ⊥ = λ i inside. (
+      let n = parts.holds.tables.named i inside in
+      let is = unit_is read parts.holds parts.written n.0 n.1 in
+      let named = is.named in
+      absurd (omega (arith, named, empty))
+      ) in
+      elim (cases_lt 0 (length world.tables)) [
+        | inl some ↦ absurd (no_table 0 some)
+        | inr few ↦ (let count = parts.written.count in tables_empty abbrevs tables (omega (arith, few, count)) parts.written.tiled)
+      ]
+
+  pub aranges_for : IsFor file aranges_name aranges
+  aranges_for none =
+      let empty : length (debug_aranges file) ≡ 0 = ap (λ (z : List ℕ). length z) (none_empty file aranges_name none) in
+      let size = parts.size in
+      empty_list aranges (omega (arith, size, empty))
+
+  pub aranges_fit : length aranges < 2 ^ 32 - 1
+  aranges_fit =
+      let small : length (debug_aranges file) ≤ 2 ^ 30 = section_small file aranges_name valid in
+      let size = parts.size in
+      omega (arith, size, small)
+
+  pub are_for : (new : NewSections) → new.info.items ≡ info → new.abbrevs.items ≡ abbrevs → new.lines.items ≡ lines → new.aranges.items ≡ aranges → length info < 2 ^ 32 - 1 → length abbrevs < 2 ^ 32 - 1 → length lines < 2 ^ 32 - 1 → AreFor file new
+  are_for new i a l g info_fits abbrevs_fit all_lines_fit = record {
+    info = λ none. i ∙ info_for none;
+    abbrevs = λ none. a ∙ abbrevs_for none;
+    lines = λ none. l ∙ lines_for none;
+    aranges = λ none. g ∙ aranges_for none;
+    info_fits = subst (λ (z : List ℕ). length z < 2 ^ 32 - 1) (sym i) info_fits;
+    abbrevs_fit = subst (λ (z : List ℕ). length z < 2 ^ 32 - 1) (sym a) abbrevs_fit;
+    lines_fit = subst (λ (z : List ℕ). length z < 2 ^ 32 - 1) (sym l) all_lines_fit;
+    aranges_fit = subst (λ (z : List ℕ). length z < 2 ^ 32 - 1) (sym g) aranges_fit;
+  }
+
+-- WHAT THE STEPS ASK FOR
+
+pub writable : NumbersHaveSizes → ShortestHaveSizes → DeclarationsStand → (world : World) → IsWorldOf world.image Narrow world → (abbrevs : List ℕ) (tables : List NewTable) → AreTablesWritten world abbrevs tables → AreWritable world tables
+writable numbers others stand world is abbrevs tables written = kept_columns_are_writable numbers others stand world.image Narrow world is.r abbrevs tables is.read is.valid is.holds written
+
+pub lines_read : (world : World) → IsWorldOf world.image Narrow world → (section : List ℕ) (heads : List Head) → section ≡ debug_line world.image → heads ≡ world.programs → AreRead section heads
+lines_read world is section heads e f =
+    let few = few_rows world.image Narrow is.r is.valid is.read in
+    let all = programs_read (debug_line world.image) is.r.programs is.read.parts.programs few in
+    let here = subst (λ (z : List ℕ). AreRead z (line_heads is.r.programs)) (sym e) all in
+    subst (λ (z : List Head). AreRead section z) (sym (f ∙ is.holds.programs)) here
+
+heads_below : (section : List ℕ) (heads : List Head) (a e : ℕ) → ProgramsFollow section heads a e → All (λ (h : Head). h.at < length section) heads
+heads_below section [] a e follow = All-nil (λ (h : Head). h.at < length section)
+heads_below section (head ∷ heads) a e follow =
+    let b = bounds section head.at follow.1.rules in
+    let inside = b.inside in
+    All-cons (λ (h : Head). h.at < length section) head heads (omega (arith, inside)) (heads_below section heads (a + head.len) e follow.2)
+
+pub starts_fit : (section : List ℕ) (heads : List Head) (bytes starts : List ℕ) → StandAnew section heads bytes starts → length bytes < 2 ^ 32 → (length starts ≡ length heads) × All (λ start. start < 2 ^ 32) starts
+starts_fit section heads bytes starts stand few =
+    let size : length (map (λ (h : Head). h.at) stand.written) ≡ length stand.written = length-map stand.written (λ (h : Head). h.at) in
+    let below = heads_below bytes stand.written 0 (length bytes) stand.read.tiled in
+    let none : Head = no_program.head in
+    let each : All (λ (h : Head). h.at < 2 ^ 32) stand.written = All-from_get_or (λ (h : Head). h.at < 2 ^ 32) stand.written none (λ k inside. (let l : (get_or stand.written k none).at < length bytes = All-get_or (λ (h : Head). h.at < length bytes) stand.written k none inside below in omega (arith, l, few))) in (
+      ap (λ (z : List ℕ). length z) stand.places ∙ size ∙ stand.count,
+      subst (λ (z : List ℕ). All (λ start. start < 2 ^ 32) z) (sym stand.places) (All-map (λ start. start < 2 ^ 32) (λ (h : Head). h.at) stand.written each),
+    )
+
+placed_on : (Size : ℕ → ℕ → Type 0) (id : ℕ) (items : List Item) (at : ℕ) (entries ends : List ℕ) (to : ℕ) → ArePlaced Size id items at entries ends to → at ≤ to
+placed_on Size id [] at [] [] to p = let e : at ≡ to = p in omega (arith, e)
+placed_on Size id (AnEntry number ∷ items) at (place ∷ entries) ends to p =
+    let later : at + p.1.0 ≤ to = placed_on Size (suc id) items (at + p.1.0) entries ends to p.1.2 in
+    omega (arith, later)
+placed_on Size id (AnEnd ∷ items) at entries (place ∷ ends) to p =
+    let later : at + 1 ≤ to = placed_on Size id items (at + 1) entries ends to p.1 in
+    omega (arith, later)
+placed_on Size id items at entries ends to p = absurd p
+
+places_from : (places : List Places) (at end : ℕ) → All (λ (p : Places). p.start ≤ p.end) places → PlacesFollow places at end → (at ≤ end) × All (λ (p : Places). p.start ≤ end) places
+places_from [] at end rise follow = (let e : at ≡ end = follow in omega (arith, e), All-nil (λ (p : Places). p.start ≤ end))
+places_from (p ∷ places) at end rise follow =
+    let more = places_from places p.end end (All-tail (λ (q : Places). q.start ≤ q.end) p places rise) follow.1 in
+    let own : p.start ≤ p.end = All-head (λ (q : Places). q.start ≤ q.end) p places rise in
+    let here : p.start ≡ at = follow.0 in
+    let later = more.0 in
+    (omega (arith, own, here, later), All-cons (λ (q : Places). q.start ≤ end) p places (omega (arith, own, later)) more.1)
+
+place_is : (places : List Places) (u : ℕ) (d : Places) → u < length places → places_at places u ≡ places_anew (get_or places u d)
+place_is places u d inside = get_or-map places_anew places u d (record { start = 0; entries = []; ends = []; end = 0 }) inside
+
+pub places_fit : (world : World) (tables : List NewTable) (places : List Places) (size : ℕ) → ArePlacesOf world tables places size → All (λ (p : Places). p.start < 2 ^ 32) places
+places_fit world tables [] size are = All-nil (λ (p : Places). p.start < 2 ^ 32)
+places_fit world tables (p ∷ places) size are =
+    let all : List Places = p ∷ places in
+    let count = are.count in
+    let small = are.small in
+    let rise : All (λ (q : Places). q.start ≤ q.end) all = All-from_get_or (λ (q : Places). q.start ≤ q.end) all p (λ k inside. (
+    let placed = (are.each k (omega (arith, count, inside))).placed in
+    let later = placed_on _ 0 _ _ _ _ _ placed in
+    let same = place_is all k p inside in
+    let from : (places_at all k).start ≡ (get_or all k p).start = ap (λ (z : PlacesAnew). z.start) same in
+    let to : (places_at all k).end ≡ (get_or all k p).end = ap (λ (z : PlacesAnew). z.end) same in
+    omega (arith, later, from, to)
+    )) in
+    let below = (places_from all 0 size rise are.follow).1 in
+    All-from_get_or (λ (q : Places). q.start < 2 ^ 32) all p (λ k inside. (let l : (get_or all k p).start ≤ size = All-get_or (λ (q : Places). q.start ≤ size) all k p inside below in omega (arith, l, small)))
+
+sets_have_units : (section starts : List ℕ) (sets : List ArangeSet) (a e : ℕ) → SetsFollow section starts sets a e → HaveUnits (length starts) sets
+sets_have_units section starts [] a e follow = All-nil (λ (set : ArangeSet). set.unit < length starts)
+sets_have_units section starts (set ∷ sets) a e follow = All-cons (λ (s : ArangeSet). s.unit < length starts) set sets follow.1.of_unit.0 (sets_have_units section starts sets _ e follow.2)
+
+pub old_sets : (world : World) → IsWorldOf world.image Narrow world → (section : List ℕ) (sets : List ArangeSet) → section ≡ debug_aranges world.image → sets ≡ world.sets → (starts : List ℕ) × SetsTile section starts sets
+old_sets world is section sets e f =
+    let here = subst (λ (z : List ℕ). SetsTile z (unit_starts is.r.units) is.r.sets) (sym e) is.read.sets in
+    (unit_starts is.r.units, subst (λ (z : List ArangeSet). SetsTile section (unit_starts is.r.units) z) (sym (f ∙ is.holds.sets)) here)
+
+pub old_units : (world : World) → IsWorldOf world.image Narrow world → (count : ℕ) (sets : List ArangeSet) → count ≡ length world.units → sets ≡ world.sets → HaveUnits count sets
+old_units world is count sets e f =
+    let has : HaveUnits (length (unit_starts is.r.units)) is.r.sets = sets_have_units (debug_aranges world.image) (unit_starts is.r.units) is.r.sets 0 (length (debug_aranges world.image)) is.read.sets in
+    let starts : length (unit_starts is.r.units) ≡ length is.r.units = length-map is.r.units (λ (u : UnitRead). u.head.at) in
+    let units : length world.units ≡ length is.r.units = ap (λ (z : List HeadAndForest). length z) is.holds.units ∙ length-map is.r.units head_and_forest in
+    let here : HaveUnits count is.r.sets = subst (λ (z : ℕ). HaveUnits z is.r.sets) (starts ∙ sym units ∙ sym e) has in
+    subst (λ (z : List ArangeSet). HaveUnits count z) (sym (f ∙ is.holds.sets)) here

@@ -1,0 +1,34 @@
+use Rattle.std.proofs.Common.{◌≤◌, ◌^◌, ◌∙◌, ℕ, List, length, sym, ap, subst}
+use Rattle.std.specs.Prelude.{IfOk}
+use Rattle.line_machine.specs.declared.head.Head.{Head}
+use Rattle.line_write.specs.Readings.{StandAnew}
+use Rattle.line_write.specs.Least.{LeastLines, OrderedLines}
+use Rattle.value_links.specs.Sections.{body_named, debug_line, line_name}
+use Rattle.rewriter.proofs.SectionsAnew.{lines_read, section_small}
+use Rattle.rewriter.proofs.anew.write_lines.Goals as goal
+
+pub shrink_lines-requires-clause-read : goal.shrink_lines-requires-clause-read
+shrink_lines-requires-clause-read c =
+    let section = c.section_body-section.ensures ∙ ap (λ (z : List ℕ). body_named z line_name) c.image.ensures in
+    lines_read c.args.world.now c.requires.world c.section_body-section.result.now c.programs.result.now.items section c.programs.ensures
+
+pub shrink_lines-requires-clause-small : goal.shrink_lines-requires-clause-small
+shrink_lines-requires-clause-small c =
+    let section = c.section_body-section.ensures ∙ ap (λ (z : List ℕ). body_named z line_name) c.image.ensures in
+    subst (λ (z : List ℕ). length z ≤ 2 ^ 30) (sym section) (section_small c.args.world.now.image line_name c.requires.world.valid)
+
+pub returns-clause-stand : goal.returns-clause-stand
+returns-clause-stand c =
+    let section = c.section_body-section.ensures ∙ ap (λ (z : List ℕ). body_named z line_name) c.image.ensures in
+    let here = subst (λ (z : List ℕ). IfOk c.shrink_lines.result (λ lines. StandAnew z c.programs.result.now.items lines.bytes.items lines.starts.items)) section c.shrink_lines.ensures.stand in
+    subst (λ (z : List Head). IfOk c.shrink_lines.result (λ lines. StandAnew (debug_line c.args.world.now.image) z lines.bytes.items lines.starts.items)) c.programs.ensures here
+
+pub returns-clause-least : goal.returns-clause-least
+returns-clause-least c =
+    let section = c.section_body-section.ensures ∙ ap (λ (z : List ℕ). body_named z line_name) c.image.ensures in
+    subst (λ (z : List ℕ). IfOk c.shrink_lines.result (λ lines. LeastLines z lines.bytes.items)) section c.shrink_lines.ensures.least
+
+pub returns-clause-order : goal.returns-clause-order
+returns-clause-order c =
+    let section = c.section_body-section.ensures ∙ ap (λ (z : List ℕ). body_named z line_name) c.image.ensures in
+    subst (λ (z : List ℕ). IfOk c.shrink_lines.result (λ lines. OrderedLines z lines.bytes.items)) section c.shrink_lines.ensures.order

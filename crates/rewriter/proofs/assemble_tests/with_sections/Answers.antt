@@ -1,0 +1,47 @@
+use Rattle.std.proofs.Common.{◌≡◌, ℕ, List, length, sym, ap, subst, arith, inl, inr}
+use Rattle.std.specs.Prelude.{bytes_eq}
+use Rattle.std.proofs.lemmas.Bool.Decides.{Decides-or}
+use Rattle.std.proofs.lemmas.Slice.Eq.{bytes_eq-Decides}
+use Rattle.dw_base.specs.declared.fault.Reach.TheVariants.{Narrow}
+use Rattle.elf_sections.specs.Names.{name_of}
+use Rattle.elf_sections.specs.Sections.{IsFirstNamed, HasNone}
+use Rattle.elf_sections.specs.Faults.{IsRead}
+use Rattle.value_links.specs.Sections.{info_name, line_name, rnglists_name, loclists_name}
+use Rattle.value_links.specs.Laws.{HasNoLists}
+use Rattle.rewriter.specs.Sections.{IsFor}
+use Rattle.rewriter.proofs.assemble_tests.with_sections.Goals as goal
+
+-- a file without the two names has no lists
+no_lists : (file : List ℕ) → HasNone file rnglists_name → HasNone file loclists_name → HasNoLists file
+no_lists file ranges locations i lt is =
+    elim ((Decides-or (bytes_eq (name_of file i) rnglists_name) (bytes_eq (name_of file i) loclists_name) (bytes_eq-Decides (name_of file i) rnglists_name) (bytes_eq-Decides (name_of file i) loclists_name)).0 is) [
+      | inl same ↦ ranges i lt same
+      | inr same ↦ locations i lt same
+    ]
+
+-- a section that the file has may get any bytes
+for_found : (file name wanted bytes : List ℕ) (i : ℕ) → name ≡ wanted → IsFirstNamed file name i → IsFor file wanted bytes
+for_found file name wanted bytes i e first none = absurd (subst (λ (z : List ℕ). HasNone file z) (sym e) none i first.inside first.named)
+
+pub assemble-requires-clause-image : goal.assemble-requires-clause-image
+assemble-requires-clause-image c =
+    let read = c.in-Ok.ensures.read in
+    record {
+      image = subst (λ (z : List ℕ). IsRead z Narrow) (sym read.0) read.1;
+      names = no_lists c.in-Ok.image (subst (HasNone c.in-Ok.image) c.as_slice-3.ensures c.in-None.ensures) (subst (HasNone c.in-Ok.image) c.as_slice-4.ensures c.in-None-find.ensures);
+    }
+
+pub assemble-requires-clause-sections : goal.assemble-requires-clause-sections
+assemble-requires-clause-sections c =
+    let none : length c.new.result.items ≡ 0 = ap length c.new.ensures.items in
+    let none_too : length c.new-2.result.items ≡ 0 = ap length c.new-2.ensures.items in
+    record {
+      info = for_found c.in-Ok.image c.as_slice.result.now info_name c.args.info.items c.in-Some.field-0 c.as_slice.ensures c.in-Some.ensures;
+      abbrevs = λ _. c.new.ensures.items;
+      lines = for_found c.in-Ok.image c.as_slice-2.result.now line_name c.args.lines.items c.in-Some-find.field-0 c.as_slice-2.ensures c.in-Some-find.ensures;
+      aranges = λ _. c.new-2.ensures.items;
+      info_fits = c.requires.info;
+      abbrevs_fit = omega arith;
+      lines_fit = c.requires.lines;
+      aranges_fit = omega arith;
+    }

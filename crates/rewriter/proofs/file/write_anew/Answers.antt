@@ -1,0 +1,14 @@
+use Rattle.std.proofs.lemmas.Result.{IfOk-weaker}
+use Rattle.rewriter.specs.Sections.{HasSections}
+use Rattle.rewriter.specs.Rewritten.{IsRewritten}
+use Rattle.rewriter.proofs.Rewritten.{rewritten, image_ordered}
+use Rattle.rewriter.proofs.file.write_anew.Goals as goal
+
+pub assemble-requires-clause-image : goal.assemble-requires-clause-image
+assemble-requires-clause-image c = image_ordered c.args.world.now.image c.image.result.now c.args.world.now c.requires.world c.image.ensures
+
+pub returns : goal.returns
+returns c =
+    let file = c.args.world.now.image in
+    let sections = c.in_ok-sections in
+    record { rewritten = IfOk-weaker c.assemble.result (λ written. HasSections c.image.result.now sections.sections written.items) (λ written. IsRewritten file written.items) (λ written has. rewritten file c.image.result.now c.args.world.now sections.sections written.items c.valid_files.ensures.whole c.requires.world c.image.ensures sections.ensures.anew sections.ensures.least sections.ensures.order has) c.assemble.ensures.has }

@@ -1,0 +1,31 @@
+use Rattle.std.proofs.Common.{◌≡◌, sym, length, arith, slice_index}
+use Rattle.std.proofs.lemmas.Grind.{common_steps}
+use Rattle.std.proofs.lemmas.List.{get_or_read}
+use Rattle.value_links.specs.Attributes.{offset_class}
+use Rattle.rewriter.proofs.Links.{offset_link, lines_inside, held_programs, new_lines, new_kept}
+use Rattle.rewriter.proofs.numbers.offset_number.Goals as goal
+
+pub index-requires : goal.index-requires
+index-requires c =
+    let m = c.requires.means in
+    let inside = lines_inside m.r c.args.unit m.id c.args.old c.in-Lines.program (offset_class c.args.name) (c.in-Lines.ensures m.file m.r m.id m.holds) in
+    let size = held_programs m.file c.args.world.now m.r m.holds in
+    grind (arith, common_steps, inside, size)
+
+pub unreachable-requires : goal.unreachable-requires
+unreachable-requires c =
+    let m = c.requires.means in
+    offset_link m.r c.args.unit m.id c.args.old (offset_class c.args.name) c.link_of.result (c.link_of.ensures m.file m.r m.id m.holds) c.in_default.not-Lines c.in_default.not-Kept
+
+pub returns-in-Lines : goal.returns-in-Lines
+returns-in-Lines c = λ places file r holds.
+    let m = c.requires.means in
+    let inside = lines_inside m.r c.args.unit m.id c.args.old c.in-Lines.program (offset_class c.args.name) (c.in-Lines.ensures m.file m.r m.id m.holds) in
+    let size : length c.args.world.now.programs ≡ length m.r.programs = held_programs m.file c.args.world.now m.r m.holds in
+    let count : length c.args.lines.now.items ≡ length c.args.world.now.programs = c.requires.lines in
+    let here : slice_index c.args.lines.now.items c.in-Lines.program ≡ c.index.result.now = sym (get_or_read c.args.lines.now.items c.in-Lines.program c.index.result.now (omega arith) c.index.ensures 0) in
+    new_lines r c.args.unit 0 c.args.old c.in-Lines.program (offset_class c.args.name) c.args.lines.now.items c.index.result.now (c.in-Lines.ensures file r 0 holds) here
+
+pub returns-in-Kept : goal.returns-in-Kept
+returns-in-Kept c = λ places file r holds.
+    new_kept r c.args.unit 0 c.args.old c.in-Kept.field-0 (offset_class c.args.name) c.args.lines.now.items (c.in-Kept.ensures file r 0 holds)

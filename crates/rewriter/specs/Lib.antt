@@ -1,0 +1,13 @@
+pub mod Tables
+pub mod Placed
+pub mod Numbers
+pub mod Units
+pub mod Follows
+pub mod Sections
+pub mod Anew
+pub mod Counting
+pub mod Appended
+pub mod Rewritten
+pub mod Bodies
+pub mod Tidy
+pub mod Held

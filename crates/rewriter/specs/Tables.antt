@@ -1,0 +1,68 @@
+-- The abbreviation tables of a file written anew: one for each place that units name.
+use Rattle.std.specs.Prelude.{◌≡◌, ◌<◌, ℕ, List, [], ◌∷◌, length, slice_index, slice_index_or, nat_eq, if◌then◌else◌, count_by, map}
+use Rattle.std.specs.List.{sum_by}
+use Rattle.leb_codec.specs.Numbering.{IsLeastNumbering, RiseByFallingUses, AreFirstNumbers, used_count}
+use Rattle.abbrev_tables.specs.declared.decl.Spec.{Spec}
+use Rattle.abbrev_tables.specs.Listings.{Listing, IsTableAt}
+use Rattle.abbrev_tables.specs.Written.{IsWritten}
+use Rattle.entry_arena.specs.declared.entry.Entry.{Entry}
+use Rattle.entry_arena.specs.Trees.{bytes_between}
+use Rattle.entry_read.specs.Units.{HeadAndForest, declarations_of}
+use Rattle.unit_write.specs.Placing.{IsRenumbered}
+use Rattle.value_links.specs.declared.units.NamedTable.{NamedTable}
+use Rattle.value_links.specs.World.{World, table_at}
+use Rattle.rewriter.specs.declared.tables.NewTable.{NewTable}
+
+-- a table as it is written anew: its place, a new column for each of its columns, and the new code of each declaration, or 0
+pub record TableAnew : Type 0 where
+  pub at : ℕ
+  pub columns : List Spec
+  pub numbers : List ℕ
+
+abbrev pub table_anew : NewTable → TableAnew
+table_anew table = record { at = table.at; columns = table.columns.items; numbers = table.numbers.items }
+
+-- the one with a number; past the end there is none, and an empty one stands for it
+abbrev pub new_table_at : List NewTable → ℕ → TableAnew
+new_table_at tables i = slice_index_or (map table_anew tables) i (record { at = 0; columns = []; numbers = [] })
+
+-- how many entries of a unit have the declaration with a number
+abbrev pub entries_with : ℕ → HeadAndForest → ℕ
+entries_with number unit = count_by (λ (e : Entry). nat_eq e.decl number) unit.forest.entries
+
+-- the uses of a declaration: how many entries have it, over all units that name the place of its table
+abbrev pub uses_of : List HeadAndForest → ℕ → ℕ → ℕ
+uses_of units place number = sum_by (λ (unit : HeadAndForest). if nat_eq unit.head.table place then entries_with number unit else 0) units
+
+-- for each declaration of a table its uses
+pub record AreUses (units : List HeadAndForest) (table : NamedTable) (uses : List ℕ) : Type 0 where
+  pub count : length uses ≡ length table.table.decls
+  pub each : (number : ℕ) → number < length table.table.decls → slice_index uses number ≡ uses_of units table.place number
+
+-- The table stands in the new section: its used declarations and no others, by rising code, with the columns that they have and
+-- each LEB128 number shortest. They are numbered so that the codes are those from 1 on and take the least bytes in the table and
+-- in all entries, by falling uses and then by place.
+pub record IsTableWritten (units : List HeadAndForest) (section : List ℕ) (old : NamedTable) (new : TableAnew) : Type 0 where
+  pub uses : List ℕ
+  pub used : AreUses units old uses
+  pub columns : new.columns ≡ old.table.specs
+  pub least : IsLeastNumbering uses new.numbers
+  pub order : RiseByFallingUses uses new.numbers
+  pub first : AreFirstNumbers uses new.numbers
+  pub listing : Listing
+  pub inside : new.at < length section
+  pub stands : IsTableAt section new.at listing
+  pub written : IsWritten old.table new.numbers new.columns (bytes_between section new.at listing.end)
+  pub renumbered : IsRenumbered old.table new.columns new.numbers (declarations_of listing)
+  pub only : length (declarations_of listing) ≡ used_count uses
+
+-- the tables stand one after the other from a place on, up to the section's end
+abbrev pub TablesFollow : List ℕ → List NewTable → ℕ → Type 0
+TablesFollow section [] at = at ≡ length section
+TablesFollow section (table ∷ tables) at = (table.at ≡ at) × ((listing : Listing) × IsTableAt section at listing × TablesFollow section tables listing.end)
+
+-- the section is the tables that units name, each written once, in the order of their places
+pub record AreTablesWritten (world : World) (section : List ℕ) (tables : List NewTable) : Type 0 where
+  pub count : length tables ≡ length world.tables
+  pub tiled : TablesFollow section tables 0
+  pub each : (i : ℕ) → i < length world.tables → IsTableWritten world.units section (table_at world.tables i) (new_table_at tables i)

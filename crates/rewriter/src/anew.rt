@@ -1,0 +1,102 @@
+// What the sections of a file that are written anew are made of.
+ghost use Rattle.std.specs.Prelude.{◌≡◌, ◌≤◌, ◌<◌, ◌-◌, ◌^◌, ◌++◌, ◌∷◌, ℕ, List, [], length, map, slice_index, IfOk, OnOk};
+ghost use Rattle.std.specs.List.{All};
+ghost use Rattle.dw_base.specs.declared.fault.Reach.TheVariants.{Narrow};
+ghost use Rattle.line_write.specs.Least.{LeastLines, OrderedLines};
+ghost use Rattle.line_write.specs.Readings.{StandAnew};
+ghost use Rattle.companions.specs.Aranges.{SetsTile, HaveUnits, IsOutside};
+ghost use Rattle.unit_write.specs.declared.places.Places.{Places as AnyPlaces};
+ghost use Rattle.value_links.specs.Sections.{body_named, debug_line, debug_aranges};
+ghost use Rattle.value_links.specs.World.{IsWorldOf};
+
+use companions::{ArangeSet, patch_aranges};
+use dw_base::NoMemory;
+use elf_sections::Image;
+use line_write::{Lines, shrink_lines};
+use std::alloc::Global;
+use unit_write::Places;
+use value_links::{World, sections_found};
+
+// The least length that a section of the 32-bit format can't have (DWARF 5 section 7.4).
+const LEAST_LONG: usize = 0xffff_ffff;
+
+// The body of the section with a name; none where no section has it.
+fn section_body<'i>(image: &'i Image<'_>, name: &[u8]) -> &'i [u8]
+    ensures { result.now ≡ body_named image.now name.now }
+{
+    // A law, which costs nothing: a section is found by its name exactly where one has it.
+    sections_found();
+    match image.find(name) {
+        Some(number) => image.body(number),
+        None => &[],
+    }
+}
+
+/// The body of a section, where it has fewer than the 2^32 - 1 bytes that one of the 32-bit format can't have (DWARF 5 section 7.4),
+/// or else NoMemory.
+pub fn fitting(body: Vec<u8>) -> Result<Vec<u8>, NoMemory>
+    ensures { IfOk result (λ same. (same.items ≡ body.items) × (length same.items < 2 ^ 32 - 1)) }
+{
+    if body.len() >= LEAST_LONG {
+        return Err(NoMemory);
+    }
+    Ok(body)
+}
+
+/// The line number programs of a file written anew. The only error is want of memory.
+pub fn write_lines(alloc: Global, world: &World<'_>) -> Result<Lines, NoMemory>
+    requires world { IsWorldOf world.now.image Narrow world.now }
+    ensures stand { IfOk result (λ lines. StandAnew (debug_line world.now.image) world.now.programs lines.bytes.items lines.starts.items) }
+    ensures least { IfOk result (λ lines. LeastLines (debug_line world.now.image) lines.bytes.items) }
+    ensures order { IfOk result (λ lines. OrderedLines (debug_line world.now.image) lines.bytes.items) }
+    ensures fits { IfOk result (λ lines. length lines.bytes.items < 2 ^ 32) }
+{
+    let section = section_body(world.image(), b".debug_line");
+    shrink_lines(alloc, section, world.programs())
+}
+
+// Where units begin.
+fn starts_of(alloc: Global, places: &[Places]) -> Result<Vec<u64>, NoMemory>
+    ensures { IfOk result (λ starts. starts.items ≡ map (λ (unit : AnyPlaces). unit.start) places.now) }
+{
+    let starts = places.iter().map(|unit| unit.start).collect(alloc)?;
+    Ok(starts)
+}
+
+// The bytes of sets of address ranges, whose units begin at these places now.
+fn patched(
+    alloc: Global,
+    section: &[u8],
+    sets: &Vec<ArangeSet>,
+    starts: &Vec<u64>,
+) -> Result<Vec<u8>, NoMemory>
+    requires sets { (old_starts : List ℕ) × SetsTile section.now old_starts sets.now.items }
+    requires units { HaveUnits (length starts.now.items) sets.now.items }
+    requires fit { All (λ start. start < 2 ^ 32) starts.now.items }
+    ensures tiled { IfOk result (λ aranges. SetsTile aranges.items starts.now.items sets.now.items) }
+    ensures others { IfOk result (λ aranges. (k : ℕ) → IsOutside sets.now.items k → slice_index aranges.items k ≡ slice_index section.now k) }
+    ensures size { IfOk result (λ aranges. length aranges.items ≡ length section.now) }
+{
+    let mut aranges = section.to_vec(alloc)?;
+    patch_aranges(&mut aranges, sets, starts);
+    Ok(aranges)
+}
+
+/// The sets of address ranges of a file with the new places of the units that they name (DWARF 5 section 6.1.2). The only error
+/// is want of memory.
+pub fn write_aranges(
+    alloc: Global,
+    world: &World<'_>,
+    places: &Vec<Places>,
+) -> Result<Vec<u8>, NoMemory>
+    requires world { IsWorldOf world.now.image Narrow world.now }
+    requires count { length places.now.items ≡ length world.now.units }
+    requires fit { All (λ (unit : AnyPlaces). unit.start < 2 ^ 32) places.now.items }
+    ensures tiled { IfOk result (λ aranges. SetsTile aranges.items (map (λ (unit : AnyPlaces). unit.start) places.now.items) world.now.sets) }
+    ensures others { IfOk result (λ aranges. (k : ℕ) → IsOutside world.now.sets k → slice_index aranges.items k ≡ slice_index (debug_aranges world.now.image) k) }
+    ensures size { IfOk result (λ aranges. length aranges.items ≡ length (debug_aranges world.now.image)) }
+{
+    let starts = starts_of(alloc, places)?;
+    let section = section_body(world.image(), b".debug_aranges");
+    patched(alloc, section, world.aranges(), &starts)
+}

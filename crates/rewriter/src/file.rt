@@ -1,0 +1,56 @@
+// A whole file written anew.
+ghost use Rattle.std.specs.Prelude.{◌≡◌, IfOk, IfErr};
+ghost use Rattle.dw_base.specs.declared.fault.Reach.TheVariants.{Narrow, Wide};
+ghost use Rattle.line_write.specs.Least.{LeastLines, OrderedLines};
+ghost use Rattle.value_links.specs.Sections.{debug_line};
+ghost use Rattle.value_links.specs.Faults.{IsValid, NamesFault};
+ghost use Rattle.value_links.specs.Same.{Same};
+ghost use Rattle.value_links.specs.World.{IsWorldOf};
+ghost use Rattle.rewriter.specs.Sections.{IsPlaced};
+ghost use Rattle.rewriter.specs.Anew.{HaveLeastCodes};
+ghost use Rattle.rewriter.specs.Tidy.{IsTidy};
+ghost use Rattle.rewriter.specs.Rewritten.{IsRewritten};
+
+use crate::assemble::assemble;
+use crate::sections::write_sections;
+use dw_base::{NoMemory, Reach, Refusal};
+use std::alloc::Global;
+use value_links::{World, valid_files};
+
+// The bytes to be written for the file of a world.
+fn write_anew(alloc: Global, world: &World<'_>) -> Result<Vec<u8>, NoMemory>
+    requires world { IsWorldOf world.now.image Narrow world.now }
+    ensures rewritten { IfOk result (λ written. IsRewritten world.now.image written.items) }
+{
+    // A law: what is read, means something and waits for nothing is valid.
+    valid_files();
+    let sections = write_sections(alloc, world)?;
+    assemble(alloc, world.image(), sections)
+}
+
+/// The bytes to be written for a file.
+///
+/// Refused exactly where the file isn't valid, with a fault of the first pass that has one, or for want of memory. The written
+/// file means the same: the same line number rows, units, entries and values, each reference at what it named, and all other
+/// sections as they are. It is valid within the wide limits.
+///
+/// Each line number program is the shortest that gives its rows (DWARF 5 section 6.2). Each abbreviation table that units name is
+/// written once, without unused declarations, with the codes that take the fewest bytes (DWARF 5 section 7.5.3). Every LEB128
+/// number has its fewest bytes, but a reference in DW_FORM_ref_udata, which has five. Bytes after a unit's entries are dropped.
+pub fn rewrite(alloc: Global, file: &[u8]) -> Result<Vec<u8>, Refusal>
+    ensures valid { IfOk result (λ _. IsValid file.now Narrow) }
+    ensures same { IfOk result (λ written. Same file.now written.items) }
+    ensures still_valid { IfOk result (λ written. IsValid written.items Wide) }
+    ensures least { IfOk result (λ written. LeastLines (debug_line file.now) (debug_line written.items)) }
+    ensures order { IfOk result (λ written. OrderedLines (debug_line file.now) (debug_line written.items)) }
+    ensures codes { IfOk result (λ written. HaveLeastCodes file.now written.items) }
+    ensures tidy { IfOk result (λ written. IsTidy file.now written.items) }
+    ensures placed { IfOk result (λ written. IsPlaced file.now written.items) }
+    ensures refused { IfErr result (λ refusal. NamesFault file.now Narrow refusal) }
+{
+    let world = match World::read(alloc, file, Reach::Narrow) {
+        Ok(world) => world,
+        Err(refusal) => return Err(refusal),
+    };
+    Ok(write_anew(alloc, &world)?)
+}

@@ -1,0 +1,292 @@
+// The new numbers of references and section offsets.
+ghost use Rattle.std.specs.Prelude.{◌≡◌, ◌≤◌, ◌<◌, ◌+◌, ◌^◌, ◌++◌, ◌∷◌, [], ℕ, List, IfOk, OnOk, length};
+ghost use Rattle.std.specs.List.{All};
+ghost use Rattle.dw_base.specs.declared.fault.Reach.{Reach};
+ghost use Rattle.form_codec.specs.Values.{meant_in};
+ghost use Rattle.entry_arena.specs.declared.entry.Target.{Target};
+ghost use Rattle.entry_arena.specs.Arena.{entry_at, chain_end_at, HasChainEnd};
+ghost use Rattle.value_links.specs.Reading.{Reading, unit_at};
+ghost use Rattle.value_links.specs.Resolved.{IsTargetAt, Resolves};
+ghost use Rattle.value_links.specs.Links.{resolved_by};
+ghost use Rattle.value_links.specs.World.{IsWorldOf, Holds};
+ghost use Rattle.rewriter.specs.Tables.{AreTablesWritten};
+ghost use Rattle.rewriter.specs.Placed.{places_anew, ArePlacesOf};
+ghost use Rattle.rewriter.specs.Numbers.{MovesTo, AreNewNumbers};
+ghost use Rattle.rewriter.specs.Held.{HavePlaces, AllHavePlaces, HaveLines, MeansSomething, IsNumberOf, EntryMeans, entry_in, name_in, value_in, AreNumbersOf, UnitMeans, AreNumbered, HasType, IsTypeMoved};
+
+use crate::tables::NewTable;
+use dw_base::NoMemory;
+use entry_arena::{ChainEnd, Entry, Target};
+use entry_read::Unit;
+use form_codec::Value;
+use std::alloc::Global;
+use unit_write::{NewNumbers, Places};
+use value_links::{Link, World};
+
+// DW_UT_type
+const TYPE: u8 = 2;
+
+// The number of the entry that stands at a place.
+fn entry_number(entries: &[Entry], place: u64) -> usize
+    requires rising { (i j : ℕ) → i < j → j < length entries.now → (entry_at entries.now i).at < (entry_at entries.now j).at }
+    requires stands { (id : ℕ) × (id < length entries.now) × ((entry_at entries.now id).at ≡ place) }
+    ensures inside { result < length entries.now }
+    ensures at { (entry_at entries.now result).at ≡ place }
+{
+    match entries.binary_search_by_key(&place, |entry| entry.at) {
+        Ok(number) => number,
+        // The entry stands there.
+        Err(_) => unreachable!(),
+    }
+}
+
+// The number of the code 0 that stands at a place.
+fn end_number(ends: &[ChainEnd], place: u64) -> usize
+    requires rising { (i j : ℕ) → i < j → j < length ends.now → (chain_end_at ends.now i).at < (chain_end_at ends.now j).at }
+    requires stands { (id : ℕ) × HasChainEnd ends.now id place }
+    ensures inside { result < length ends.now }
+    ensures at { (chain_end_at ends.now result).at ≡ place }
+{
+    match ends.binary_search_by_key(&place, |end| end.at) {
+        Ok(number) => number,
+        // The code stands there.
+        Err(_) => unreachable!(),
+    }
+}
+
+// The new place of what stands at an old place in a unit.
+fn new_place(unit: &Unit<'_>, places: &Places, target: Target, old: u64) -> u64
+    requires placed { HavePlaces unit.now.forest (places_anew places.now) }
+    requires stands { IsTargetAt unit.now.forest target old }
+    ensures moves { MovesTo unit.now.forest (places_anew places.now) old result }
+    ensures after { places.now.start ≤ result }
+{
+    match target {
+        Target::Entry(id) => u64::from(places.entries[id as usize]),
+        Target::ChainEnd(_) => {
+            let number = end_number(unit.forest().chain_ends(), old);
+            u64::from(places.ends[number])
+        }
+    }
+}
+
+// A place of a unit, which counts from the unit's first byte, counted from the section's.
+fn place_in(unit: &Unit<'_>, offset: u64) -> u64
+    requires { (target : Target) × IsTargetAt unit.now.forest target (unit.now.head.at + offset) }
+    ensures { result ≡ unit.now.head.at + offset }
+{
+    // What stands there lies in the section, so that the sum fits.
+    let _section = unit.forest().section();
+    let _entries = unit.forest().entries();
+    unit.head().at + offset
+}
+
+// What a value refers to that means something.
+fn link_of(world: &World<'_>, unit: u32, name: u64, value: &Value) -> Link
+    requires unit { unit < length world.now.units }
+    requires means { MeansSomething world.now unit name value.now }
+    ensures { (file : List ℕ) (r : Reading) (id : ℕ) → Holds file world.now r → Resolves r unit id name (meant_in (unit_at r unit).forest.section value.now) (resolved_by (meant_in (unit_at r unit).forest.section value.now) result) }
+{
+    match world.resolve(unit, name, value) {
+        Some(link) => link,
+        // A valid file has only values that mean something.
+        None => unreachable!(),
+    }
+}
+
+// The new number of a reference that counts from the first byte of its unit.
+fn local_number(world: &World<'_>, places: &Vec<Places>, unit: u32, name: u64, old: u64) -> u64
+    requires unit { unit < length world.now.units }
+    requires placed { AllHavePlaces world.now places.now.items }
+    requires means { MeansSomething world.now unit name (Value.LocalRef old) }
+    ensures { (lines : List ℕ) → IsNumberOf world.now places.now.items lines unit name (Value.LocalRef old) result }
+{
+    match link_of(world, unit, name, &Value::LocalRef(old)) {
+        Link::Place(_, target) => {
+            let own = &world.units()[unit as usize];
+            let new = &places[unit as usize];
+            new_place(own, new, target, place_in(own, old)) - new.start
+        }
+        // A reference names a place in .debug_info.
+        _ => unreachable!(),
+    }
+}
+
+// The new number of a reference that counts from the first byte of .debug_info.
+fn section_number(world: &World<'_>, places: &Vec<Places>, unit: u32, name: u64, old: u64) -> u64
+    requires unit { unit < length world.now.units }
+    requires placed { AllHavePlaces world.now places.now.items }
+    requires means { MeansSomething world.now unit name (Value.SectionRef old) }
+    ensures { (lines : List ℕ) → IsNumberOf world.now places.now.items lines unit name (Value.SectionRef old) result }
+{
+    match link_of(world, unit, name, &Value::SectionRef(old)) {
+        Link::Place(other, target) => {
+            let there = &world.units()[other as usize];
+            new_place(there, &places[other as usize], target, old)
+        }
+        // A reference names a place in .debug_info.
+        _ => unreachable!(),
+    }
+}
+
+// The new number of a section offset: the place of a line number program, else the old number.
+fn offset_number(world: &World<'_>, lines: &Vec<u64>, unit: u32, name: u64, old: u64) -> u64
+    requires unit { unit < length world.now.units }
+    requires lines { HaveLines world.now lines.now.items }
+    requires means { MeansSomething world.now unit name (Value.Offset old) }
+    ensures { (places : List Places) → IsNumberOf world.now places lines.now.items unit name (Value.Offset old) result }
+{
+    match link_of(world, unit, name, &Value::Offset(old)) {
+        Link::Lines(program) => lines[program as usize],
+        Link::Kept(_) => old,
+        // A section offset names a program, or is kept.
+        _ => unreachable!(),
+    }
+}
+
+// The new number of a value, which is 0 where it is no reference and no section offset.
+fn new_number(
+    world: &World<'_>,
+    places: &Vec<Places>,
+    lines: &Vec<u64>,
+    unit: u32,
+    name: u64,
+    value: Value,
+) -> u64
+    requires unit { unit < length world.now.units }
+    requires placed { AllHavePlaces world.now places.now.items }
+    requires lines { HaveLines world.now lines.now.items }
+    requires means { MeansSomething world.now unit name value }
+    ensures { IsNumberOf world.now places.now.items lines.now.items unit name value result }
+{
+    match value {
+        Value::LocalRef(old) => local_number(world, places, unit, name, old),
+        Value::SectionRef(old) => section_number(world, places, unit, name, old),
+        Value::Offset(old) => offset_number(world, lines, unit, name, old),
+        _ => 0,
+    }
+}
+
+// Appends a number, which has to fit 32 bits.
+fn push_number(held: &mut Vec<u64>, number: u64) -> Result<(), NoMemory>
+    ensures pushed { OnOk result (held.new.items ≡ held.old.items ++ number ∷ []) }
+    ensures fits { OnOk result (number < 2 ^ 32) }
+{
+    if number > 0xffff_ffff {
+        return Err(NoMemory);
+    }
+    held.push(number)?;
+    Ok(())
+}
+
+// The name of an attribute of an entry.
+fn name_of(world: &World<'_>, unit: u32, id: u32, column: u32) -> u64
+    requires entry { EntryMeans world.now unit id }
+    requires column { column < (entry_in world.now unit id).count }
+    ensures { result ≡ name_in world.now unit id column }
+{
+    let entry = world.units()[unit as usize].forest().entry(id);
+    let table = world.table_numbers()[unit as usize] as usize;
+    let named = &world.tables()[table];
+    let first = named.table.decl(entry.decl).first;
+    named.table.specs()[first as usize + column as usize].name
+}
+
+// Its value.
+fn value_of(world: &World<'_>, unit: u32, id: u32, column: u32) -> Value
+    requires entry { EntryMeans world.now unit id }
+    requires column { column < (entry_in world.now unit id).count }
+    ensures { result ≡ value_in world.now unit id column }
+{
+    let forest = world.units()[unit as usize].forest();
+    forest.values()[forest.entry(id).first as usize + column as usize]
+}
+
+// Appends the new numbers of an entry's values.
+fn push_numbers(
+    held: &mut Vec<u64>,
+    world: &World<'_>,
+    places: &Vec<Places>,
+    lines: &Vec<u64>,
+    unit: u32,
+    id: u32,
+) -> Result<(), NoMemory>
+    requires entry { EntryMeans world.now unit id }
+    requires placed { AllHavePlaces world.now places.now.items }
+    requires lines { HaveLines world.now lines.now.items }
+    ensures { OnOk result (AreNumbersOf world.now places.now.items lines.now.items unit id held.old.items held.new.items) }
+{
+    let count = world.units()[unit as usize].forest().entry(id).count;
+    for column in 0..count {
+        let name = name_of(world, unit, id, column);
+        let value = value_of(world, unit, id, column);
+        let number = new_number(world, places, lines, unit, name, value);
+        push_number(held, number)?;
+    }
+    Ok(())
+}
+
+// The new numbers of all values of a unit.
+fn new_held(
+    alloc: Global,
+    world: &World<'_>,
+    places: &Vec<Places>,
+    lines: &Vec<u64>,
+    unit: u32,
+) -> Result<Vec<u64>, NoMemory>
+    requires unit { UnitMeans world.now unit }
+    requires placed { AllHavePlaces world.now places.now.items }
+    requires lines { HaveLines world.now lines.now.items }
+    ensures { IfOk result (λ held. AreNumbered world.now places.now.items lines.now.items unit held.items) }
+{
+    let count = world.units()[unit as usize].forest().len();
+    let mut held: Vec<u64> = Vec::new(alloc);
+    for id in 0..count {
+        push_numbers(&mut held, world, places, lines, unit, id)?;
+    }
+    Ok(held)
+}
+
+// The new type_offset of a unit, which is 0 where it is no type unit.
+fn new_type_offset(unit: &Unit<'_>, places: &Places) -> u64
+    requires placed { HavePlaces unit.now.forest (places_anew places.now) }
+    requires typed { HasType unit.now }
+    ensures { IsTypeMoved unit.now (places_anew places.now) result }
+{
+    let head = unit.head();
+    if head.kind != TYPE {
+        return 0;
+    }
+    let number = entry_number(unit.forest().entries(), place_in(unit, head.type_at));
+    u64::from(places.entries[number]) - places.start
+}
+
+/// The new numbers of the unit with a number: the new places of all that its references and section offsets name. `lines` are the
+/// new places of the line number programs. The only error is want of memory, which also answers a number that doesn't fit the 32
+/// bits of an offset.
+pub fn new_numbers(
+    alloc: Global,
+    world: &World<'_>,
+    tables: &Vec<NewTable>,
+    places: &Vec<Places>,
+    lines: &Vec<u64>,
+    unit: u32,
+) -> Result<NewNumbers, NoMemory>
+    requires world { (reach : Reach) × IsWorldOf world.now.image reach world.now }
+    requires unit { unit < length world.now.units }
+    requires tables { (abbrevs : List ℕ) × (length abbrevs < 2 ^ 32) × AreTablesWritten world.now abbrevs tables.now.items }
+    requires places { (size : ℕ) × ArePlacesOf world.now tables.now.items places.now.items size }
+    requires lines { (length lines.now.items ≡ length world.now.programs) × All (λ start. start < 2 ^ 32) lines.now.items }
+    ensures numbers { IfOk result (λ new. (file : List ℕ) (r : Reading) → Holds file world.now r → AreNewNumbers world.now r tables.now.items places.now.items lines.now.items unit new) }
+{
+    let held = new_held(alloc, world, places, lines, unit)?;
+    let own = &world.units()[unit as usize];
+    let new = &places[unit as usize];
+    let table = world.table_numbers()[unit as usize] as usize;
+    Ok(NewNumbers {
+        end: new.end,
+        table: tables[table].at,
+        type_offset: new_type_offset(own, new),
+        held,
+    })
+}

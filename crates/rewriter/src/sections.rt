@@ -1,0 +1,59 @@
+// The sections of a file that are written anew.
+ghost use Rattle.std.specs.Prelude.{◌≡◌, ◌<◌, ℕ, List, IfOk};
+ghost use Rattle.dw_base.specs.declared.fault.Reach.TheVariants.{Narrow};
+ghost use Rattle.line_write.specs.Least.{LeastLines, OrderedLines};
+ghost use Rattle.value_links.specs.Sections.{debug_line};
+ghost use Rattle.value_links.specs.Reading.{Reading};
+ghost use Rattle.value_links.specs.World.{Holds, IsWorldOf};
+ghost use Rattle.rewriter.specs.Sections.{AreFor};
+ghost use Rattle.rewriter.specs.Anew.{AreAnew};
+
+use crate::anew::{fitting, write_aranges, write_lines};
+use crate::places::place_units;
+use crate::tables::write_tables;
+use crate::units::write_units;
+use abbrev_tables::listings;
+use dw_base::NoMemory;
+use std::alloc::Global;
+use unit_write::values_have_sizes;
+use value_links::World;
+
+/// The new bodies of the debug sections that are written anew. One that the file lacks is empty.
+#[derive(Drop)]
+pub struct NewSections {
+    /// .debug_info
+    pub info: Vec<u8>,
+    /// .debug_abbrev
+    pub abbrevs: Vec<u8>,
+    /// .debug_line
+    pub lines: Vec<u8>,
+    /// .debug_aranges
+    pub aranges: Vec<u8>,
+}
+
+/// Writes the debug sections of a file anew: its line number programs, then its abbreviation tables, then its units, and the sets
+/// of address ranges that name these. The only error is want of memory, which comes too where a section would have the 2^32 - 1
+/// bytes that one of the 32-bit format can't have (DWARF 5 section 7.4).
+pub fn write_sections(alloc: Global, world: &World<'_>) -> Result<NewSections, NoMemory>
+    requires world { IsWorldOf world.now.image Narrow world.now }
+    ensures anew { IfOk result (λ new. (r : Reading) → Holds world.now.image world.now r → (s : Reading) × AreAnew world.now.image world.now r s new) }
+    ensures sections { IfOk result (λ new. AreFor world.now.image new) }
+    ensures least { IfOk result (λ new. LeastLines (debug_line world.now.image) new.lines.items) }
+    ensures order { IfOk result (λ new. OrderedLines (debug_line world.now.image) new.lines.items) }
+{
+    // Laws, which cost nothing: what was read of a unit can be written, and declarations stand where they are listed.
+    values_have_sizes();
+    listings();
+    let lines = write_lines(alloc, world)?;
+    let tables = write_tables(alloc, world)?;
+    let places = place_units(alloc, world, &tables.tables)?;
+    let info = fitting(write_units(alloc, world, &tables, &places, &lines.starts)?)?;
+    let aranges = write_aranges(alloc, world, &places)?;
+    let programs = fitting(lines.bytes)?;
+    Ok(NewSections {
+        info,
+        abbrevs: tables.bytes,
+        lines: programs,
+        aranges,
+    })
+}

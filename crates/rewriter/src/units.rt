@@ -1,0 +1,76 @@
+// Units written anew.
+ghost use Rattle.std.specs.Prelude.{◌≡◌, ◌<◌, ◌^◌, ℕ, List, IfOk, OnOk, length};
+ghost use Rattle.std.specs.List.{All};
+ghost use Rattle.dw_base.specs.declared.fault.Reach.{Reach};
+ghost use Rattle.leb_codec.specs.Digits.{Extends};
+ghost use Rattle.entry_read.specs.Heads.{least_reserved};
+ghost use Rattle.value_links.specs.Reading.{UnitRead, Reading};
+ghost use Rattle.value_links.specs.World.{IsWorldOf, Holds};
+ghost use Rattle.rewriter.specs.Tables.{AreTablesWritten};
+ghost use Rattle.rewriter.specs.Placed.{places_at, AreWritable, ArePlacesOf};
+ghost use Rattle.rewriter.specs.Units.{AreUnitsWritten};
+ghost use Rattle.rewriter.specs.Held.{IsUnitBehind};
+
+use crate::numbers::new_numbers;
+use crate::tables::Tables;
+use dw_base::NoMemory;
+use std::alloc::Global;
+use unit_write::{Places, write_unit};
+use value_links::World;
+
+// Appends the unit with a number, at its new place.
+fn write_numbered(
+    alloc: Global,
+    info: &mut Vec<u8>,
+    world: &World<'_>,
+    tables: &Tables,
+    places: &Vec<Places>,
+    lines: &Vec<u64>,
+    number: u32,
+) -> Result<(), NoMemory>
+    requires world { (reach : Reach) × IsWorldOf world.now.image reach world.now }
+    requires known { number < length world.now.units }
+    requires tables { AreTablesWritten world.now tables.now.bytes.items tables.now.tables.items }
+    requires narrow { length tables.now.bytes.items < 2 ^ 32 }
+    requires writable { AreWritable world.now tables.now.tables.items }
+    requires places { (size : ℕ) × ArePlacesOf world.now tables.now.tables.items places.now.items size }
+    requires lines { (length lines.now.items ≡ length world.now.programs) × All (λ start. start < 2 ^ 32) lines.now.items }
+    requires behind { length info.old.items ≡ (places_at places.now.items number).start }
+    ensures written { OnOk result (IsUnitBehind world.now tables.now.tables.items places.now.items lines.now.items number info.new.items) }
+    ensures behind { OnOk result (Extends info.old.items info.new.items) }
+{
+    let new = new_numbers(alloc, world, &tables.tables, places, lines, number)?;
+    let table = world.table_numbers()[number as usize] as usize;
+    let unit = &world.units()[number as usize];
+    let old = &world.tables()[table];
+    let anew = &tables.tables[table];
+    write_unit(info, unit, &old.table, &anew.columns, &anew.numbers, &new)?;
+    Ok(())
+}
+
+/// Writes the units of a file anew, as the new .debug_info (DWARF 5 section 7.5), at these places. `lines` are the new places of
+/// the line number programs. The only error is want of memory.
+pub fn write_units(
+    alloc: Global,
+    world: &World<'_>,
+    tables: &Tables,
+    places: &Vec<Places>,
+    lines: &Vec<u64>,
+) -> Result<Vec<u8>, NoMemory>
+    requires world { (reach : Reach) × IsWorldOf world.now.image reach world.now }
+    requires tables { AreTablesWritten world.now tables.now.bytes.items tables.now.tables.items }
+    requires narrow { length tables.now.bytes.items < 2 ^ 32 }
+    requires writable { AreWritable world.now tables.now.tables.items }
+    requires places { (size : ℕ) × ArePlacesOf world.now tables.now.tables.items places.now.items size }
+    requires lines { (length lines.now.items ≡ length world.now.programs) × All (λ start. start < 2 ^ 32) lines.now.items }
+    ensures written { IfOk result (λ info. (file : List ℕ) (r : Reading) → Holds file world.now r → (units : List UnitRead) × AreUnitsWritten world.now r tables.now.tables.items places.now.items lines.now.items info.items tables.now.bytes.items units) }
+{
+    let mut info: Vec<u8> = Vec::new(alloc);
+    for number in 0..world.units().len() {
+        let Ok(number) = u32::try_from(number) else {
+            return Err(NoMemory);
+        };
+        write_numbered(alloc, &mut info, world, tables, places, lines, number)?;
+    }
+    Ok(info)
+}
