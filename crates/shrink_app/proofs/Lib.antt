@@ -1,4 +1,2 @@
 pub mod Fronts
 pub mod Shrinks
-pub mod Rewrites
-pub mod Lines

@@ -4,7 +4,6 @@
 mod ending;
 mod reading;
 mod real_host;
-mod rewrite;
 mod run;
 mod saying;
 mod shrink;

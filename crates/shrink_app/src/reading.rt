@@ -2,11 +2,13 @@
 ghost use Rattle.std.specs.Prelude.{◌≡◌, ◌≢◌, ◌≤◌, ◌<◌, ◌+◌, ◌^◌, ℕ, List, [], ◌++◌, length, take, vec_len, option_map, IfOk, IfErr, OnOk};
 ghost use Rattle.std.specs.Option.{ForSome};
 ghost use Rattle.dw_base.specs.Host.{Rose};
-ghost use Rattle.shrink_app.specs.Run.{OnlyReadFault, IsReadOn};
+ghost use Rattle.shrink_app.specs.declared.ending.Ending.TheVariants.{WriteFault};
+ghost use Rattle.shrink_app.specs.Run.{OnlyReadFault, HasReadCause, IsReadOn, EndsByFault};
 
 use crate::ending::Ending;
-use dw_base::{Host, Stop};
+use dw_base::{Fault, Host, Kind, Stop};
 use std::alloc::Global;
+use value_links::first_faults_decide;
 
 // The length past which a file isn't read on, since it is refused.
 const FILE_LIMIT: usize = 1 << 30;
@@ -49,8 +51,8 @@ fn zeros(alloc: Global, count: usize) -> Result<Vec<u8>, Ending>
     Ok(vec![in alloc; 0u8; count]?)
 }
 
-/// The bytes of a file, to its end or to one past the limit.
-pub fn read_file<H: Host>(alloc: Global, name: &str, host: &mut H) -> Result<Vec<u8>, Ending>
+// The bytes of a file, to its end or to one past the limit.
+fn read_file<H: Host>(alloc: Global, name: &str, host: &mut H) -> Result<Vec<u8>, Ending>
     ensures read { IfOk result (λ file. ForSome (H.bytes host.old name.now) (λ b. file.items ≡ take (2 ^ 30 + 1) b)) }
     ensures files { (f : List ℕ) → H.bytes host.new f ≡ H.bytes host.old f }
     ensures said { H.said host.new ≡ H.said host.old }
@@ -65,6 +67,32 @@ pub fn read_file<H: Host>(alloc: Global, name: &str, host: &mut H) -> Result<Vec
         if read_on(host, name, &mut piece[..room], &mut file)? == 0 {
             return Ok(file);
         }
+    }
+    Ok(file)
+}
+
+/// The bytes of a file that isn't longer than its limit; a longer one is refused as Limit at 0, whatever its first bytes are.
+pub fn read_input<H: Host>(alloc: Global, name: &str, host: &mut H) -> Result<Vec<u8>, Ending>
+    ensures read { IfOk result (λ file. ForSome (H.bytes host.old name.now) (λ b. file.items ≡ b)) }
+    ensures refused { EndsByFault (H.bytes host.old name.now) result }
+    ensures unwritten { IfErr result (λ ending. ending ≡ WriteFault → ⊥) }
+    ensures files { (f : List ℕ) → H.bytes host.new f ≡ H.bytes host.old f }
+    ensures said { H.said host.new ≡ H.said host.old }
+    ensures reads { HasReadCause (H.read_faults host.old name.now) (H.read_faults host.new name.now) result }
+    ensures writes { (f : List ℕ) → H.write_faults host.new f ≡ H.write_faults host.old f }
+    ensures says { H.say_faults host.new ≡ H.say_faults host.old }
+{
+    let file = match read_file(alloc, name, host) {
+        Ok(file) => file,
+        Err(ending) => return Err(ending),
+    };
+    // A law, which costs nothing: a fault of the first pass is one of the file.
+    first_faults_decide();
+    if file.len() > FILE_LIMIT {
+        return Err(Ending::Refused(Fault {
+            kind: Kind::Limit,
+            place: 0,
+        }));
     }
     Ok(file)
 }

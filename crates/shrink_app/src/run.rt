@@ -2,7 +2,11 @@
 ghost use Rattle.std.specs.Prelude.{◌≡◌, ◌≢◌, ◌≤◌, ◌<◌, ◌⊎◌, ◌++◌, ℕ, List, IfSome, IfNone, IsSomeAnd, IsNone, MatchOption, Some, option_map, codes};
 ghost use Rattle.std.specs.Option.{ForSome};
 ghost use Rattle.dw_base.specs.Host.{Rose, AddsPart};
-ghost use Rattle.shrink_app.specs.File.{IsValid, Same, HasLeastLines, HasOrderedLines, IsPlaced};
+ghost use Rattle.value_links.specs.Same.{Same};
+ghost use Rattle.rewriter.specs.Sections.{IsPlaced};
+ghost use Rattle.rewriter.specs.Anew.{HaveLeastCodes};
+ghost use Rattle.rewriter.specs.Tidy.{IsTidy};
+ghost use Rattle.shrink_app.specs.File.{IsValid, StaysValid, HasLeastLines, HasOrderedLines};
 ghost use Rattle.shrink_app.specs.Words.{asked};
 ghost use Rattle.shrink_app.specs.Run.{Writes};
 ghost use Rattle.shrink_app.specs.Said.{SaysFault, SaysPart};
@@ -49,8 +53,11 @@ pub fn run<H: Host>(alloc: Global, words: &Vec<String>, host: &mut H) -> u8
     // The work was done.
     ensures done { result ≡ 0 → IsSomeAnd (asked words.now.items) (λ n. ForSome (H.bytes host.old n.0) IsValid) }
     ensures same { result ≡ 0 → IsSomeAnd (asked words.now.items) (λ n. Writes Same (H.bytes host.old) (H.bytes host.new) n.0 n.1) }
+    ensures still_valid { result ≡ 0 → IsSomeAnd (asked words.now.items) (λ n. Writes StaysValid (H.bytes host.old) (H.bytes host.new) n.0 n.1) }
     ensures least { result ≡ 0 → IsSomeAnd (asked words.now.items) (λ n. Writes HasLeastLines (H.bytes host.old) (H.bytes host.new) n.0 n.1) }
     ensures order { result ≡ 0 → IsSomeAnd (asked words.now.items) (λ n. Writes HasOrderedLines (H.bytes host.old) (H.bytes host.new) n.0 n.1) }
+    ensures codes { result ≡ 0 → IsSomeAnd (asked words.now.items) (λ n. Writes HaveLeastCodes (H.bytes host.old) (H.bytes host.new) n.0 n.1) }
+    ensures tidy { result ≡ 0 → IsSomeAnd (asked words.now.items) (λ n. Writes IsTidy (H.bytes host.old) (H.bytes host.new) n.0 n.1) }
     ensures placed { result ≡ 0 → IsSomeAnd (asked words.now.items) (λ n. Writes IsPlaced (H.bytes host.old) (H.bytes host.new) n.0 n.1) }
 
     // What was said where nothing else tells: nothing after the work and a read fault, and in place of another answer

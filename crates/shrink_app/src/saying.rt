@@ -6,7 +6,7 @@ ghost use Rattle.shrink_app.specs.Said.{refusal_text, SaysOrStops};
 use dw_base::{Fault, Host, Stop};
 use std::alloc::{AllocError, Global};
 
-// Says a text, and gives the status, or that of a failed message.
+/// Says a text, and gives the status, or that of a failed message.
 pub fn say<H: Host>(host: &mut H, text: &[u8], status: u8) -> u8
     requires { (status ≡ 2) ⊎ (status ≡ 3) }
     ensures said { result ≡ status → H.said host.new ≡ option_map (λ b. b ++ text.now) (H.said host.old) }
@@ -23,7 +23,7 @@ pub fn say<H: Host>(host: &mut H, text: &[u8], status: u8) -> u8
     }
 }
 
-// The line that names a fault.
+/// The line that names a fault.
 pub fn text_of(alloc: Global, fault: Fault) -> Result<String, AllocError>
     ensures { IfOk result (λ text. string_bytes text ≡ refusal_text fault.kind fault.place) }
 {

@@ -2,22 +2,29 @@
 ghost use Rattle.std.specs.Prelude.{◌≡◌, ◌≢◌, ◌≤◌, ◌<◌, ◌+◌, ◌^◌, ◌⊎◌, ℕ, List, [], ◌++◌, length, Some, OnOk};
 ghost use Rattle.std.specs.Option.{ForSome};
 ghost use Rattle.dw_base.specs.Host.{Rose};
-ghost use Rattle.shrink_app.specs.File.{IsValid, Same, HasLeastLines, HasOrderedLines, IsPlaced};
+ghost use Rattle.value_links.specs.Same.{Same};
+ghost use Rattle.rewriter.specs.Sections.{IsPlaced};
+ghost use Rattle.rewriter.specs.Anew.{HaveLeastCodes};
+ghost use Rattle.rewriter.specs.Tidy.{IsTidy};
+ghost use Rattle.shrink_app.specs.File.{IsValid, StaysValid, HasLeastLines, HasOrderedLines};
 ghost use Rattle.shrink_app.specs.Run.{HasReadCause, HasWriteCause, Writes, LeavesFiles, EndsByFault};
 
 use crate::ending::Ending;
-use crate::reading::read_file;
-use crate::rewrite::rewrite;
+use crate::reading::read_input;
 use crate::writing::write_file;
 use dw_base::Host;
+use rewriter::rewrite;
 use std::alloc::Global;
 
 /// Reads the input, and writes the output.
 pub fn shrink<H: Host>(alloc: Global, input: &str, output: &str, host: &mut H) -> Result<(), Ending>
     ensures valid { OnOk result (ForSome (H.bytes host.old input.now) IsValid) }
     ensures same { OnOk result (Writes Same (H.bytes host.old) (H.bytes host.new) input.now output.now) }
+    ensures still_valid { OnOk result (Writes StaysValid (H.bytes host.old) (H.bytes host.new) input.now output.now) }
     ensures least { OnOk result (Writes HasLeastLines (H.bytes host.old) (H.bytes host.new) input.now output.now) }
     ensures order { OnOk result (Writes HasOrderedLines (H.bytes host.old) (H.bytes host.new) input.now output.now) }
+    ensures codes { OnOk result (Writes HaveLeastCodes (H.bytes host.old) (H.bytes host.new) input.now output.now) }
+    ensures tidy { OnOk result (Writes IsTidy (H.bytes host.old) (H.bytes host.new) input.now output.now) }
     ensures placed { OnOk result (Writes IsPlaced (H.bytes host.old) (H.bytes host.new) input.now output.now) }
     ensures refused { EndsByFault (H.bytes host.old input.now) result }
     ensures files { LeavesFiles (H.bytes host.old) (H.bytes host.new) result }
@@ -29,7 +36,7 @@ pub fn shrink<H: Host>(alloc: Global, input: &str, output: &str, host: &mut H) -
     ensures writes { HasWriteCause (H.write_faults host.old output.now) (H.write_faults host.new output.now) result }
     ensures says { H.say_faults host.new ≡ H.say_faults host.old }
 {
-    let file = read_file(alloc, input, host)?;
+    let file = read_input(alloc, input, host)?;
     let written = rewrite(alloc, &file)?;
     write_file(output, &written, host)
 }

@@ -122,6 +122,7 @@ enum Held {
     NoSections,
     Texts,
     LinesAndTexts,
+    LeastLinesAndTexts,
     CutLines,
     HighByteFirst,
     Nothing,
@@ -133,6 +134,12 @@ fn bytes_of(alloc: Global, held: Held) -> Result<Vec<u8>, AllocError> {
         Held::NoSections => elf_file(alloc, &[]),
         Held::Texts => elf_file(alloc, &[(".debug_str", &[0])]),
         Held::LinesAndTexts => elf_file(alloc, &[(".debug_line", &TWO_ROWS), (".debug_str", &[0])]),
+        Held::LeastLinesAndTexts => {
+            elf_file(
+                alloc,
+                &[(".debug_line", &LEAST_TWO_ROWS), (".debug_str", &[0])],
+            )
+        }
         Held::CutLines => elf_file(alloc, &[(".debug_line", &TWO_ROWS[..51])]),
         Held::HighByteFirst => {
             let mut bytes = elf_file(alloc, &[])?;
@@ -176,25 +183,25 @@ fn files_in_memory(rt: HostRuntime) -> Result<(), Fail> {
             &["shrink", "a", "b"],
             Some(Held::LinesAndTexts),
             &[],
-            3,
-            "refused Unbuilt at 116\n",
-            Held::TwoBytes,
+            0,
+            "",
+            Held::LeastLinesAndTexts,
         ),
         (
             &["shrink", "a", "b"],
             Some(Held::CutLines),
             &[],
             3,
-            "refused Unbuilt at 0\n",
+            "refused Short at 64\n",
             Held::TwoBytes,
         ),
         (
             &["shrink", "a", "b"],
             Some(Held::Texts),
             &[],
-            3,
-            "refused Unbuilt at 64\n",
-            Held::TwoBytes,
+            0,
+            "",
+            Held::Texts,
         ),
         (
             &["shrink", "a", "b"],
@@ -267,21 +274,33 @@ fn many_rows(alloc: Global) -> Result<Vec<u8>, AllocError> {
     Ok(section)
 }
 
-// What is written for a file with these line number programs, or nothing where it isn't done.
-fn written_for(alloc: Global, section: &[u8]) -> Result<Vec<u8>, AllocError> {
+// The answer of the program for a file with these sections: its status, what it says, and the output, which has two bytes before.
+#[derive(Drop)]
+struct Answer {
+    status: u8,
+    said: Vec<u8>,
+    output: Vec<u8>,
+}
+
+fn answer_for(alloc: Global, sections: &[(&str, &[u8])]) -> Result<Answer, AllocError> {
     let mut files = Vec::new(alloc);
     files.push(NamedFile {
         name: String::from_str(alloc, "a")?,
-        bytes: elf_file(alloc, &[(".debug_line", section)])?,
+        bytes: elf_file(alloc, sections)?,
     })?;
     add_file(alloc, &mut files, "b", Held::TwoBytes)?;
     let mut host = MemHost::new(alloc, files, Vec::new(alloc));
     let words = words_of(alloc, &["shrink", "a", "b"])?;
     let status = run(alloc, &words, &mut host);
-    match host.file("b") {
-        Some(bytes) if status == 0 => bytes.as_slice().to_vec(alloc),
-        _ => Ok(Vec::new(alloc)),
-    }
+    let output = match host.file("b") {
+        Some(bytes) => bytes.as_slice().to_vec(alloc)?,
+        None => Vec::new(alloc),
+    };
+    Ok(Answer {
+        status,
+        said: host.said().as_slice().to_vec(alloc)?,
+        output,
+    })
 }
 
 #[test]
@@ -297,10 +316,169 @@ fn line_programs(rt: HostRuntime) -> Result<(), Fail> {
         (&many, &many),
     ];
     for (section, least) in table {
-        let written = written_for(alloc, section)?;
+        let answer = answer_for(alloc, &[(".debug_line", section)])?;
         let want = elf_file(alloc, &[(".debug_line", least)])?;
-        assert_eq!(rt; written.as_slice(), want.as_slice());
+        assert_eq!(rt; answer.status, 0);
+        assert_eq!(rt; answer.output.as_slice(), want.as_slice());
     }
+    Ok(())
+}
+
+// A compilation unit with children: a variable, with a reference (DW_FORM_ref4) and a block, and a base type.
+const TABLE: [u8; 20] = [
+    1, 0x11, 1, 0, 0, 2, 0x34, 0, 0x49, 0x13, 0x1c, 0x0a, 0, 0, 3, 0x24, 0, 0, 0, 0,
+];
+
+// Units by that table: the block has 111 bytes 0, and so many bytes 0 follow the tree.
+fn unit(alloc: Global, length: u8, padding: usize) -> Result<Vec<u8>, AllocError> {
+    let mut bytes = [
+        length, 0, 0, 0, 5, 0, 1, 8, 0, 0, 0, 0, 1, 2, 0x82, 0, 0, 0, 0x6f,
+    ]
+    .to_vec(alloc)?;
+    bytes.extend_from_slice(&[0; 111])?;
+    bytes.extend_from_slice(&[3, 0])?;
+    for _ in 0..padding {
+        bytes.push(0)?;
+    }
+    Ok(bytes)
+}
+
+// A set of address ranges of a unit at a place, without ranges.
+fn set(alloc: Global, place: u8) -> Result<Vec<u8>, AllocError> {
+    let mut bytes = [0x1c, 0, 0, 0, 2, 0, place, 0, 0, 0, 8, 0].to_vec(alloc)?;
+    bytes.extend_from_slice(&[0; 20])?;
+    Ok(bytes)
+}
+
+fn joined(alloc: Global, one: &[u8], other: &[u8]) -> Result<Vec<u8>, AllocError> {
+    let mut bytes = one.to_vec(alloc)?;
+    bytes.extend_from_slice(other)?;
+    Ok(bytes)
+}
+
+// A variable whose DW_AT_sibling is the end of the children of its parent.
+const SIBLING_TABLE: [u8; 13] = [1, 0x11, 1, 0, 0, 2, 0x34, 0, 1, 0x13, 0, 0, 0];
+
+const SIBLING: [u8; 19] = [
+    0x0f, 0, 0, 0, 5, 0, 1, 8, 0, 0, 0, 0, 1, 2, 0x12, 0, 0, 0, 0,
+];
+
+// The code 129 in two bytes.
+const CODE_TABLE: [u8; 7] = [0x81, 1, 0x11, 0, 0, 0, 0];
+
+const CODE: [u8; 14] = [0x0a, 0, 0, 0, 5, 0, 1, 8, 0, 0, 0, 0, 0x81, 1];
+
+// A file with these sections.
+fn debug_file<'a>(
+    alloc: Global,
+    info: &'a [u8],
+    abbrevs: &'a [u8],
+    sets: &'a [u8],
+) -> Result<Vec<u8>, AllocError> {
+    elf_file(
+        alloc,
+        &[
+            (".debug_info", info),
+            (".debug_abbrev", abbrevs),
+            (".debug_aranges", sets),
+        ],
+    )
+}
+
+// The answer of the program for such a file.
+fn debug_answer<'a>(
+    alloc: Global,
+    info: &'a [u8],
+    abbrevs: &'a [u8],
+    sets: &'a [u8],
+) -> Result<Answer, AllocError> {
+    answer_for(
+        alloc,
+        &[
+            (".debug_info", info),
+            (".debug_abbrev", abbrevs),
+            (".debug_aranges", sets),
+        ],
+    )
+}
+
+#[test]
+fn units_written(rt: HostRuntime) -> Result<(), Fail> {
+    let alloc = rt.alloc();
+    let one = unit(alloc, 0x80, 0)?;
+    let answer = debug_answer(alloc, &one, &TABLE, &[])?;
+    let want = debug_file(alloc, &one, &TABLE, &[])?;
+    assert_eq!(rt; answer.status, 0);
+    assert_eq!(rt; answer.output.as_slice(), want.as_slice());
+    Ok(())
+}
+
+#[test]
+fn padding_dropped(rt: HostRuntime) -> Result<(), Fail> {
+    let alloc = rt.alloc();
+    let one = unit(alloc, 0x80, 0)?;
+    let padded = joined(alloc, &unit(alloc, 0x83, 3)?, &one)?;
+    let sets = joined(alloc, &set(alloc, 0)?, &set(alloc, 135)?)?;
+    let answer = debug_answer(alloc, &padded, &TABLE, &sets)?;
+    let new_sets = joined(alloc, &set(alloc, 0)?, &set(alloc, 132)?)?;
+    let want = debug_file(alloc, &joined(alloc, &one, &one)?, &TABLE, &new_sets)?;
+    assert_eq!(rt; answer.status, 0);
+    assert_eq!(rt; answer.output.as_slice(), want.as_slice());
+    Ok(())
+}
+
+#[test]
+fn sibling_at_the_end_of_a_chain(rt: HostRuntime) -> Result<(), Fail> {
+    let alloc = rt.alloc();
+    let answer = debug_answer(alloc, &SIBLING, &SIBLING_TABLE, &[])?;
+    let want = debug_file(alloc, &SIBLING, &SIBLING_TABLE, &[])?;
+    assert_eq!(rt; answer.status, 0);
+    assert_eq!(rt; answer.output.as_slice(), want.as_slice());
+    let mut past = SIBLING;
+    past[14] = 0x13;
+    let refused = debug_answer(alloc, &past, &SIBLING_TABLE, &[])?;
+    assert_eq!(rt; refused.status, 3);
+    assert_eq!(rt;
+        refused.said.as_slice(),
+        b"refused Target at 78\n".as_slice()
+    );
+    Ok(())
+}
+
+#[test]
+fn code_shortened(rt: HostRuntime) -> Result<(), Fail> {
+    let alloc = rt.alloc();
+    let answer = debug_answer(alloc, &CODE, &CODE_TABLE, &[])?;
+    let info = [9u8, 0, 0, 0, 5, 0, 1, 8, 0, 0, 0, 0, 1];
+    let want = debug_file(alloc, &info, &[1, 0x11, 0, 0, 0, 0], &[])?;
+    assert_eq!(rt; answer.status, 0);
+    assert_eq!(rt; answer.output.as_slice(), want.as_slice());
+    Ok(())
+}
+
+#[test]
+fn other_version_refused(rt: HostRuntime) -> Result<(), Fail> {
+    let alloc = rt.alloc();
+    let mut old = unit(alloc, 0x80, 0)?;
+    if let Some(byte) = old.get_mut(4) {
+        *byte = 4;
+    }
+    let answer = debug_answer(alloc, &old, &TABLE, &[])?;
+    assert_eq!(rt; answer.status, 3);
+    assert_eq!(rt;
+        answer.said.as_slice(),
+        b"refused UnitHead at 64\n".as_slice()
+    );
+    let macros = answer_for(alloc, &[(".debug_macro", &[0, 0, 0, 0])])?;
+    assert_eq!(rt;
+        macros.said.as_slice(),
+        b"refused Companion at 64\n".as_slice()
+    );
+    let lists = answer_for(alloc, &[(".debug_rnglists", &[0])])?;
+    assert_eq!(rt;
+        lists.said.as_slice(),
+        b"refused Unbuilt at 64\n".as_slice()
+    );
     Ok(())
 }
 

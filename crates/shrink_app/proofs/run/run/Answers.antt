@@ -14,12 +14,12 @@ pub returns-in-Ok-text_of-clause-write_fault : goal.returns-in-Ok-text_of-clause
 returns-in-Ok-text_of-clause-write_fault g c = λ five.
     let named = rw c.in-Err-Refused.field-0-is at c.in-Err-Refused.ensures.refused in
     let rose = rw c.shrink.ensures.says at c.say-in-Ok-text_of.ensures.answer.failed five in
-    rw (← c.in-Some.ensures) (inr (rose, λ file told valid. valid _ _ (named file told)))
+    rw (← c.in-Some.ensures) (inr (rose, λ file told valid. let fault = named file told in valid fault.pass _ _ fault.fault))
 
 pub returns-in-Ok-text_of-clause-complete : goal.returns-in-Ok-text_of-clause-complete
 returns-in-Ok-text_of-clause-complete g c =
     let named = rw c.in-Err-Refused.field-0-is at c.in-Err-Refused.ensures.refused in
-    rw (← c.in-Some.ensures) (λ file told valid still quiet. absurd (valid _ _ (named file told)))
+    rw (← c.in-Some.ensures) (λ file told valid still quiet. let fault = named file told in absurd (valid fault.pass _ _ fault.fault))
 
 pub returns-in-Ok-text_of-clause-faulty_unwritten : goal.returns-in-Ok-text_of-clause-faulty_unwritten
 returns-in-Ok-text_of-clause-faulty_unwritten g c =

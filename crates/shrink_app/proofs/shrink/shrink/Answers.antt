@@ -1,6 +1,10 @@
 use Rattle.std.proofs.Common.{sym}
 use Rattle.std.proofs.lemmas.Result.{err_from_is_err_and, on_ok_weaker}
-use Rattle.shrink_app.specs.File.{Same, HasLeastLines, HasOrderedLines, IsPlaced}
+use Rattle.value_links.specs.Same.{Same}
+use Rattle.rewriter.specs.Sections.{IsPlaced}
+use Rattle.rewriter.specs.Anew.{HaveLeastCodes}
+use Rattle.rewriter.specs.Tidy.{IsTidy}
+use Rattle.shrink_app.specs.File.{StaysValid, HasLeastLines, HasOrderedLines}
 use Rattle.shrink_app.proofs.Shrinks.{refusal_named, valid_read, front_written, no_fault}
 use Rattle.shrink_app.proofs.shrink.shrink.Goals as goal
 
@@ -17,31 +21,45 @@ returns-clause-valid g c =
 
 pub returns-clause-same : goal.returns-clause-same
 returns-clause-same g c =
-    let valid = rw c.deref.ensures.value at c.in_ok-written.ensures.valid in
     let holds = rw (c.deref.ensures.value, sym c.deref-2.ensures.value) at c.in_ok-written.ensures.same in
     let bytes = g.H.Host.bytes in
-    on_ok_weaker c.write_file.result (λ put. front_written Same (bytes c.args.host.now) (bytes c.read_file.new.host) (bytes c.write_file.new.host) c.args.input.now c.args.output.now c.in_ok-file.file.items c.deref-2.result.now c.in_ok-file.ensures.read valid holds (c.read_file.ensures.files c.args.output.now) put) c.write_file.ensures.written
+    on_ok_weaker c.write_file.result (λ put. front_written Same (bytes c.args.host.now) (bytes c.read_input.new.host) (bytes c.write_file.new.host) c.args.input.now c.args.output.now c.in_ok-file.file.items c.deref-2.result.now c.in_ok-file.ensures.read holds (c.read_input.ensures.files c.args.output.now) put) c.write_file.ensures.written
+
+pub returns-clause-still_valid : goal.returns-clause-still_valid
+returns-clause-still_valid g c =
+    let holds = rw (sym c.deref-2.ensures.value) at c.in_ok-written.ensures.still_valid in
+    let bytes = g.H.Host.bytes in
+    on_ok_weaker c.write_file.result (λ put. front_written StaysValid (bytes c.args.host.now) (bytes c.read_input.new.host) (bytes c.write_file.new.host) c.args.input.now c.args.output.now c.in_ok-file.file.items c.deref-2.result.now c.in_ok-file.ensures.read holds (c.read_input.ensures.files c.args.output.now) put) c.write_file.ensures.written
 
 pub returns-clause-least : goal.returns-clause-least
 returns-clause-least g c =
-    let valid = rw c.deref.ensures.value at c.in_ok-written.ensures.valid in
     let holds = rw (c.deref.ensures.value, sym c.deref-2.ensures.value) at c.in_ok-written.ensures.least in
     let bytes = g.H.Host.bytes in
-    on_ok_weaker c.write_file.result (λ put. front_written HasLeastLines (bytes c.args.host.now) (bytes c.read_file.new.host) (bytes c.write_file.new.host) c.args.input.now c.args.output.now c.in_ok-file.file.items c.deref-2.result.now c.in_ok-file.ensures.read valid holds (c.read_file.ensures.files c.args.output.now) put) c.write_file.ensures.written
+    on_ok_weaker c.write_file.result (λ put. front_written HasLeastLines (bytes c.args.host.now) (bytes c.read_input.new.host) (bytes c.write_file.new.host) c.args.input.now c.args.output.now c.in_ok-file.file.items c.deref-2.result.now c.in_ok-file.ensures.read holds (c.read_input.ensures.files c.args.output.now) put) c.write_file.ensures.written
 
 pub returns-clause-order : goal.returns-clause-order
 returns-clause-order g c =
-    let valid = rw c.deref.ensures.value at c.in_ok-written.ensures.valid in
     let holds = rw (c.deref.ensures.value, sym c.deref-2.ensures.value) at c.in_ok-written.ensures.order in
     let bytes = g.H.Host.bytes in
-    on_ok_weaker c.write_file.result (λ put. front_written HasOrderedLines (bytes c.args.host.now) (bytes c.read_file.new.host) (bytes c.write_file.new.host) c.args.input.now c.args.output.now c.in_ok-file.file.items c.deref-2.result.now c.in_ok-file.ensures.read valid holds (c.read_file.ensures.files c.args.output.now) put) c.write_file.ensures.written
+    on_ok_weaker c.write_file.result (λ put. front_written HasOrderedLines (bytes c.args.host.now) (bytes c.read_input.new.host) (bytes c.write_file.new.host) c.args.input.now c.args.output.now c.in_ok-file.file.items c.deref-2.result.now c.in_ok-file.ensures.read holds (c.read_input.ensures.files c.args.output.now) put) c.write_file.ensures.written
+
+pub returns-clause-codes : goal.returns-clause-codes
+returns-clause-codes g c =
+    let holds = rw (c.deref.ensures.value, sym c.deref-2.ensures.value) at c.in_ok-written.ensures.codes in
+    let bytes = g.H.Host.bytes in
+    on_ok_weaker c.write_file.result (λ put. front_written HaveLeastCodes (bytes c.args.host.now) (bytes c.read_input.new.host) (bytes c.write_file.new.host) c.args.input.now c.args.output.now c.in_ok-file.file.items c.deref-2.result.now c.in_ok-file.ensures.read holds (c.read_input.ensures.files c.args.output.now) put) c.write_file.ensures.written
+
+pub returns-clause-tidy : goal.returns-clause-tidy
+returns-clause-tidy g c =
+    let holds = rw (c.deref.ensures.value, sym c.deref-2.ensures.value) at c.in_ok-written.ensures.tidy in
+    let bytes = g.H.Host.bytes in
+    on_ok_weaker c.write_file.result (λ put. front_written IsTidy (bytes c.args.host.now) (bytes c.read_input.new.host) (bytes c.write_file.new.host) c.args.input.now c.args.output.now c.in_ok-file.file.items c.deref-2.result.now c.in_ok-file.ensures.read holds (c.read_input.ensures.files c.args.output.now) put) c.write_file.ensures.written
 
 pub returns-clause-placed : goal.returns-clause-placed
 returns-clause-placed g c =
-    let valid = rw c.deref.ensures.value at c.in_ok-written.ensures.valid in
     let holds = rw (c.deref.ensures.value, sym c.deref-2.ensures.value) at c.in_ok-written.ensures.placed in
     let bytes = g.H.Host.bytes in
-    on_ok_weaker c.write_file.result (λ put. front_written IsPlaced (bytes c.args.host.now) (bytes c.read_file.new.host) (bytes c.write_file.new.host) c.args.input.now c.args.output.now c.in_ok-file.file.items c.deref-2.result.now c.in_ok-file.ensures.read valid holds (c.read_file.ensures.files c.args.output.now) put) c.write_file.ensures.written
+    on_ok_weaker c.write_file.result (λ put. front_written IsPlaced (bytes c.args.host.now) (bytes c.read_input.new.host) (bytes c.write_file.new.host) c.args.input.now c.args.output.now c.in_ok-file.file.items c.deref-2.result.now c.in_ok-file.ensures.read holds (c.read_input.ensures.files c.args.output.now) put) c.write_file.ensures.written
 
 pub returns-clause-faulty_kept : goal.returns-clause-faulty_kept
 returns-clause-faulty_kept g c = λ file told faulty.
