@@ -39,9 +39,10 @@ def uleb(value):
     return bytes(out) + bytes([value])
 
 
-def table():
+def table(declarations):
+    """The bytes of an abbreviation table."""
     out = bytearray()
-    for code, (tag, children, columns) in DECLARATIONS.items():
+    for code, (tag, children, columns) in declarations.items():
         out += uleb(code) + uleb(tag) + bytes([children])
         for name, form in columns:
             out += uleb(name) + uleb(form) + (b"\1" if form == CONSTANT else b"")
@@ -93,7 +94,7 @@ def main():
         for _ in range(options.megabytes):
             out.write(one)
     with open(options.file + ".abbrev", "wb") as out:
-        out.write(table())
+        out.write(table(DECLARATIONS))
 
 
 if __name__ == "__main__":

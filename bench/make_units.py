@@ -1,0 +1,127 @@
+#!/usr/bin/env python3
+"""Writes an ELF file with many units for the measures: entries as a compiler makes them, with references inside the unit and into
+others, and an empty line number program for each unit.
+
+  bench/make_units.py FILE [--megabytes N] [--units N] [--tables N]
+
+Defaults: 100 megabytes of .debug_info in 2,000 units by 20 abbreviation tables. The entries are drawn by a fixed generator, so the
+same words give the same bytes; all units have the same entries. The file keeps the limits and holds nothing that the program
+doesn't rewrite yet.
+"""
+import argparse
+import random
+import struct
+
+from make_entries import table, uleb
+
+STRP, DATA1, DATA2, DATA8, ADDR = 0x0E, 0x0B, 0x05, 0x07, 0x01
+REF4, REFADDR, EXPR, OFFSET, PRESENT, CONSTANT, TEXT = 0x13, 0x10, 0x18, 0x17, 0x19, 0x21, 0x08
+UNIT, FUNCTION, PARAMETER, VARIABLE, BLOCK, STRUCTURE, MEMBER, POINTER, BASE, IMPORT = range(1, 11)
+DECLARATIONS = {
+    UNIT: (0x11, 1, [(0x25, STRP), (0x13, DATA1), (0x03, STRP), (0x11, ADDR), (0x12, DATA8), (0x10, OFFSET)]),
+    FUNCTION: (0x2E, 1, [(0x3F, PRESENT), (0x03, STRP), (0x3A, DATA1), (0x3B, DATA2), (0x49, REF4), (0x11, ADDR), (0x12, DATA8), (0x40, EXPR)]),
+    PARAMETER: (0x05, 0, [(0x03, STRP), (0x3A, CONSTANT), (0x3B, DATA2), (0x49, REF4), (0x02, EXPR)]),
+    VARIABLE: (0x34, 0, [(0x03, TEXT), (0x3A, CONSTANT), (0x3B, DATA2), (0x49, REF4), (0x02, EXPR)]),
+    BLOCK: (0x0B, 1, [(0x11, ADDR), (0x12, DATA8)]),
+    STRUCTURE: (0x13, 1, [(0x03, STRP), (0x0B, DATA1), (0x3A, DATA1), (0x3B, DATA1)]),
+    MEMBER: (0x0D, 0, [(0x03, STRP), (0x3A, CONSTANT), (0x3B, DATA1), (0x49, REF4), (0x38, DATA1)]),
+    POINTER: (0x0F, 0, [(0x0B, CONSTANT), (0x49, REF4)]),
+    BASE: (0x24, 0, [(0x0B, DATA1), (0x3E, DATA1), (0x03, STRP)]),
+    IMPORT: (0x3A, 0, [(0x3A, DATA1), (0x18, REFADDR)]),
+}
+INSIDE = {FUNCTION: [PARAMETER, VARIABLE, BLOCK], STRUCTURE: [MEMBER], BLOCK: [VARIABLE, BLOCK]}
+# a header without opcodes, with line_base -5, line_range 14 and opcode_base 13, and two files
+TABLES = b"\1\1\x08\1/\0\1\1\x08\2a\0b\0"
+PROGRAM = struct.pack("<IHBBI", 26 + len(TABLES), 5, 8, 0, 18 + len(TABLES)) + bytes.fromhex("010101fb0e0d000101010100000001000001") + TABLES
+
+
+class Unit:
+    """The bytes of a unit, and where its references stand."""
+
+    def __init__(self, rng):
+        self.rng, self.out, self.entries, self.local, self.outer, self.lines = rng, bytearray(12), [], [], [], 0
+
+    def value(self, name, form):
+        if name == 0x3A and form == DATA1:
+            self.out += b"\1"
+            return
+        sizes = {STRP: 4, DATA1: 1, DATA2: 2, DATA8: 8, ADDR: 8, PRESENT: 0, CONSTANT: 0}
+        if form in sizes:
+            self.out += self.rng.randbytes(sizes[form])
+        elif form == TEXT:
+            self.out += bytes(self.rng.randrange(97, 123) for _ in range(self.rng.randrange(1, 10))) + b"\0"
+        elif form == EXPR:
+            self.out += bytes([2, 0x91, self.rng.randrange(64, 128)])
+        else:
+            if form == REF4:
+                self.local.append(len(self.out))
+            elif form == REFADDR:
+                self.outer.append(len(self.out))
+            else:
+                self.lines = len(self.out)
+            self.out += bytes(4)
+
+    def entry(self, code):
+        self.entries.append(len(self.out))
+        self.out += uleb(code)
+        for name, form in DECLARATIONS[code][2]:
+            self.value(name, form)
+
+    def siblings(self, codes, depth):
+        for _ in range(self.rng.randrange(1, 7)):
+            code = self.rng.choice(codes)
+            self.entry(code)
+            if DECLARATIONS[code][1]:
+                self.siblings(INSIDE[code] if depth < 6 else [VARIABLE], depth + 1)
+                self.out += b"\0"
+
+    def fill(self, size):
+        self.entry(UNIT)
+        while len(self.out) < size:
+            self.siblings([FUNCTION, FUNCTION, STRUCTURE, POINTER, BASE, IMPORT], 1)
+        self.out += b"\0"
+        for at in self.local:
+            struct.pack_into("<I", self.out, at, self.rng.choice(self.entries))
+        return self
+
+
+def elf(sections):
+    names, body, headers = b"\0", b"", bytes(64)
+    sections = sections + [(".shstrtab", None)]
+    for name, _ in sections:
+        names += name.encode() + b"\0"
+    at, out = 64, [None]
+    for name, bytes_ in sections:
+        bytes_ = names if bytes_ is None else bytes_
+        headers += struct.pack("<IIQQQQIIQQ", names.index(b"\0" + name.encode() + b"\0") + 1, 3 if name == ".shstrtab" else 1, 0, 0, at, len(bytes_), 0, 0, 1, 0)
+        out.append(bytes_)
+        at += len(bytes_)
+    out.append(bytes(-at % 8))
+    out[0] = struct.pack("<16sHHIQQQIHHHHHH", b"\x7fELF\2\1\1", 2, 62, 1, 0, 0, at + -at % 8, 0, 64, 0, 0, 64, len(sections) + 1, len(sections))
+    return out + [headers]
+
+
+def main():
+    parser = argparse.ArgumentParser(description=__doc__, formatter_class=argparse.RawDescriptionHelpFormatter)
+    parser.add_argument("file")
+    parser.add_argument("--megabytes", type=float, default=100)
+    parser.add_argument("--units", type=int, default=2000)
+    parser.add_argument("--tables", type=int, default=20)
+    options = parser.parse_args()
+    one = Unit(random.Random(1)).fill(int(options.megabytes * 1_000_000 / options.units) - 40)
+    size, abbrevs = len(one.out), table(DECLARATIONS)
+    info = bytearray()
+    for i in range(options.units):
+        struct.pack_into("<IHBBI", one.out, 0, size - 4, 5, 1, 8, i % options.tables * len(abbrevs))
+        struct.pack_into("<I", one.out, one.lines, i * len(PROGRAM))
+        other = (i + 1) % options.units * size
+        for k, at in enumerate(one.outer):
+            struct.pack_into("<I", one.out, at, other + one.entries[k % len(one.entries)])
+        info += one.out
+    with open(options.file, "wb") as out:
+        for piece in elf([(".debug_info", bytes(info)), (".debug_abbrev", abbrevs * options.tables), (".debug_line", PROGRAM * options.units)]):
+            out.write(piece)
+
+
+if __name__ == "__main__":
+    main()
