@@ -12,21 +12,16 @@ import argparse
 import random
 import struct
 
-from make_entries import table, uleb
+from make_entries import DECLARATIONS as OF_ENTRIES
+from make_entries import BASE, BLOCK, CONSTANT, DATA1, EXPR, FUNCTION, MEMBER, PARAMETER, POINTER, REF4, STRP, STRUCTURE, TEXT, UNIT, VARIABLE
+from make_entries import ADDR, DATA2, DATA8, PRESENT, table, uleb
 
-STRP, DATA1, DATA2, DATA8, ADDR = 0x0E, 0x0B, 0x05, 0x07, 0x01
-REF4, REFADDR, EXPR, OFFSET, PRESENT, CONSTANT, TEXT = 0x13, 0x10, 0x18, 0x17, 0x19, 0x21, 0x08
-UNIT, FUNCTION, PARAMETER, VARIABLE, BLOCK, STRUCTURE, MEMBER, POINTER, BASE, IMPORT = range(1, 11)
+REFADDR = 0x10
+IMPORT = 10
+# Those of the measures of entries, with nothing that refers to lists.
 DECLARATIONS = {
-    UNIT: (0x11, 1, [(0x25, STRP), (0x13, DATA1), (0x03, STRP), (0x11, ADDR), (0x12, DATA8), (0x10, OFFSET)]),
-    FUNCTION: (0x2E, 1, [(0x3F, PRESENT), (0x03, STRP), (0x3A, DATA1), (0x3B, DATA2), (0x49, REF4), (0x11, ADDR), (0x12, DATA8), (0x40, EXPR)]),
+    **{code: OF_ENTRIES[code] for code in range(UNIT, IMPORT)},
     PARAMETER: (0x05, 0, [(0x03, STRP), (0x3A, CONSTANT), (0x3B, DATA2), (0x49, REF4), (0x02, EXPR)]),
-    VARIABLE: (0x34, 0, [(0x03, TEXT), (0x3A, CONSTANT), (0x3B, DATA2), (0x49, REF4), (0x02, EXPR)]),
-    BLOCK: (0x0B, 1, [(0x11, ADDR), (0x12, DATA8)]),
-    STRUCTURE: (0x13, 1, [(0x03, STRP), (0x0B, DATA1), (0x3A, DATA1), (0x3B, DATA1)]),
-    MEMBER: (0x0D, 0, [(0x03, STRP), (0x3A, CONSTANT), (0x3B, DATA1), (0x49, REF4), (0x38, DATA1)]),
-    POINTER: (0x0F, 0, [(0x0B, CONSTANT), (0x49, REF4)]),
-    BASE: (0x24, 0, [(0x0B, DATA1), (0x3E, DATA1), (0x03, STRP)]),
     IMPORT: (0x3A, 0, [(0x3A, DATA1), (0x18, REFADDR)]),
 }
 INSIDE = {FUNCTION: [PARAMETER, VARIABLE, BLOCK], STRUCTURE: [MEMBER], BLOCK: [VARIABLE, BLOCK]}
