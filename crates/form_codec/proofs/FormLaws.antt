@@ -1,5 +1,5 @@
 -- What is written of a value in a form, against the forms' own words.
-use Rattle.std.proofs.Common.{◌≡◌, ◌≢◌, ◌≤◌, ◌-◌, ◌*◌, ◌^◌, ℕ, List, [], ◌∷◌, ◌++◌, length, take, drop, leb, true, false, ◌∙◌, sym, ap, refl, subst, arith}
+use Rattle.std.proofs.Common.{◌≡◌, ◌≢◌, ◌≤◌, ◌<◌, ◌-◌, ◌*◌, ◌^◌, ℕ, List, [], ◌∷◌, ◌++◌, length, take, drop, leb, true, false, ◌∙◌, sym, ap, refl, subst, arith}
 use Rattle.std.proofs.lemmas.Bool.{cond_both}
 use Rattle.std.specs.Prelude.{ℤ, pos, FitsSigned, Option, Some, None, MatchOption}
 use Rattle.std.specs.Int.{w64}
@@ -22,10 +22,10 @@ use Rattle.form_codec.specs.declared.value.Value.TheVariants as value
 use Rattle.form_codec.specs.declared.encoding.Encoding.{Encoding}
 use Rattle.form_codec.specs.declared.encoding.Encoding.TheVariants as encoding
 use Rattle.form_codec.specs.Forms.{Meaning, SpellsShape, SpellsValue, SpellsShortest, Admits, HasNoZero, code_of, shape_of, size_of, number, data_of, in_role, of_content, is_written, counted}
-use Rattle.form_codec.specs.Forms.Meaning.{Whole, Bits, Text}
+use Rattle.form_codec.specs.Forms.Meaning.{Whole, Bits, Text, Expression, InUnit}
 use Rattle.form_codec.specs.Values.{meant_in, bytes_in, LiesIn, IsPlaced, IsClear, IsValueIn, IsReadValue}
 use Rattle.form_codec.specs.declared.value.ReadValue.{ReadValue}
-use Rattle.form_codec.specs.Written.{low_bytes, Encodes, HasNoEncoding, IsEncoding, HasNoForm, IsFormEncoding, HasNoCode, IsCodeEncoding, HasConstant}
+use Rattle.form_codec.specs.Written.{low_bytes, Encodes, HasNoEncoding, IsEncoding, HasNoForm, IsFormEncoding, HasNoCode, IsCodeEncoding, HasConstant, SpanLies, IsShapeSize}
 use Rattle.form_codec.proofs.Codes.{code_once}
 
 pub match_map : {P Q : Type 0} {R S : Encoding → Type 0} (o : Option Encoding) → (P → Q) → ((e : Encoding) → R e → S e) → MatchOption o P R → MatchOption o Q S
@@ -197,6 +197,27 @@ pub shortest_some : (code : ℕ) (v : Value) (e : Encoding) (section : List ℕ)
 shortest_some code v e section size enc i sized =
     let b = encodes_some section e in
     (b.0, shortest_written code v e section b.0 enc i b.1, sized b.0 b.1)
+
+counted_few : (m : Meaning) (a b : ℕ) → a ≤ b → counted m a ≤ counted m b
+counted_few (Expression bytes) a b le = omega arith
+counted_few (InUnit place) a b le = omega arith
+counted_few m a b le = le
+
+-- what is written of a value gives its size in the shape
+pub shape_size : (shape : Shape) (v : Value) (e : Encoding) (written size : ℕ) → size < 2 ^ 64 → IsEncoding shape v e → ((section bytes : List ℕ) → length section < 2 ^ 63 → SpanLies (length section) e → Encodes section e bytes → written ≡ length bytes) → ((section : List ℕ) → size ≡ counted (meant_in section v) written) → IsShapeSize shape v size
+shape_size shape v e written size fits enc sized count = record {
+  fits = fits;
+  spelled = λ section i few.
+      let b = encodes_some section e in
+      let long : written ≡ length b.0 = sized section b.0 few (enc.lies section i) b.1 in
+      (b.0, enc.small section b.0 i b.1, enc.spells section b.0 i b.1, count section ∙ ap (λ z. counted (meant_in section v) z) long);
+  least = λ section others i few s.
+      let b = encodes_some section e in
+      let long : written ≡ length b.0 = sized section b.0 few (enc.lies section i) b.1 in
+      let short : length b.0 ≤ length others = enc.shortest section b.0 others i b.1 s in
+      let le : counted (meant_in section v) written ≤ counted (meant_in section v) (length others) = counted_few (meant_in section v) written (length others) (omega arith) in
+      omega (arith, count section);
+}
 
 pub counted_expr : (v : Value) (span : Span) → v ≡ value.Expr span → (section : List ℕ) (n : ℕ) → 0 ≡ counted (meant_in section v) n
 counted_expr v span e section n = ap (λ z. counted (meant_in section z) n) (sym e)

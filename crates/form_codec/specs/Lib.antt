@@ -1,4 +1,6 @@
+pub mod Columns
 pub mod Faults
 pub mod Forms
 pub mod Values
+pub mod Wholes
 pub mod Written

@@ -1,18 +1,19 @@
 -- How the bytes of a value are written in the shape of a form.
-use Rattle.std.specs.Prelude.{◌≡◌, ◌≤◌, ◌<◌, ◌+◌, ℕ, ℤ, pos, List, [], ◌∷◌, ◌++◌, length, slice_index, if◌then◌else◌, FitsSigned}
+use Rattle.std.specs.Prelude.{◌≡◌, ◌≤◌, ◌<◌, ◌+◌, ◌^◌, ℕ, ℤ, pos, List, [], ◌∷◌, ◌++◌, length, slice_index, if◌then◌else◌, FitsSigned}
 use Rattle.std.specs.Int.{w64, bytes_low_first}
 use Rattle.spelled.specs.Spelled.{AreBytes}
 use Rattle.leb_codec.specs.Leb.{ShortestUnsigned, ShortestSigned}
 use Rattle.form_codec.specs.declared.form.Form.{Form}
 use Rattle.form_codec.specs.declared.form.Shape.{Shape}
 use Rattle.form_codec.specs.declared.form.Shape.TheVariants.{Constant, Number}
+use Rattle.form_codec.specs.declared.form.Role.{Role}
 use Rattle.form_codec.specs.declared.form.Role.TheVariants as role
 use Rattle.form_codec.specs.declared.form.Width.{Width}
 use Rattle.form_codec.specs.declared.form.Width.TheVariants.{One}
 use Rattle.form_codec.specs.declared.value.Value.{Value}
 use Rattle.form_codec.specs.declared.encoding.Encoding.{Encoding}
 use Rattle.form_codec.specs.declared.encoding.Encoding.TheVariants.{Nothing, Fixed, Uleb, Sleb, Counted, UlebCounted, Bytes, Text}
-use Rattle.form_codec.specs.Forms.{Meaning, SpellsShape, SpellsValue, code_of, size_of, shape_of}
+use Rattle.form_codec.specs.Forms.{Meaning, SpellsShape, SpellsValue, code_of, size_of, shape_of, in_role, counted}
 use Rattle.form_codec.specs.Forms.Meaning.{Address, AddressNumber, Whole, Bits, IsSet, InUnit, InSection, TypeSignature, InSup, StringPlace, LineStringPlace, SupStringPlace, StringNumber, SectionPlace, LocationList, RangeList}
 use Rattle.form_codec.specs.Values.{meant_in, bytes_in, IsValueIn}
 
@@ -59,6 +60,14 @@ HasNumber (LocationList n) m = n ≡ m
 HasNumber (RangeList n) m = n ≡ m
 HasNumber meaning m = ⊥
 
+-- the number in a value is this one
+abbrev pub IsNumbered : Value → ℕ → Type 0
+IsNumbered value n = (section : List ℕ) → HasNumber (meant_in section value) n
+
+-- the value is what a number means in a role
+abbrev pub IsInRole : Role → Width → Value → ℕ → Type 0
+IsInRole role width value n = (section : List ℕ) → meant_in section value ≡ in_role role width n
+
 -- no bytes of the shape spell the value
 abbrev pub HasNoEncoding : Shape → Value → Type 0
 HasNoEncoding shape value = (section bytes : List ℕ) → IsValueIn section value → AreBytes bytes → SpellsShape shape (meant_in section value) bytes → ⊥
@@ -70,6 +79,12 @@ pub record IsEncoding (shape : Shape) (value : Value) (encoding : Encoding) : Ty
   pub spells : (section bytes : List ℕ) → IsValueIn section value → Encodes section encoding bytes → SpellsShape shape (meant_in section value) bytes
   pub shortest : (section bytes others : List ℕ) → IsValueIn section value → Encodes section encoding bytes → SpellsShape shape (meant_in section value) others → length bytes ≤ length others
   pub flag : (section bytes : List ℕ) → IsValueIn section value → Encodes section encoding bytes → shape ≡ Number One role.Truth → (k : ℕ) → k < length bytes → slice_index bytes k ≤ 1
+
+-- so many bytes of the value count in the shape, and of no bytes of the shape that spell it do fewer
+pub record IsShapeSize (shape : Shape) (value : Value) (size : ℕ) : Type 0 where
+  pub fits : size < 2 ^ 64
+  pub spelled : (section : List ℕ) → IsValueIn section value → length section < 2 ^ 63 → (bytes : List ℕ) × AreBytes bytes × SpellsShape shape (meant_in section value) bytes × (size ≡ counted (meant_in section value) (length bytes))
+  pub least : (section others : List ℕ) → IsValueIn section value → length section < 2 ^ 63 → SpellsShape shape (meant_in section value) others → size ≤ counted (meant_in section value) (length others)
 
 -- no bytes of the form spell the value, whatever the constant
 abbrev pub HasNoForm : Form → Value → Type 0

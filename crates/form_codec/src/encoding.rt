@@ -6,10 +6,9 @@ ghost use Rattle.form_codec.specs.declared.form.Shape.TheVariants as shape;
 ghost use Rattle.form_codec.specs.Forms.{size_of, in_role as meant_in_role};
 ghost use Rattle.form_codec.specs.Forms.Meaning.{Whole, Data};
 ghost use Rattle.form_codec.specs.Values.{meant_in, bytes_in};
-ghost use Rattle.form_codec.specs.Written.{HasNumber, IsEncoding, HasNoEncoding, HasConstant};
+ghost use Rattle.form_codec.specs.Written.{HasNumber, IsNumbered, IsInRole, IsEncoding, HasNoEncoding, HasConstant};
 
 use crate::form::{Content, Role, Shape, Width};
-use crate::read::in_role;
 use crate::value::Value;
 use dw_base::Span;
 
@@ -33,7 +32,7 @@ fn number_of_value(value: &Value) -> Option<u64>
     match *value {
         Value::Addr(number) => Some(number),
         Value::AddrIndex(number) => Some(number),
-        Value::Int(number) => u64::try_from(number).ok(),
+        Value::Int(number) => u64::try_from(number.get()).ok(),
         Value::Fixed(_, bits) => Some(bits),
         Value::Flag(set) => Some(u64::from(set)),
         Value::LocalRef(place) => Some(place),
@@ -54,15 +53,37 @@ fn number_of_value(value: &Value) -> Option<u64>
     }
 }
 
-// Derived equality, in a clause of its own.
-fn is_same(left: Value, right: &Value) -> bool
-    ensures same { result ≡ true → left ≡ right.now }
-    ensures differs { result ≡ false → left ≡ right.now → ⊥ }
+// Whether a value is what its number means in a role.
+#[inline(always)]
+fn has_role(role: Role, width: Width, number: u64, value: &Value) -> bool
+    ensures fits { number < 2 ^ 64 }
+    ensures same { result ≡ true → IsNumbered value.now number → IsInRole role width value.now number }
+    ensures differs { result ≡ false → IsNumbered value.now number → (section : List ℕ) → meant_in section value.now ≡ meant_in_role role width number → ⊥ }
 {
-    left == *right
+    match (role, *value) {
+        (Role::Address, Value::Addr(_)) => true,
+        (Role::AddrIndex, Value::AddrIndex(_)) => true,
+        (Role::Data, Value::Int(_)) => number < width.half(),
+        (Role::Data, Value::Fixed(size, _)) => size == width.size() && number >= width.half(),
+        (Role::Unsigned, Value::Int(_)) => true,
+        (Role::Truth, Value::Flag(_)) => true,
+        (Role::LocalRef, Value::LocalRef(_)) => true,
+        (Role::SectionRef, Value::SectionRef(_)) => true,
+        (Role::Signature, Value::Signature(_)) => true,
+        (Role::SupRef, Value::SupRef(size, _)) => size == width.size(),
+        (Role::StrOffset, Value::StrOffset(_)) => true,
+        (Role::LineStrOffset, Value::LineStrOffset(_)) => true,
+        (Role::SupStr, Value::SupStr(_)) => true,
+        (Role::StrIndex, Value::StrIndex(_)) => true,
+        (Role::Offset, Value::Offset(_)) => true,
+        (Role::LocIndex, Value::LocIndex(_)) => true,
+        (Role::RangeIndex, Value::RangeIndex(_)) => true,
+        _ => false,
+    }
 }
 
 // The least number whose meaning in a role is this value.
+#[inline(always)]
 fn number_in(role: Role, width: Width, value: &Value) -> Option<u64>
     ensures fits { IfSome result (λ n. n < 2 ^ 64) }
     ensures number { MatchOption result ((section : List ℕ) (m : ℕ) → m < 2 ^ 64 → meant_in section value.now ≡ meant_in_role role width m → ⊥) (λ n. (section : List ℕ) → meant_in section value.now ≡ meant_in_role role width n) }
@@ -71,7 +92,7 @@ fn number_in(role: Role, width: Width, value: &Value) -> Option<u64>
     let Some(number) = number_of_value(value) else {
         return None;
     };
-    if is_same(in_role(role, width, number), value) {
+    if has_role(role, width, number, value) {
         Some(number)
     } else {
         None
@@ -84,11 +105,12 @@ pub(crate) fn constant_in(value: &Value) -> Option<i64>
     ensures constant { MatchOption result ((section : List ℕ) (v : ℤ) → FitsSigned w64 v → meant_in section value.now ≡ Whole v → ⊥) (λ v. (section : List ℕ) → meant_in section value.now ≡ Whole v) }
 {
     match *value {
-        Value::Int(constant) => i64::try_from(constant).ok(),
+        Value::Int(constant) => i64::try_from(constant.get()).ok(),
         _ => None,
     }
 }
 
+#[inline(always)]
 fn fixed_encoding(width: Width, role: Role, value: &Value) -> Option<Encoding>
     ensures { MatchOption result (HasNoEncoding (shape.Number width role) value.now) (IsEncoding (shape.Number width role) value.now) }
 {
@@ -101,6 +123,7 @@ fn fixed_encoding(width: Width, role: Role, value: &Value) -> Option<Encoding>
     Some(Encoding::Fixed(width, number))
 }
 
+#[inline(always)]
 fn uleb_encoding(role: Role, value: &Value) -> Option<Encoding>
     ensures { MatchOption result (HasNoEncoding (shape.Uleb role) value.now) (IsEncoding (shape.Uleb role) value.now) }
 {
@@ -201,6 +224,7 @@ fn text_encoding(value: &Value) -> Option<Encoding>
 }
 
 /// What is written of a value in a shape, or None where no bytes of this shape spell the value.
+#[inline(always)]
 pub fn encoding_of(shape: Shape, value: &Value) -> Option<Encoding>
     requires { HasConstant shape }
     ensures { MatchOption result (HasNoEncoding shape value.now) (IsEncoding shape value.now) }

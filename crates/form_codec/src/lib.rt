@@ -8,10 +8,12 @@ mod read;
 #[cfg(test)]
 mod tests;
 mod value;
+mod whole;
 mod write;
 
 pub use form::{Content, Form, Role, Shape, Width};
 pub use laws::{constants, values_end, values_whole};
 pub use read::{known, read_value};
 pub use value::{ReadValue, Value};
-pub use write::{admits, size_of, spelled_size, write_value};
+pub use whole::Whole;
+pub use write::{admits, size_in, size_of, spelled_size, write_value};

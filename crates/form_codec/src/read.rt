@@ -7,6 +7,7 @@ ghost use Rattle.form_codec.specs.Values.{meant_in, bytes_in, LiesIn, IsPlaced, 
 
 use crate::form::{Content, Form, Role, Shape, Width};
 use crate::value::{ReadValue, Value};
+use crate::whole::Whole;
 use byteorder::{ByteOrder, LittleEndian};
 use dw_base::{Fault, Kind, Span};
 use leb_codec::{LebFault, read_s, read_u};
@@ -19,7 +20,7 @@ fn data(width: Width, number: u64) -> Value
     if number >= width.half() {
         Value::Fixed(width.size(), number)
     } else {
-        Value::Int(i128::from(number))
+        Value::Int(Whole::unsigned(number))
     }
 }
 
@@ -33,7 +34,7 @@ pub(crate) fn in_role(role: Role, width: Width, number: u64) -> Value
         Role::Address => Value::Addr(number),
         Role::AddrIndex => Value::AddrIndex(number),
         Role::Data => data(width, number),
-        Role::Unsigned => Value::Int(i128::from(number)),
+        Role::Unsigned => Value::Int(Whole::unsigned(number)),
         Role::Truth => Value::Flag(number >= 1),
         Role::LocalRef => Value::LocalRef(number),
         Role::SectionRef => Value::SectionRef(number),
@@ -109,7 +110,7 @@ fn read_sleb(rest: &[u8]) -> Result<ReadValue, Kind>
 {
     match read_s(rest, 0) {
         Ok(read) => Ok(ReadValue {
-            value: Value::Int(i128::from(read.value)),
+            value: Value::Int(Whole::signed(read.value)),
             end: read.end,
         }),
         Err(LebFault::Short) => Err(Kind::Short),
@@ -199,7 +200,7 @@ fn read_shape(rest: &[u8], shape: Shape) -> Result<ReadValue, Kind>
 {
     match shape {
         Shape::Constant(constant) => Ok(ReadValue {
-            value: Value::Int(i128::from(constant)),
+            value: Value::Int(Whole::signed(constant)),
             end: 0,
         }),
         Shape::Present => Ok(ReadValue {

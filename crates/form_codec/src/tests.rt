@@ -1,5 +1,5 @@
 // Each form, by hand from the table of DWARF 5 section 7.5.6.
-use crate::{ReadValue, Value, admits, known, read_value, size_of, write_value};
+use crate::{ReadValue, Value, Whole, admits, known, read_value, size_of, write_value};
 use dw_base::{NoMemory, Span};
 
 #[derive(Clone, Copy)]
@@ -21,6 +21,10 @@ fn example(form: u64, bytes: &'static [u8], value: Value, size: u64) -> Row {
 
 fn span(at: u64, len: u64) -> Span {
     Span { at, len }
+}
+
+fn int(number: i64) -> Value {
+    Value::Int(Whole::signed(number))
 }
 
 // What the form reads from the whole bytes, and that no shorter front is enough.
@@ -68,16 +72,16 @@ fn each_form(rt: HostRuntime) -> Result<(), NoMemory> {
         example(0x03, &[2, 0, 7, 8], Value::Block(span(2, 2)), 4),
         example(0x04, &[1, 0, 0, 0, 7], Value::Block(span(4, 1)), 5),
         example(0x05, &[0xff, 0x80], Value::Fixed(2, 0x80ff), 2),
-        example(0x06, &[1, 0, 0, 0], Value::Int(1), 4),
+        example(0x06, &[1, 0, 0, 0], int(1), 4),
         example(0x07, eight, Value::Fixed(8, long), 8),
         example(0x08, &[97, 98, 0], Value::Text(span(0, 2)), 3),
         example(0x09, &[1, 7], Value::Block(span(1, 1)), 2),
         example(0x0a, &[1, 7], Value::Block(span(1, 1)), 2),
         example(0x0b, &[0xff], Value::Fixed(1, 0xff), 1),
         example(0x0c, &[1], Value::Flag(true), 1),
-        example(0x0d, &[0xc0, 0xbb, 0x78], Value::Int(-123_456), 3),
+        example(0x0d, &[0xc0, 0xbb, 0x78], int(-123_456), 3),
         example(0x0e, &[4, 3, 2, 1], Value::StrOffset(0x0102_0304), 4),
-        example(0x0f, &[0xe5, 0x8e, 0x26], Value::Int(624_485), 3),
+        example(0x0f, &[0xe5, 0x8e, 0x26], int(624_485), 3),
         example(0x10, &[4, 3, 2, 1], Value::SectionRef(0x0102_0304), 4),
         example(0x15, &[0x80, 1], Value::LocalRef(128), 0),
         example(0x17, &[4, 3, 2, 1], Value::Offset(0x0102_0304), 4),
@@ -105,7 +109,7 @@ fn each_other_form(rt: HostRuntime) -> Result<(), NoMemory> {
         example(0x1e, sixteen, Value::Wide16(span(0, 16)), 16),
         example(0x1f, &[1, 0, 0, 0], Value::LineStrOffset(1), 4),
         example(0x20, eight, Value::Signature(long), 8),
-        example(0x21, &[], Value::Int(-5), 0),
+        example(0x21, &[], int(-5), 0),
         example(0x22, &[5], Value::LocIndex(5), 1),
         example(0x23, &[5], Value::RangeIndex(5), 1),
         example(0x24, eight, Value::SupRef(8, long), 8),
@@ -130,7 +134,7 @@ fn each_other_form(rt: HostRuntime) -> Result<(), NoMemory> {
     assert!(rt; reads(&example(0x12, &[2, 1], Value::LocalRef(258), 0)));
     assert!(rt; !known(0x16) && !known(0x2d) && !known(0));
     // numbers and a flag that aren't written as they were read
-    let padded = example(0x0f, &[0x85, 0x80, 0], Value::Int(5), 1);
+    let padded = example(0x0f, &[0x85, 0x80, 0], int(5), 1);
     assert!(rt; reads(&padded) && writes(&padded, &[5], &mut out)?);
     let counted = example(0x09, &[0x81, 0, 7], Value::Block(span(2, 1)), 2);
     assert!(rt; reads(&counted) && writes(&counted, &[1, 7], &mut out)?);

@@ -1,4 +1,5 @@
 // Values of attributes.
+use crate::whole::Whole;
 use dw_base::Span;
 
 /// The value of an attribute. Spans count from the first byte of the section that the value stands in.
@@ -9,7 +10,7 @@ pub enum Value {
     /// The number of an address in an address table.
     AddrIndex(u64),
     /// A constant whose sign is known, or makes no difference.
-    Int(i128),
+    Int(Whole),
     /// The width in bytes of a constant that doesn't tell its sign, and its bits, of which the top one is set.
     Fixed(u8, u64),
     /// A constant of sixteen bytes.
@@ -43,6 +44,9 @@ pub enum Value {
     /// The number of a range list.
     RangeIndex(u64),
 }
+
+// All values of a file are held at once.
+const _: () = prove!(size_of::<Value>() == 24);
 
 /// A value, and the place after its last byte.
 #[derive(Clone, Copy, Debug, PartialEq, Eq)]

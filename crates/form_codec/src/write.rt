@@ -6,10 +6,10 @@ ghost use Rattle.leb_codec.specs.Digits.{Extends};
 ghost use Rattle.form_codec.specs.Forms.{Admits, SpellsShortest, counted};
 ghost use Rattle.form_codec.specs.Forms.Meaning.{Whole};
 ghost use Rattle.form_codec.specs.Values.{meant_in, bytes_in, LiesIn, IsValueIn};
-ghost use Rattle.form_codec.specs.Written.{low_bytes, Encodes, SpanLies, HasNoForm, IsFormEncoding, HasNoCode, IsCodeEncoding};
+ghost use Rattle.form_codec.specs.Written.{low_bytes, Encodes, SpanLies, HasConstant, HasNoEncoding, IsShapeSize, HasNoForm, IsFormEncoding, HasNoCode, IsCodeEncoding};
 
 use crate::encoding::{Encoding, constant_in, encoding_of};
-use crate::form::{Form, Width};
+use crate::form::{Form, Shape, Width};
 use crate::value::Value;
 use dw_base::{NoMemory, Span};
 use leb_codec::{len_s, len_u, put_s, put_u};
@@ -57,6 +57,7 @@ pub fn admits(form: u64, value: &Value) -> bool
 }
 
 // How many bytes are written.
+#[inline(always)]
 fn encoded_size(encoding: Encoding) -> u64
     ensures { (section bytes : List ℕ) → length section < 2 ^ 63 → SpanLies (length section) encoding → Encodes section encoding bytes → result ≡ length bytes }
 {
@@ -83,18 +84,39 @@ pub fn spelled_size(code: u64, value: &Value) -> u64
     }
 }
 
+// How many of so many bytes of a value count: none of an expression and of a reference that counts from its unit.
+#[inline(always)]
+fn counted_size(value: &Value, size: u64) -> u64
+    ensures { (section : List ℕ) → result ≡ counted (meant_in section value.now) size }
+{
+    match *value {
+        Value::Expr(_) => 0,
+        Value::LocalRef(_) => 0,
+        _ => size,
+    }
+}
+
 /// The number of bytes that a value has in the form with this code, written with the shortest LEB128 numbers; 0 for an
 /// expression and for a reference that counts from its unit, which have sizes of their own. Of a form that doesn't admit
 /// the value it says nothing.
 pub fn size_of(form: u64, value: &Value) -> u64
     ensures { (section : List ℕ) → length section < 2 ^ 63 → IsValueIn section value.now → Admits form (meant_in section value.now) → (written : List ℕ) × SpellsShortest form (meant_in section value.now) written × (result ≡ counted (meant_in section value.now) (length written)) }
 {
-    let size = spelled_size(form, value);
-    match *value {
-        Value::Expr(_) => 0,
-        Value::LocalRef(_) => 0,
-        _ => size,
-    }
+    counted_size(value, spelled_size(form, value))
+}
+
+/// The number of bytes that a value has in a form of this shape, written with the shortest LEB128 numbers; 0 for an
+/// expression and for a reference that counts from its unit. None: no bytes of the shape spell the value. It asks in one
+/// step what `admits` and `size_of` ask of a form's code.
+#[inline(always)]
+pub fn size_in(shape: Shape, value: &Value) -> Option<u64>
+    requires { HasConstant shape }
+    ensures { MatchOption result (HasNoEncoding shape value.now) (IsShapeSize shape value.now) }
+{
+    let Some(encoding) = encoding_of(shape, value) else {
+        return None;
+    };
+    Some(counted_size(value, encoded_size(encoding)))
 }
 
 fn put_number(out: &mut Vec<u8>, width: Width, number: u64) -> Result<(), NoMemory>
