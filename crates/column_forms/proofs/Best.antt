@@ -11,7 +11,8 @@ use Rattle.abbrev_tables.specs.Tables.{implicit_const}
 use Rattle.abbrev_tables.specs.declared.decl.Spec.{Spec}
 use Rattle.column_forms.specs.declared.tally.Candidate.{Candidate}
 use Rattle.column_forms.specs.declared.choice.Choice.{Choice}
-use Rattle.column_forms.specs.Columns.{IsChoice, EntriesWithin, AreSpelled, ColumnWithin, ComesFirst, IsLeastForm, IsChosen, constant_bytes, is_reference}
+use Rattle.form_codec.specs.Columns.{IsChoice, EntriesWithin, AreSpelled, ColumnWithin, ComesFirst, IsLeastForm, constant_bytes, is_reference}
+use Rattle.column_forms.specs.Columns.{IsChosen}
 use Rattle.column_forms.specs.Tallies.{IsEntriesSize, AreTallied, AreBounded, IsTally, candidate_at, meanings_in}
 use Rattle.column_forms.specs.Choices.{IsBestOf, AreOut, bytes_of}
 use Rattle.column_forms.proofs.Sums.{is_or_not}

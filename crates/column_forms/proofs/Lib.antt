@@ -2,3 +2,4 @@ pub mod Sums
 pub mod TallyLaws
 pub mod Best
 pub mod RowLaws
+pub mod TableLaws

@@ -5,7 +5,8 @@ use Rattle.std.proofs.lemmas.List.{length-append}
 use Rattle.form_codec.specs.declared.value.Value.{Value}
 use Rattle.abbrev_tables.specs.declared.decl.Spec.{Spec}
 use Rattle.abbrev_tables.specs.Listings.{spec_at}
-use Rattle.column_forms.specs.Columns.{AreSpelled, IsChosen}
+use Rattle.form_codec.specs.Columns.{AreSpelled}
+use Rattle.column_forms.specs.Columns.{IsChosen}
 use Rattle.column_forms.specs.Tallies.{IsTally, Tallying, meanings_in}
 use Rattle.column_forms.specs.Rows.{value_at, column_of, AreHere, AreChosen}
 

@@ -1,16 +1,21 @@
 -- Sums of the bytes of values in a form.
-use Rattle.std.proofs.Common.{◌≡◌, ◌≢◌, ◌≤◌, ◌+◌, ℕ, List, [], ◌∷◌, ◌++◌, length, ◌∙◌, sym, ap, refl, subst, arith, inl, inr}
-use Rattle.std.specs.Prelude.{ℤ, ◌⊎◌, FitsSigned, false}
-use Rattle.std.specs.Int.{w64}
+use Rattle.std.proofs.Common.{◌≡◌, ◌≢◌, ◌≤◌, ◌+◌, ℕ, List, [], ◌∷◌, ◌++◌, length, ◌∙◌, sym, ap, subst, arith, inl, inr}
+use Rattle.std.specs.Prelude.{ℤ, ◌⊎◌, false}
 use Rattle.std.proofs.lemmas.Bool.{cases_lt}
-use Rattle.form_codec.specs.declared.form.Form.TheVariants as form
-use Rattle.form_codec.specs.Forms.{Meaning, SpellsValue, SpellsShortest, Admits, counted}
-use Rattle.form_codec.specs.Forms.Meaning.{Whole, Expression, InUnit}
-use Rattle.form_codec.proofs.FormLaws.{any_constant, constant_spelled, spells_constant}
+use Rattle.spelled.specs.Spelled.{AreBytes}
+use Rattle.form_codec.specs.declared.form.Form.{Form}
+use Rattle.form_codec.specs.declared.form.Shape.{Shape}
+use Rattle.form_codec.specs.declared.value.Value.{Value}
+use Rattle.form_codec.specs.Forms.{Meaning, SpellsShape, SpellsValue, shape_of, counted}
+use Rattle.form_codec.specs.Values.{meant_in}
+use Rattle.form_codec.specs.Written.{HasNoEncoding, IsShapeSize}
+use Rattle.form_codec.proofs.Codes.{code_once}
+use Rattle.form_codec.specs.Forms.Meaning.{Whole}
+use Rattle.form_codec.proofs.FormLaws.{any_constant, constant_spelled}
 use Rattle.abbrev_tables.specs.Tables.{implicit_const}
 use Rattle.column_forms.specs.declared.tally.Candidate.{Candidate}
-use Rattle.column_forms.specs.Columns.{EntriesWithin}
-use Rattle.column_forms.specs.Tallies.{CanSpell, IsValueSize, IsSummed, HasOneConstant}
+use Rattle.form_codec.specs.Columns.{EntriesWithin}
+use Rattle.column_forms.specs.Tallies.{CanSpell, IsValueSize, IsSummed, IsShaped, IsHere, HasOneConstant}
 
 pub is_or_not : (code : ℕ) → (code ≡ implicit_const) ⊎ (code ≢ implicit_const)
 is_or_not code = elim (cases_lt code 33) [
@@ -39,46 +44,36 @@ with_constant code c d m bytes same s = elim (is_or_not code) [
   | inr other ↦ any_constant code c d m bytes other s
 ]
 
-counted_le : (m : Meaning) (a b : ℕ) → a ≤ b → counted m a ≤ counted m b
-counted_le (Expression bytes) a b le = omega arith
-counted_le (InUnit place) a b le = omega arith
-counted_le m a b le = le
-
-pub constant_can : (code : ℕ) (c : ℤ) (m : Meaning) → code ≡ implicit_const → FitsSigned w64 c → m ≡ Whole c → CanSpell code c m
-constant_can code c m is fits e = record {
-  choice = (form.ImplicitConst, sym is, refl);
-  bytes = [];
-  spelled = subst (λ (z : Meaning). SpellsValue code c z []) (sym e) (subst (λ (z : ℕ). SpellsValue z c (Whole c) []) (sym is) (spells_constant c fits));
+-- a form spells a value with a constant where its shape does
+shape_spelled : (constant : ℤ) (c : Candidate) (m : Meaning) (bytes : List ℕ) → IsShaped constant c → AreBytes bytes → SpellsShape c.shape m bytes → SpellsValue c.form constant m bytes
+shape_spelled constant c m bytes (form, known, written, shape) small s = record {
+  form = form;
+  known = known;
+  small = small;
+  spelled = subst (λ (z : Shape). SpellsShape z m bytes) shape s;
 }
 
-pub constant_is : (code : ℕ) (c : ℤ) (m : Meaning) → code ≡ implicit_const → CanSpell code c m → m ≡ Whole c
-constant_is code c m is s = (constant_spelled c m s.bytes (subst (λ (z : ℕ). SpellsValue z c m s.bytes) is s.spelled)).2
+spelled_shape : (constant : ℤ) (c : Candidate) (m : Meaning) (bytes : List ℕ) → IsShaped constant c → SpellsValue c.form constant m bytes → SpellsShape c.shape m bytes
+spelled_shape constant c m bytes (form, known, written, shape) s =
+    let same : s.form ≡ form = code_once s.form form (s.known ∙ sym known) in
+    subst (λ (z : Shape). SpellsShape z m bytes) (sym shape) (subst (λ (z : Form). SpellsShape (shape_of z constant) m bytes) same s.spelled)
 
-pub admitted_can : (code : ℕ) (c : ℤ) (m : Meaning) → code ≢ implicit_const → Admits code m → CanSpell code c m
-admitted_can code c m other a = record {
-  choice = (a.form, a.known, a.written);
-  bytes = a.bytes;
-  spelled = any_constant code a.constant c m a.bytes other a.spelled;
-}
+-- no bytes of its shape: the form doesn't spell the value
+pub shaped_none : (constant : ℤ) (c : Candidate) (v : Value) (section : List ℕ) → IsShaped constant c → HasNoEncoding c.shape v → IsHere section v → CanSpell c.form constant (meant_in section v) → ⊥
+shaped_none constant c v section shaped none here can =
+    none section can.bytes here.value can.spelled.small (spelled_shape constant c (meant_in section v) can.bytes shaped can.spelled)
 
-pub can_admit : (code : ℕ) (c : ℤ) (m : Meaning) → CanSpell code c m → Admits code m
-can_admit code c m s = record {
-  form = s.choice.0;
-  known = s.choice.1;
-  written = s.choice.2;
-  constant = c;
-  bytes = s.bytes;
-  spelled = s.spelled;
-}
-
-pub value_size : (code : ℕ) (c : ℤ) (m : Meaning) (size : ℕ) (written : List ℕ) → CanSpell code c m → SpellsShortest code m written → size ≡ counted m (length written) → IsValueSize code c m size
-value_size code c m size written can s e = record {
-  spells = record { choice = can.choice; bytes = written; spelled = same_constant code c s.constant m can.bytes written can.spelled s.spelled };
-  exact = e;
-  least = λ other others t.
-      let le : counted m (length written) ≤ counted m (length others) = counted_le m (length written) (length others) (s.shortest other others t) in
-      omega arith;
-}
+-- the size in its shape is the one in the form
+pub shaped_size : (constant : ℤ) (c : Candidate) (v : Value) (size : ℕ) (section : List ℕ) → IsShaped constant c → IsShapeSize c.shape v size → IsHere section v → IsValueSize c.form constant (meant_in section v) size
+shaped_size constant c v size section shaped sized here =
+    let m : Meaning = meant_in section v in
+    let s = sized.spelled section here.value here.fits in
+    let spelled : SpellsValue c.form constant m s.0 = shape_spelled constant c m s.0 shaped s.1 s.2 in
+    record {
+      spells = record { choice = (shaped.0, shaped.1, shaped.2); bytes = s.0; spelled = spelled };
+      exact = s.3;
+      least = λ other others t. sized.least section others here.value here.fits (spelled_shape constant c m others shaped (same_constant c.form constant other m s.0 others spelled t));
+    }
 
 entries_push : (code : ℕ) (c : ℤ) (ms : List Meaning) (m : Meaning) (a : ℕ) (bytes : List ℕ) → EntriesWithin code c ms a → SpellsValue code c m bytes → EntriesWithin code c (ms ++ m ∷ []) (a + counted m (length bytes))
 entries_push code c [] m a bytes w s = (bytes, 0, s, tt, omega arith)
@@ -107,7 +102,7 @@ entries_split code c (x ∷ xs) m n (first, rest, t, w, le) =
 pub entries_before : (code : ℕ) (c : ℤ) (ms : List Meaning) (m : Meaning) (n : ℕ) → EntriesWithin code c (ms ++ m ∷ []) n → (k : ℕ) × EntriesWithin code c ms k
 entries_before code c ms m n w = let s = entries_split code c ms m n w in (s.before, s.within)
 
-pub summed_more : (c : ℤ) (ms : List Meaning) (m : Meaning) (old : Candidate) (size : ℕ) → IsValueSize old.form c m size → IsSummed c ms old → IsSummed c (ms ++ m ∷ []) (record { form = old.form; size = old.size + size; admits = old.admits })
+pub summed_more : (c : ℤ) (ms : List Meaning) (m : Meaning) (old : Candidate) (size : ℕ) → IsValueSize old.form c m size → IsSummed c ms old → IsSummed c (ms ++ m ∷ []) (record { form = old.form; shape = old.shape; size = old.size + size; admits = old.admits })
 summed_more c ms m old size v s = record {
   sized = λ is.
       let e = s.sized is in
@@ -125,7 +120,7 @@ summed_more c ms m old size v s = record {
       s.out never other p.before choice p.within;
 }
 
-pub summed_out : (c : ℤ) (ms : List Meaning) (m : Meaning) (old : Candidate) → HasOneConstant c ms → (CanSpell old.form c m → ⊥) → IsSummed c (ms ++ m ∷ []) (record { form = old.form; size = old.size; admits = false })
+pub summed_out : (c : ℤ) (ms : List Meaning) (m : Meaning) (old : Candidate) → HasOneConstant c ms → (CanSpell old.form c m → ⊥) → IsSummed c (ms ++ m ∷ []) (record { form = old.form; shape = old.shape; size = old.size; admits = false })
 summed_out c ms m old one none = record {
   sized = λ is. absurd (cc (is));
   out = λ never other n choice w.

@@ -1,20 +1,24 @@
 -- What is held of all forms of a column.
 use Rattle.std.proofs.Common.{◌≡◌, ◌≢◌, ◌≤◌, ◌<◌, ◌+◌, ◌*◌, ◌^◌, ℕ, zero, suc, List, [], ◌∷◌, ◌++◌, length, get_or, ◌∙◌, sym, ap, refl, subst, arith, inl, inr}
-use Rattle.std.specs.Prelude.{slice_set, ℤ, FitsSigned, true, false}
+use Rattle.std.specs.Prelude.{slice_set, ℤ, pos, FitsSigned, true, false}
 use Rattle.std.specs.Int.{w64}
 use Rattle.std.proofs.lemmas.Bool.{cases_lt}
 use Rattle.std.proofs.lemmas.List.{length-append, map-append}
 use Rattle.form_codec.specs.declared.value.Value.{Value}
-use Rattle.form_codec.specs.Forms.{Meaning, SpellsValue, counted}
+use Rattle.form_codec.specs.declared.form.Form.{Form}
+use Rattle.form_codec.specs.declared.form.Shape.{Shape}
+use Rattle.form_codec.specs.declared.form.Shape.TheVariants.{Constant}
+use Rattle.form_codec.specs.Written.{HasConstant, HasNoEncoding, IsShapeSize}
+use Rattle.form_codec.specs.Forms.{Meaning, SpellsValue, code_of, shape_of, is_written, counted}
 use Rattle.form_codec.specs.Forms.Meaning.{Whole}
 use Rattle.form_codec.specs.Values.{meant_in}
-use Rattle.form_codec.proofs.FormLaws.{constant_spelled}
+use Rattle.form_codec.proofs.FormLaws.{constant_spelled, constant_held}
 use Rattle.form_codec.proofs.Codes.{code_range}
 use Rattle.abbrev_tables.specs.Tables.{implicit_const}
 use Rattle.column_forms.specs.declared.tally.Candidate.{Candidate}
-use Rattle.column_forms.specs.Columns.{IsChoice}
-use Rattle.column_forms.specs.Tallies.{CanSpell, IsValueSize, IsSummed, IsHeldForm, AreTallied, AreBounded, HaveRoom, AreFound, AreAdded, IsNext, IsHere, IsTally, candidate_at, meanings_in}
-use Rattle.column_forms.proofs.Sums.{with_constant, entries_before}
+use Rattle.form_codec.specs.Columns.{IsChoice}
+use Rattle.column_forms.specs.Tallies.{CanSpell, IsValueSize, IsSummed, IsHeldForm, AreTallied, AreBounded, HaveRoom, AreFound, AreAdded, IsNext, IsHere, IsTally, IsShaped, AreShaped, IsFirst, HaveConstants, candidate_at, meanings_in}
+use Rattle.column_forms.proofs.Sums.{with_constant, entries_before, shaped_none, shaped_size}
 
 choice_range : (code : ℕ) → IsChoice code → (1 ≤ code) × (code ≤ 44)
 choice_range code choice = code_range code (choice.0, choice.1)
@@ -22,6 +26,7 @@ choice_range code choice = code_range code (choice.0, choice.1)
 pub found_none : (c : ℤ) (v : Value) → AreFound c v 1 []
 found_none c v = record {
   bounded = λ k lt. absurd (omega arith);
+  shaped = λ k lt. absurd (omega arith);
   summed = λ section h k lt. absurd (omega arith);
   full = λ section code h lt s. let r : 1 ≤ code = (choice_range code s.choice).0 in absurd (omega arith);
 }
@@ -29,6 +34,7 @@ found_none c v = record {
 pub found_out : (c : ℤ) (v : Value) (code : ℕ) (cs : List Candidate) → ((section : List ℕ) → IsHere section v → CanSpell code c (meant_in section v) → ⊥) → AreFound c v code cs → AreFound c v (code + 1) cs
 found_out c v code cs none f = record {
   bounded = f.bounded;
+  shaped = f.shaped;
   summed = f.summed;
   full = λ section other h lt s.
       elim (cases_lt other code) [
@@ -48,14 +54,29 @@ candidate_last : (cs : List Candidate) (x : Candidate) → candidate_at (cs ++ x
 candidate_last [] x = refl
 candidate_last (y ∷ ys) x = candidate_last ys x
 
-one_summed : (c : ℤ) (m : Meaning) (code size : ℕ) → IsValueSize code c m size → IsSummed c (m ∷ []) (record { form = code; size = size; admits = true })
-one_summed c m code size v = record {
+one_summed : (c : ℤ) (m : Meaning) (x : Candidate) → x.admits ≡ true → IsValueSize x.form c m x.size → IsSummed c (m ∷ []) x
+one_summed c m x admits v = record {
   sized = λ is. record {
     choice = v.spells.choice;
     enough = (v.spells.bytes, 0, v.spells.spelled, tt, omega (arith, v.exact));
-    least = λ other n w. let le : size ≤ counted m (length w.0) = v.least other w.0 w.2 in omega (arith, w.4);
+    least = λ other n w. let le : x.size ≤ counted m (length w.0) = v.least other w.0 w.2 in omega (arith, w.4);
   };
-  out = λ never. absurd (cc (never));
+  out = λ never. absurd (cc (never, admits));
+}
+
+-- a form whose shape doesn't spell a first value
+pub first_none : (code : ℕ) (c : ℤ) (v : Value) (form : Form) (shape : Shape) → code_of form ≡ code → is_written form ≡ true → shape ≡ shape_of form c → HasNoEncoding shape v → (section : List ℕ) → IsHere section v → CanSpell code c (meant_in section v) → ⊥
+first_none code c v form shape known written same none section h s =
+    shaped_none c (record { form = code; shape = shape; size = 0; admits = false }) v section (form, known, written, same) none h s
+
+-- and one whose shape does
+pub first_some : (code : ℕ) (c : ℤ) (v : Value) (form : Form) (shape : Shape) (size : ℕ) → code_of form ≡ code → is_written form ≡ true → shape ≡ shape_of form c → IsShapeSize shape v size → IsFirst code c v (record { form = code; shape = shape; size = size; admits = true })
+first_some code c v form shape size known written same sized = record {
+  form = refl;
+  shaped = (form, known, written, same);
+  few = sized.fits;
+  admits = refl;
+  sized = λ section h. shaped_size c (record { form = code; shape = shape; size = size; admits = true }) v size section (form, known, written, same) sized h;
 }
 
 -- of one more at the end of a list
@@ -79,20 +100,19 @@ held_last cs x =
     let size : length (cs ++ x ∷ []) ≡ length cs + 1 = length-append cs (x ∷ []) in
     (length cs, omega arith, ap (λ (z : Candidate). z.form) (candidate_last cs x))
 
-pub found_more : (c : ℤ) (v : Value) (code size : ℕ) (cs : List Candidate) → size < 2 ^ 64 → ((section : List ℕ) → IsHere section v → IsValueSize code c (meant_in section v) size) → AreFound c v code cs → AreFound c v (code + 1) (cs ++ (record { form = code; size = size; admits = true }) ∷ [])
-found_more c v code size cs small sized f =
-    let x : Candidate = record { form = code; size = size; admits = true } in
-    record {
-      bounded = each_more (λ z. z.size ≤ 1 * 2 ^ 64) cs x f.bounded (omega arith);
-      summed = λ section h. each_more (λ z. IsSummed c (meant_in section v ∷ []) z) cs x (f.summed section h) (one_summed c (meant_in section v) code size (sized section h));
-      full = λ section other h lt s.
-          elim (cases_lt other code) [
-            | inl less ↦ held_before cs x other (f.full section other h less s)
-            | inr more ↦
-                let e : code ≡ other = omega arith in
-                subst (λ (z : ℕ). IsHeldForm (cs ++ x ∷ []) z) e (held_last cs x)
-          ];
-    }
+pub found_more : (c : ℤ) (v : Value) (code : ℕ) (x : Candidate) (cs : List Candidate) → IsFirst code c v x → AreFound c v code cs → AreFound c v (code + 1) (cs ++ x ∷ [])
+found_more c v code x cs first f = record {
+  bounded = each_more (λ z. z.size ≤ 1 * 2 ^ 64) cs x f.bounded (omega (arith, first.few));
+  shaped = each_more (λ z. IsShaped c z) cs x f.shaped first.shaped;
+  summed = λ section h. each_more (λ z. IsSummed c (meant_in section v ∷ []) z) cs x (f.summed section h) (one_summed c (meant_in section v) x first.admits (subst (λ (z : ℕ). IsValueSize z c (meant_in section v) x.size) (sym first.form) (first.sized section h)));
+  full = λ section other h lt s.
+      elim (cases_lt other code) [
+        | inl less ↦ held_before cs x other (f.full section other h less s)
+        | inr more ↦
+            let e : x.form ≡ other = first.form ∙ omega arith in
+            subst (λ (z : ℕ). IsHeldForm (cs ++ x ∷ []) z) e (held_last cs x)
+      ];
+}
 
 -- the tally of one value
 pub tally_one : (section : List ℕ) (v : Value) (c : ℤ) (cs : List Candidate) → ((section : List ℕ) (w : ℤ) → FitsSigned w64 w → meant_in section v ≡ Whole w → w ≡ c) → AreFound c v 45 cs → IsHere section v → IsTally section (v ∷ []) (record { candidates = cs; constant = c; count = 1 })
@@ -110,20 +130,20 @@ tally_one section v c cs same f h = record {
     constant_here : (other : ℤ) (bytes : List ℕ) → SpellsValue implicit_const other (meant_in section v) bytes → other ≡ c
     constant_here other bytes s = let p = constant_spelled other (meant_in section v) bytes s in same section other p.1 p.2
 
-pub added_none : (c : ℤ) (v : Value) (cs : List Candidate) → AreAdded c v cs 0 cs
-added_none c v cs = record { same = refl; next = λ k lt inside. absurd (omega arith); left = λ k le. refl }
+pub added_none : (v : Value) (cs : List Candidate) → AreAdded v cs 0 cs
+added_none v cs = record { same = refl; next = λ k lt inside. absurd (omega arith); left = λ k le. refl }
 
-pub added_more : (c : ℤ) (v : Value) (old cs : List Candidate) (i : ℕ) (x : Candidate) → i < length old → AreAdded c v old i cs → IsNext c v (candidate_at cs i) x → AreAdded c v old (i + 1) (slice_set cs i x)
-added_more c v old cs i x inside a n =
+pub added_more : (v : Value) (old cs : List Candidate) (i : ℕ) (x : Candidate) → i < length old → AreAdded v old i cs → IsNext v (candidate_at cs i) x → AreAdded v old (i + 1) (slice_set cs i x)
+added_more v old cs i x inside a n =
     let here : i < length cs = omega (arith, a.same) in
     record {
       same = length_set cs i x ∙ a.same;
       next = λ k lt in_old.
           elim (cases_lt k i) [
-            | inl less ↦ subst (λ (z : Candidate). IsNext c v (candidate_at old k) z) (sym (set_apart cs i x k (omega arith))) (a.next k less in_old)
+            | inl less ↦ subst (λ (z : Candidate). IsNext v (candidate_at old k) z) (sym (set_apart cs i x k (omega arith))) (a.next k less in_old)
             | inr more ↦
                 let e : i ≡ k = omega arith in
-                subst (λ (z : ℕ). IsNext c v (candidate_at old z) (candidate_at (slice_set cs i x) z)) e (subst (λ (z : Candidate). IsNext c v (candidate_at old i) z) (sym (set_here cs i x here)) (subst (λ (z : Candidate). IsNext c v z x) (a.left i (omega arith)) n))
+                subst (λ (z : ℕ). IsNext v (candidate_at old z) (candidate_at (slice_set cs i x) z)) e (subst (λ (z : Candidate). IsNext v (candidate_at old i) z) (sym (set_here cs i x here)) (subst (λ (z : Candidate). IsNext v z x) (a.left i (omega arith)) n))
           ];
       left = λ k le. set_apart cs i x k (omega arith) ∙ a.left k (omega arith);
     }
@@ -146,8 +166,8 @@ added_more c v old cs i x inside a n =
     set_apart (y ∷ ys) (suc i) x (suc k) other = set_apart ys i x k (λ e. other (ap (λ z. suc z) e))
 
 -- the tally of one more value
-pub tally_more : (section : List ℕ) (v : Value) (c : ℤ) (count : ℕ) (values : List Value) (old new : List Candidate) → AreAdded c v old (length old) new → IsHere section v → IsTally section values (record { candidates = old; constant = c; count = count }) → IsTally section (values ++ v ∷ []) (record { candidates = new; constant = c; count = count + 1 })
-tally_more section v c count values old new a h t =
+pub tally_more : (section : List ℕ) (v : Value) (c : ℤ) (count : ℕ) (values : List Value) (old new : List Candidate) → AreAdded v old (length old) new → AreShaped c old → IsHere section v → IsTally section values (record { candidates = old; constant = c; count = count }) → IsTally section (values ++ v ∷ []) (record { candidates = new; constant = c; count = count + 1 })
+tally_more section v c count values old new a shaped h t =
     let ms : List Meaning = meanings_in section values in
     let m : Meaning = meant_in section v in
     let more : meanings_in section (values ++ v ∷ []) ≡ ms ++ m ∷ [] = map-append (meant_in section) values (v ∷ []) in
@@ -157,7 +177,7 @@ tally_more section v c count values old new a h t =
       tallied = subst (λ (z : List Meaning). AreTallied z new c) (sym more) (record {
         summed = λ k lt.
             let inside : k < length old = omega (arith, a.same) in
-            (a.next k inside inside).summed section ms h t.tallied.only (t.tallied.summed k inside);
+            (a.next k inside inside).summed c section ms (shaped k inside) h t.tallied.only (t.tallied.summed k inside);
         full = λ code other n choice w.
             let b = entries_before code other ms m n w in
             let held = t.tallied.full code other b.0 choice b.1 in
@@ -166,8 +186,16 @@ tally_more section v c count values old new a h t =
       });
     }
 
-pub added_bounded : (c : ℤ) (v : Value) (count : ℕ) (old new : List Candidate) → AreAdded c v old (length old) new → AreBounded old count → AreBounded new (count + 1)
-added_bounded c v count old new a b k lt =
+-- the candidates keep their forms and shapes
+pub added_shaped : (c : ℤ) (v : Value) (old new : List Candidate) → AreAdded v old (length old) new → AreShaped c old → AreShaped c new
+added_shaped c v old new a shaped k lt =
+    let inside : k < length old = omega (arith, a.same) in
+    let next = a.next k inside inside in
+    let s = shaped k inside in
+    (s.0, s.1 ∙ sym next.form, s.2, next.shape ∙ s.3)
+
+pub added_bounded : (v : Value) (count : ℕ) (old new : List Candidate) → AreAdded v old (length old) new → AreBounded old count → AreBounded new (count + 1)
+added_bounded v count old new a b k lt =
     let inside : k < length old = omega (arith, a.same) in
     let le : (candidate_at old k).size ≤ count * 2 ^ 64 = b k inside in
     omega (arith, (a.next k inside inside).few)
@@ -178,19 +206,19 @@ index_at [] i x lt e = absurd (omega arith)
 index_at (y ∷ ys) zero x lt e = e
 index_at (y ∷ ys) (suc i) x lt e = index_at ys i x (omega arith) e
 
-pub added_room : (c : ℤ) (v : Value) (old cs : List Candidate) (i : ℕ) (x : Candidate) → i < length old → AreAdded c v old i cs → x ≡ get_or cs i x → HaveRoom old → x.size + 2 ^ 64 < 2 ^ 128
-added_room c v old cs i x inside a e room =
+pub added_room : (v : Value) (old cs : List Candidate) (i : ℕ) (x : Candidate) → i < length old → AreAdded v old i cs → x ≡ get_or cs i x → HaveRoom old → x.size + 2 ^ 64 < 2 ^ 128
+added_room v old cs i x inside a e room =
     let here : x ≡ candidate_at old i = index_at cs i x (omega (arith, a.same)) e ∙ a.left i (omega arith) in
     subst (λ (z : Candidate). z.size + 2 ^ 64 < 2 ^ 128) (sym here) (room i inside)
 
-pub added_all : (c : ℤ) (v : Value) (old cs : List Candidate) (i : ℕ) → length old ≤ i → AreAdded c v old i cs → AreAdded c v old (length old) cs
-added_all c v old cs i all a = record {
+pub added_all : (v : Value) (old cs : List Candidate) (i : ℕ) → length old ≤ i → AreAdded v old i cs → AreAdded v old (length old) cs
+added_all v old cs i all a = record {
   same = a.same;
   next = λ k lt inside. a.next k (omega arith) inside;
   left = λ k le. past (candidate_past cs k (omega (arith, a.same))) (candidate_past old k le);
 }
   where
-    candidate_past : (cs : List Candidate) (k : ℕ) → length cs ≤ k → candidate_at cs k ≡ record { form = 0; size = 0; admits = false }
+    candidate_past : (cs : List Candidate) (k : ℕ) → length cs ≤ k → candidate_at cs k ≡ record { form = 0; shape = Constant (pos 0); size = 0; admits = false }
     candidate_past [] k le = refl
     candidate_past (y ∷ ys) zero le = absurd (omega arith)
     candidate_past (y ∷ ys) (suc k) le = candidate_past ys k (omega arith)
@@ -201,3 +229,14 @@ added_all c v old cs i all a = record {
 -- counts that fit leave room for one more value
 pub bounded_room : (cs : List Candidate) (count : ℕ) → AreBounded cs count → count < 2 ^ 63 → HaveRoom cs
 bounded_room cs count b few k lt = let le : (candidate_at cs k).size ≤ count * 2 ^ 64 = b k lt in omega arith
+
+-- constants that fit are those of the shapes
+pub shaped_constants : (c : ℤ) (cs : List Candidate) → FitsSigned w64 c → AreShaped c cs → HaveConstants cs
+shaped_constants c cs fits shaped k lt =
+    let s = shaped k lt in
+    subst (λ (z : Shape). HasConstant z) (sym s.3) (constant_held s.0 c fits)
+
+pub added_constant : (v : Value) (old cs : List Candidate) (i : ℕ) (x : Candidate) → i < length old → AreAdded v old i cs → x ≡ get_or cs i x → HaveConstants old → HasConstant x.shape
+added_constant v old cs i x inside a e constants =
+    let here : x ≡ candidate_at old i = index_at cs i x (omega (arith, a.same)) e ∙ a.left i (omega arith) in
+    subst (λ (z : Candidate). HasConstant z.shape) (sym here) (constants i inside)

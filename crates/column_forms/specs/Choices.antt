@@ -2,7 +2,7 @@
 use Rattle.std.specs.Prelude.{◌≡◌, ◌≤◌, ◌<◌, ◌+◌, ◌⊎◌, ℕ, ℤ, List, true, false, Option, Some, None, IfSome}
 use Rattle.column_forms.specs.declared.tally.Candidate.{Candidate}
 use Rattle.column_forms.specs.declared.choice.Choice.{Choice}
-use Rattle.column_forms.specs.Columns.{constant_bytes, ComesFirst}
+use Rattle.form_codec.specs.Columns.{constant_bytes, ComesFirst}
 use Rattle.column_forms.specs.Tallies.{candidate_at}
 
 -- the bytes of a column in the form of a candidate, with those in the declaration

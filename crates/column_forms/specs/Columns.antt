@@ -1,54 +1,9 @@
--- Columns (DWARF 5 sections 7.5.3, 7.5.5 and 7.5.6): the values that one attribute has in all entries of a declaration,
--- and the form in which they and the declaration take the fewest bytes.
-use Rattle.std.specs.Prelude.{◌≡◌, ◌≢◌, ◌≤◌, ◌+◌, ◌==◌, ◌⊎◌, if◌then◌else◌, ℕ, ℤ, pos, List, [], ◌∷◌, length, true, nat_le, ◌&&◌, Bool}
-use Rattle.leb_codec.specs.Leb.{least_signed_len}
-use Rattle.form_codec.specs.declared.form.Form.{Form}
-use Rattle.form_codec.specs.Forms.{Meaning, SpellsValue, code_of, is_written, counted}
+-- Columns of a declaration that are written in their least forms.
+use Rattle.std.specs.Prelude.{◌≡◌, ◌≢◌, pos, List, true}
+use Rattle.form_codec.specs.Forms.{Meaning}
+use Rattle.form_codec.specs.Columns.{IsLeastForm, is_reference}
 use Rattle.abbrev_tables.specs.declared.decl.Spec.{Spec}
 use Rattle.abbrev_tables.specs.Tables.{implicit_const}
-
--- the form with this code may be chosen: it is known, and not one of ref1, ref2, ref4 and ref8
-abbrev pub IsChoice : ℕ → Type 0
-IsChoice code = (form : Form) × (code_of form ≡ code) × (is_written form ≡ true)
-
--- n bytes are enough for the values in the form with this code, in the entries: the least n is that of their shortest
--- spellings. Expressions and references within a unit don't count, since they have sizes of their own.
-abbrev pub EntriesWithin : ℕ → ℤ → List Meaning → ℕ → Type 0
-EntriesWithin code constant [] n = Unit {0}
-EntriesWithin code constant (m ∷ ms) n =
-    (bytes : List ℕ) × (rest : ℕ) × SpellsValue code constant m bytes × EntriesWithin code constant ms rest × (counted m (length bytes) + rest ≤ n)
-
--- the form with this code, and with a constant where it is implicit_const, spells each of the values
-abbrev pub AreSpelled : ℕ → ℤ → List Meaning → Type 0
-AreSpelled code constant [] = Unit {0}
-AreSpelled code constant (m ∷ ms) = ((bytes : List ℕ) × SpellsValue code constant m bytes) × AreSpelled code constant ms
-
--- the bytes of a column's constant in the declaration
-abbrev pub constant_bytes : ℕ → ℤ → ℕ
-constant_bytes code constant = if code == implicit_const then least_signed_len constant else 0
-
--- The form with this code admits each of the values, and n bytes are enough for the column: those in the entries, and
--- the constant in the declaration.
-pub record ColumnWithin (code : ℕ) (constant : ℤ) (meanings : List Meaning) (n : ℕ) : Type 0 where
-  pub choice : IsChoice code
-  pub entries : ℕ
-  pub within : EntriesWithin code constant meanings entries
-  pub cost : entries + constant_bytes code constant ≤ n
-
--- of two forms that take as few bytes the input's comes first, and else the one with the lower code
-abbrev pub ComesFirst : ℕ → ℕ → ℕ → Type 0
-ComesFirst input code other = (code ≡ input) ⊎ ((other ≢ input) × (code ≤ other))
-
--- No form that admits all of the values takes fewer bytes, and of those that take as few this one comes first.
-pub record IsLeastForm (input : ℕ) (meanings : List Meaning) (code : ℕ) (constant : ℤ) : Type 0 where
-  pub bytes : ℕ
-  pub enough : ColumnWithin code constant meanings bytes
-  pub least : (other : ℕ) (c : ℤ) (n : ℕ) → ColumnWithin other c meanings n → bytes ≤ n
-  pub first : (other : ℕ) (c : ℤ) → ColumnWithin other c meanings bytes → ComesFirst input code other
-
--- the form is one of references to entries: ref_addr, ref1, ref2, ref4, ref8 or ref_udata, with the codes from 16 to 21
-abbrev pub is_reference : ℕ → Bool
-is_reference code = nat_le 16 code && nat_le code 21
 
 -- The column is the old one in its least form. A column of references keeps its form, since the sizes of these depend on
 -- each other.

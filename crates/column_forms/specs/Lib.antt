@@ -1,4 +1,5 @@
 pub mod Choices
 pub mod Columns
 pub mod Rows
+pub mod TableColumns
 pub mod Tallies

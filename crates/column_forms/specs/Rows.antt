@@ -4,7 +4,8 @@ use Rattle.form_codec.specs.declared.value.Value.{Value}
 use Rattle.form_codec.specs.declared.value.Value.TheVariants as value
 use Rattle.abbrev_tables.specs.declared.decl.Spec.{Spec}
 use Rattle.abbrev_tables.specs.Listings.{spec_at}
-use Rattle.column_forms.specs.Columns.{AreSpelled, IsChosen}
+use Rattle.form_codec.specs.Columns.{AreSpelled}
+use Rattle.column_forms.specs.Columns.{IsChosen}
 use Rattle.column_forms.specs.Tallies.{IsHere, meanings_in}
 
 -- the value at a place; past the end there is none, and an address 0 stands for it

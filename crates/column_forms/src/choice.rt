@@ -1,6 +1,6 @@
 // The least form among those that admit all values.
 ghost use Rattle.std.specs.Prelude.{◌≡◌, ◌≤◌, ◌<◌, ◌+◌, ◌^◌, ◌↔◌, ℕ, length, IsTrue, true};
-ghost use Rattle.column_forms.specs.Columns.{ComesFirst, is_reference};
+ghost use Rattle.form_codec.specs.Columns.{ComesFirst, is_reference};
 ghost use Rattle.column_forms.specs.Tallies.{AreBounded, candidate_at};
 ghost use Rattle.column_forms.specs.Choices.{IsBest, IsBetter, bytes_of};
 

@@ -3,9 +3,11 @@
 
 mod choice;
 mod declaration;
+mod tallies;
 mod tally;
 #[cfg(test)]
 mod tests;
 
 pub use declaration::choose;
+pub use tallies::Tallies;
 pub use tally::{Candidate, Tally};

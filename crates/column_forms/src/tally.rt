@@ -5,13 +5,15 @@ ghost use Rattle.form_codec.specs.declared.value.Value.{Value as AValue};
 ghost use Rattle.form_codec.specs.Forms.{Meaning};
 ghost use Rattle.form_codec.specs.Forms.Meaning.{Whole};
 ghost use Rattle.form_codec.specs.Values.{meant_in, IsValueIn};
-ghost use Rattle.column_forms.specs.Columns.{IsChosen, AreSpelled};
-ghost use Rattle.column_forms.specs.Tallies.{meanings_in, IsTally, IsValueSize, CanSpell, IsHere, IsNext, AreFound, AreAdded, HaveRoom};
+ghost use Rattle.form_codec.specs.Columns.{AreSpelled};
+ghost use Rattle.column_forms.specs.Columns.{IsChosen};
+ghost use Rattle.form_codec.specs.Written.{HasConstant};
+ghost use Rattle.column_forms.specs.Tallies.{meanings_in, IsTally, CanSpell, IsHere, IsNext, IsFirst, AreFound, AreAdded, HaveRoom, HaveConstants};
 
 use crate::choice::{best_of, is_reference};
 use abbrev_tables::Spec;
 use dw_base::NoMemory;
-use form_codec::{Value, admits, size_of};
+use form_codec::{Form, Shape, Value, size_in};
 use std::alloc::Global;
 use std::marker::Model;
 
@@ -22,10 +24,12 @@ pub const IMPLICIT_CONST: u64 = 33;
 const LAST_FORM: u64 = 44;
 
 /// A form that admits the first value of a column.
-#[derive(Clone, Copy, Debug, PartialEq, Eq)]
+#[derive(Clone, Copy)]
 pub struct Candidate {
     /// The code of the form.
     pub form: u64,
+    /// The shape of its bytes, which for DW_FORM_implicit_const has the constant.
+    pub shape: Shape,
     /// How many bytes the values take in the entries.
     pub size: u128,
     /// Whether it admits all values so far.
@@ -37,7 +41,7 @@ fn constant_of(value: &Value) -> i64
     ensures { (section : List ℕ) (v : ℤ) → FitsSigned w64 v → meant_in section value.now ≡ Whole v → v ≡ result }
 {
     match *value {
-        Value::Int(number) => match i64::try_from(number) {
+        Value::Int(number) => match i64::try_from(number.get()) {
             Ok(constant) => constant,
             Err(_) => 0,
         },
@@ -45,55 +49,15 @@ fn constant_of(value: &Value) -> i64
     }
 }
 
-// Whether a value is this constant.
-fn is_constant(value: &Value, constant: i64) -> bool
-    ensures { (section : List ℕ) → IsTrue result ↔ (meant_in section value.now ≡ Whole constant) }
+// Counts one more value in a form.
+fn count(candidate: &mut Candidate, value: &Value)
+    requires room { candidate.old.size + 2 ^ 64 < 2 ^ 128 }
+    requires shape { HasConstant candidate.old.shape }
+    ensures { IsNext value.now candidate.old candidate.new }
 {
-    match *value {
-        Value::Int(number) => number == i128::from(constant),
-        _ => false,
-    }
-}
-
-// Whether the form with a code, and with a constant where it is implicit_const, spells a value.
-fn spells(form: u64, constant: i64, value: &Value) -> bool
-    ensures { (section : List ℕ) → IsValueIn section value.now → (IsTrue result ↔ CanSpell form constant (meant_in section value.now)) }
-{
-    if form == IMPLICIT_CONST {
-        is_constant(value, constant)
-    } else {
-        admits(form, value)
-    }
-}
-
-// The bytes of a value in a form, or None where the form doesn't spell it.
-fn size_in(form: u64, constant: i64, value: &Value) -> Option<u64>
-    ensures fits { IfSome result (λ size. size < 2 ^ 64) }
-    ensures size { (section : List ℕ) → IsHere section value.now → MatchOption result (CanSpell form constant (meant_in section value.now) → ⊥) (IsValueSize form constant (meant_in section value.now)) }
-{
-    if spells(form, constant, value) {
-        Some(size_of(form, value))
-    } else {
-        None
-    }
-}
-
-// What is held of a form after one more value.
-fn with_value(old: Candidate, constant: i64, value: &Value) -> Candidate
-    requires { old.size + 2 ^ 64 < 2 ^ 128 }
-    ensures { IsNext constant value.now old result }
-{
-    match size_in(old.form, constant, value) {
-        Some(size) => Candidate {
-            form: old.form,
-            size: old.size + u128::from(size),
-            admits: old.admits,
-        },
-        None => Candidate {
-            form: old.form,
-            size: old.size,
-            admits: false,
-        },
+    match size_in(candidate.shape, value) {
+        Some(size) => candidate.size += u128::from(size),
+        None => candidate.admits = false,
     }
 }
 
@@ -116,22 +80,40 @@ impl Model for Tally {
     ghost invariant = { λ t. IsHeld t.candidates.items t.constant t.count };
 }
 
+// The form with a code, where it can be chosen and spells a first value.
+fn candidate_for(code: u64, constant: i64, value: &Value) -> Option<Candidate>
+    ensures { MatchOption result ((section : List ℕ) → IsHere section value.now → CanSpell code constant (meant_in section value.now) → ⊥) (IsFirst code constant value.now) }
+{
+    let Some(form) = Form::from_code(code) else {
+        return None;
+    };
+    if !form.is_written() {
+        return None;
+    }
+    let shape = form.shape(constant);
+    let Some(size) = size_in(shape, value) else {
+        return None;
+    };
+    Some(Candidate {
+        form: code,
+        shape,
+        size: u128::from(size),
+        admits: true,
+    })
+}
+
 // Appends the form with a code, where it spells a value.
 fn push_candidate(
     candidates: &mut Vec<Candidate>,
-    form: u64,
+    code: u64,
     constant: i64,
     value: &Value,
 ) -> Result<(), NoMemory>
-    requires { AreFound constant value.now form candidates.old.items }
-    ensures { OnOk result (AreFound constant value.now (form + 1) candidates.new.items) }
+    requires { AreFound constant value.now code candidates.old.items }
+    ensures { OnOk result (AreFound constant value.now (code + 1) candidates.new.items) }
 {
-    if let Some(size) = size_in(form, constant, value) {
-        candidates.push(Candidate {
-            form,
-            size: u128::from(size),
-            admits: true,
-        })?;
+    if let Some(candidate) = candidate_for(code, constant, value) {
+        candidates.push(candidate)?;
     }
     Ok(())
 }
@@ -141,20 +123,20 @@ fn candidates_for(alloc: Global, constant: i64, value: &Value) -> Result<Vec<Can
     ensures { IfOk result (λ candidates. AreFound constant value.now 45 candidates.items) }
 {
     let mut candidates = Vec::new(alloc);
-    for form in 1..LAST_FORM + 1 {
-        push_candidate(&mut candidates, form, constant, value)?;
+    for code in 1..LAST_FORM + 1 {
+        push_candidate(&mut candidates, code, constant, value)?;
     }
     Ok(candidates)
 }
 
 // Counts one more value in each form.
-fn add_to(candidates: &mut Vec<Candidate>, constant: i64, value: &Value)
-    requires { HaveRoom candidates.old.items }
-    ensures { AreAdded constant value.now candidates.old.items (length candidates.old.items) candidates.new.items }
+fn add_to(candidates: &mut Vec<Candidate>, value: &Value)
+    requires room { HaveRoom candidates.old.items }
+    requires shapes { HaveConstants candidates.old.items }
+    ensures { AreAdded value.now candidates.old.items (length candidates.old.items) candidates.new.items }
 {
     for i in 0..candidates.len() {
-        let candidate = with_value(candidates[i], constant, value);
-        candidates[i] = candidate;
+        count(&mut candidates[i], value);
     }
 }
 
@@ -179,7 +161,7 @@ impl Tally {
         ensures count { self.new.count ≡ self.old.count + 1 }
         ensures tally { (section : List ℕ) (values : List AValue) → IsHere section value.now → IsTally section values self.old → IsTally section (values ++ value.now ∷ []) self.new }
     {
-        add_to(&mut self.candidates, self.constant, value);
+        add_to(&mut self.candidates, value);
         self.count += 1;
     }
 

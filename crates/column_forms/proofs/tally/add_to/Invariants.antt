@@ -2,4 +2,4 @@ use Rattle.column_forms.specs.Tallies.{AreAdded}
 use Rattle.column_forms.proofs.tally.add_to.Given as goal
 
 abbrev pub invariant-loop-i : goal.invariant-loop-i
-invariant-loop-i l = AreAdded l.fn.constant l.fn.value l.fn.candidates.items l.i l.candidates.items
+invariant-loop-i l = AreAdded l.fn.value l.fn.candidates.items l.i l.candidates.items

@@ -8,6 +8,6 @@ use Rattle.column_forms.proofs.tally.candidates_for.Goals as goal
 pub returns : goal.returns
 returns c =
     let fits : FitsSigned w64 c.args.constant = c.ranges.constant in
-    let e : c.loop-form.form ≡ 45 = omega (arith, c.loop-form-test.false, c.loop-form.auto.form, c.loop-form.auto.form-end) in
-    let found = simp to_z-of_z at c.loop-form.invariant in
-    subst (λ (z : ℕ). AreFound c.args.constant c.args.value.now z c.loop-form.candidates.items) e found
+    let e : c.loop-code.code ≡ 45 = omega (arith, c.loop-code-test.false, c.loop-code.auto.code, c.loop-code.auto.code-end) in
+    let found = simp to_z-of_z at c.loop-code.invariant in
+    subst (λ (z : ℕ). AreFound c.args.constant c.args.value.now z c.loop-code.candidates.items) e found

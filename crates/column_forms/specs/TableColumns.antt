@@ -1,0 +1,65 @@
+-- The columns of an abbreviation table, whose values come entry by entry.
+use Rattle.std.specs.Prelude.{◌≡◌, ◌≢◌, ◌≤◌, ◌<◌, ◌+◌, ◌^◌, ◌⊎◌, ℕ, List, [], ◌∷◌, ◌++◌, length, slice_index_or, Option, Some, None, IfSome}
+use Rattle.form_codec.specs.declared.value.Value.{Value}
+use Rattle.form_codec.specs.Columns.{AreSpelled}
+use Rattle.abbrev_tables.specs.declared.decl.Spec.{Spec}
+use Rattle.abbrev_tables.specs.Listings.{spec_at}
+use Rattle.column_forms.specs.Columns.{IsChosen}
+use Rattle.column_forms.specs.Tallies.{Tallying, IsTally, IsHere, meanings_in}
+use Rattle.column_forms.specs.Rows.{value_at}
+
+-- what is held of the column with a number; past the end there is nothing
+abbrev pub tally_at : List (Option Tallying) → ℕ → Option Tallying
+tally_at tallies k = slice_index_or tallies k None
+
+-- the sums of a column with these values of a section; there are none where it has no value
+abbrev pub IsTallyOf : List ℕ → List Value → Option Tallying → Type 0
+IsTallyOf section values None = values ≡ []
+IsTallyOf section values (Some tally) = IsTally section values tally
+
+-- what is held are the sums of columns that have these values, each column by its number
+abbrev pub AreTalliesOf : List ℕ → (ℕ → List Value) → List (Option Tallying) → Type 0
+AreTalliesOf section values tallies = (k : ℕ) → k < length tallies → IsTallyOf section (values k) (tally_at tallies k)
+
+-- each of some columns, from a first one on, has one value more, which is that of a row; and the others have what they had
+pub record AddsRow (first : ℕ) (row : List Value) (before after : ℕ → List Value) : Type 0 where
+  pub each : (j : ℕ) → j < length row → after (first + j) ≡ before (first + j) ++ value_at row j ∷ []
+  pub others : (k : ℕ) → (k < first) ⊎ (first + length row ≤ k) → after k ≡ before k
+
+-- each column can have one value more
+abbrev pub HaveRoomForRow : List (Option Tallying) → Type 0
+HaveRoomForRow tallies = (k : ℕ) → k < length tallies → IfSome (tally_at tallies k) (λ tally. tally.count < 2 ^ 63)
+
+-- no column has more than so many values
+abbrev pub HaveAtMost : ℕ → List (Option Tallying) → Type 0
+HaveAtMost n tallies = (k : ℕ) → k < length tallies → IfSome (tally_at tallies k) (λ tally. tally.count ≤ n)
+
+-- A column with these values of a section: without a value it is kept, and else it is in its least form, where its form spells
+-- the values.
+pub record IsBestFor (section : List ℕ) (values : List Value) (old new : Spec) : Type 0 where
+  pub unused : values ≡ [] → new ≡ old
+  pub chosen : values ≢ [] → AreSpelled old.form old.constant (meanings_in section values) → IsChosen old (meanings_in section values) new
+
+-- there are as many new columns, each the best for the values of its old one
+pub record AreBestFor (section : List ℕ) (values : ℕ → List Value) (old new : List Spec) : Type 0 where
+  pub count : length new ≡ length old
+  pub each : (k : ℕ) → k < length old → IsBestFor section (values k) (spec_at old k) (spec_at new k)
+
+-- what is held of a column after one more value
+abbrev pub IsNextTally : Value → Option Tallying → Option Tallying → Type 0
+IsNextTally v old new = (section : List ℕ) (values : List Value) → IsHere section v → IsTallyOf section values old → IsTallyOf section (values ++ v ∷ []) new
+
+-- a column has at most one value more
+abbrev pub HasOneMore : Option Tallying → Option Tallying → Type 0
+HasOneMore old new = (n : ℕ) → IfSome old (λ tally. tally.count ≤ n) → IfSome new (λ tally. tally.count ≤ n + 1)
+
+-- the first so many values of a row are counted, each in its column from a first one on, and the other columns hold what they did
+pub record AreCounted (first : ℕ) (row : List Value) (done : ℕ) (old new : List (Option Tallying)) : Type 0 where
+  pub same : length new ≡ length old
+  pub next : (j : ℕ) → j < done → IsNextTally (value_at row j) (tally_at old (first + j)) (tally_at new (first + j))
+  pub more : (j : ℕ) → j < done → HasOneMore (tally_at old (first + j)) (tally_at new (first + j))
+  pub others : (k : ℕ) → (k < first) ⊎ (first + done ≤ k) → tally_at new k ≡ tally_at old k
+
+-- a column is the best for all values of which this is held
+abbrev pub IsBestOfTally : Option Tallying → Spec → Spec → Type 0
+IsBestOfTally tally old new = (section : List ℕ) (values : List Value) → IsTallyOf section values tally → IsBestFor section values old new

@@ -1,0 +1,95 @@
+// The sums of all columns of an abbreviation table.
+ghost use Rattle.std.specs.Prelude.{◌≡◌, ◌≤◌, ◌<◌, ◌+◌, ◌^◌, ℕ, List, [], length, IfOk, IfSome, OnOk};
+ghost use Rattle.form_codec.specs.declared.value.Value.{Value as AValue};
+ghost use Rattle.column_forms.specs.Rows.{AreHere};
+ghost use Rattle.column_forms.specs.TableColumns.{AreTalliesOf, AddsRow, HaveRoomForRow, HaveAtMost, IsNextTally, HasOneMore, IsBestOfTally, AreBestFor};
+
+use crate::tally::Tally;
+use abbrev_tables::Spec;
+use dw_base::NoMemory;
+use form_codec::Value;
+use std::alloc::Global;
+use std::marker::Model;
+
+/// The sums of all columns of an abbreviation table (DWARF 5 section 7.5.3), whose values come entry by entry. Columns are
+/// numbered from 0 over all declarations of the table. Contracts see for each column what a `Tally` holds, or nothing for one
+/// that has no value yet.
+#[derive(Drop)]
+pub struct Tallies {
+    columns: Vec<Option<Tally>>,
+}
+
+impl Model for Tallies {
+    ghost use Rattle.std.specs.Prelude.{List, Option};
+    ghost use Rattle.column_forms.specs.Tallies.{Tallying};
+
+    ghost Value = { List (Option Tallying) };
+
+    ghost view = { λ t. t.columns.items };
+}
+
+// Counts one more value of a column.
+fn count_in(slot: &mut Option<Tally>, alloc: Global, value: &Value) -> Result<(), NoMemory>
+    requires { IfSome slot.old (λ tally. tally.count < 2 ^ 63) }
+    ensures next { OnOk result (IsNextTally value.now slot.old slot.new) }
+    ensures more { OnOk result (HasOneMore slot.old slot.new) }
+{
+    match slot {
+        Some(tally) => tally.add(value),
+        None => *slot = Some(Tally::new(alloc, value)?),
+    }
+    Ok(())
+}
+
+// A column in its best form, or as it is where it has no value.
+fn best_for(tally: &Option<Tally>, column: Spec) -> Spec
+    ensures { IsBestOfTally tally.now column result }
+{
+    match tally {
+        Some(tally) => tally.best(column),
+        None => column,
+    }
+}
+
+impl Tallies {
+    /// The sums of so many columns, of which none has a value. The only error is want of memory.
+    pub fn new(alloc: Global, count: usize) -> Result<Tallies, NoMemory>
+        ensures count { IfOk result (λ tallies. length tallies ≡ count) }
+        ensures few { IfOk result (λ tallies. HaveAtMost 0 tallies) }
+        ensures none { IfOk result (λ tallies. (section : List ℕ) → AreTalliesOf section (λ (k : ℕ). []) tallies) }
+    {
+        let mut columns = Vec::new(alloc);
+        for _ in 0..count {
+            columns.push(None)?;
+        }
+        Ok(Tallies { columns })
+    }
+
+    /// Counts the values of one more entry, whose declaration has the columns from `first` on. The only error is want of
+    /// memory, after which nothing is said of the sums.
+    pub fn add_row(&mut self, alloc: Global, first: usize, row: &[Value]) -> Result<(), NoMemory>
+        requires inside { first + length row.now ≤ length self.old }
+        requires room { HaveRoomForRow self.old }
+        ensures count { length self.new ≡ length self.old }
+        ensures few { OnOk result ((n : ℕ) → HaveAtMost n self.old → HaveAtMost (n + 1) self.new) }
+        ensures added { OnOk result ((section : List ℕ) (before after : ℕ → List AValue) → AreHere section row.now → AddsRow first row.now before after → AreTalliesOf section before self.old → AreTalliesOf section after self.new) }
+    {
+        for j in 0..row.len() {
+            count_in(&mut self.columns[first + j], alloc, &row[j])?;
+        }
+        Ok(())
+    }
+
+    /// The columns, each in the form in which its values and its constant take the fewest bytes, as `Tally::best` says; one
+    /// without a value is kept. `columns` are those whose values were counted, in their order. The only error is want of memory.
+    pub fn best(&self, alloc: Global, columns: &[Spec]) -> Result<Vec<Spec>, NoMemory>
+        requires { length columns.now ≡ length self.now }
+        ensures { IfOk result (λ best. (section : List ℕ) (values : ℕ → List AValue) → AreTalliesOf section values self.now → AreBestFor section values columns.now best.items) }
+    {
+        let mut best = Vec::new(alloc);
+        for k in 0..columns.len() {
+            best.push(best_for(&self.columns[k], columns[k]))?;
+        }
+        Ok(best)
+    }
+}
