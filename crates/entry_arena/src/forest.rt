@@ -120,6 +120,16 @@ impl<'a> Forest<'a> {
         Ok(())
     }
 
+    /// Gives the memory back that is held for entries, values and chain ends that weren't pushed. It changes nothing of
+    /// what is held, and more may be pushed later. There is no error: where a smaller block can't be had, the larger stays.
+    pub fn shrink_to_fit(&mut self)
+        ensures { self.new ≡ self.old }
+    {
+        self.entries.shrink_to_fit();
+        self.values.shrink_to_fit();
+        self.ends.shrink_to_fit();
+    }
+
     /// How many entries there are.
     pub fn len(&self) -> u32
         ensures { result ≡ length self.now.entries }

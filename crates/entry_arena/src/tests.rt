@@ -6,7 +6,7 @@ ghost use Rattle.entry_arena.specs.Order.{ComesBefore, ComesAfterAll, IsNextEntr
 
 use crate::{ChainEnd, Entry, Forest, Target};
 use dw_base::{NoMemory, Span};
-use form_codec::Value;
+use form_codec::{Value, Whole};
 use std::alloc::Global;
 use std::process::Abort;
 use std::test::Fail;
@@ -34,32 +34,38 @@ const GCC_ENTRIES: [Row; 4] = [
     (93, 7, 1, 3, 21, 3),
 ];
 
-const GCC_VALUES: [Value; 24] = [
-    Value::StrOffset(0),
-    Value::Int(29),
-    Value::LineStrOffset(0),
-    Value::LineStrOffset(4),
-    Value::Addr(0x401000),
-    Value::Int(16),
-    Value::Offset(0),
-    Value::Flag(true),
-    Value::Text(Span { at: 47, len: 1 }),
-    Value::Int(1),
-    Value::Int(1),
-    Value::LocalRef(93),
-    Value::Addr(0x401000),
-    Value::Int(16),
-    Value::Expr(Span { at: 71, len: 1 }),
-    Value::LocalRef(93),
-    Value::Text(Span { at: 77, len: 1 }),
-    Value::Int(1),
-    Value::LocalRef(93),
-    Value::Offset(16),
-    Value::Offset(12),
-    Value::Int(4),
-    Value::Int(5),
-    Value::Text(Span { at: 96, len: 3 }),
-];
+fn int(number: i64) -> Value {
+    Value::Int(Whole::signed(number))
+}
+
+fn gcc_values() -> [Value; 24] {
+    [
+        Value::StrOffset(0),
+        int(29),
+        Value::LineStrOffset(0),
+        Value::LineStrOffset(4),
+        Value::Addr(0x401000),
+        int(16),
+        Value::Offset(0),
+        Value::Flag(true),
+        Value::Text(Span { at: 47, len: 1 }),
+        int(1),
+        int(1),
+        Value::LocalRef(93),
+        Value::Addr(0x401000),
+        int(16),
+        Value::Expr(Span { at: 71, len: 1 }),
+        Value::LocalRef(93),
+        Value::Text(Span { at: 77, len: 1 }),
+        int(1),
+        Value::LocalRef(93),
+        Value::Offset(16),
+        Value::Offset(12),
+        int(4),
+        int(5),
+        Value::Text(Span { at: 96, len: 3 }),
+    ]
+}
 
 const GCC_ENDS: [ChainEnd; 2] = [
     ChainEnd { entry: 1, at: 92 },
@@ -73,44 +79,46 @@ const CLANG_ENTRIES: [Row; 4] = [
     (72, 4, 1, 3, 24, 3),
 ];
 
-const CLANG_VALUES: [Value; 27] = [
-    Value::StrIndex(0),
-    Value::Int(29),
-    Value::StrIndex(1),
-    Value::Offset(8),
-    Value::Offset(0),
-    Value::StrIndex(2),
-    Value::Addr(0),
-    Value::RangeIndex(0),
-    Value::Offset(8),
-    Value::Offset(12),
-    Value::Offset(12),
-    Value::AddrIndex(0),
-    Value::Int(16),
-    Value::Expr(Span { at: 54, len: 1 }),
-    Value::StrIndex(3),
-    Value::Int(0),
-    Value::Int(1),
-    Value::LocalRef(72),
-    Value::Flag(true),
-    Value::LocIndex(0),
-    Value::StrIndex(4),
-    Value::Int(0),
-    Value::Int(1),
-    Value::LocalRef(72),
-    Value::StrIndex(5),
-    Value::Int(5),
-    Value::Int(4),
-];
+fn clang_values() -> [Value; 27] {
+    [
+        Value::StrIndex(0),
+        int(29),
+        Value::StrIndex(1),
+        Value::Offset(8),
+        Value::Offset(0),
+        Value::StrIndex(2),
+        Value::Addr(0),
+        Value::RangeIndex(0),
+        Value::Offset(8),
+        Value::Offset(12),
+        Value::Offset(12),
+        Value::AddrIndex(0),
+        int(16),
+        Value::Expr(Span { at: 54, len: 1 }),
+        Value::StrIndex(3),
+        int(0),
+        int(1),
+        Value::LocalRef(72),
+        Value::Flag(true),
+        Value::LocIndex(0),
+        Value::StrIndex(4),
+        int(0),
+        int(1),
+        Value::LocalRef(72),
+        Value::StrIndex(5),
+        int(5),
+        int(4),
+    ]
+}
 
 const CLANG_ENDS: [ChainEnd; 2] = [ChainEnd { entry: 1, at: 71 }, ChainEnd { entry: 0, at: 76 }];
 
 // A section with one unit, what it has, and the bytes of a span.
 #[derive(Clone, Copy)]
-struct Sample {
+struct Sample<'v> {
     section: &'static [u8],
     entries: &'static [Row],
-    values: &'static [Value],
+    values: &'v [Value],
     ends: &'static [ChainEnd],
     span: Span,
     bytes: &'static [u8],
@@ -179,17 +187,17 @@ fn lies_in(value: Value, size: u64) -> bool
     }
 }
 
-fn come_before(values: &[Value], next: Value) -> bool
-    ensures { IsTrue result → (i : ℕ) → i < length values.now → ComesBefore (value_at values.now i) next }
+fn come_before(values: &[Value], next: &Value) -> bool
+    ensures { IsTrue result → (i : ℕ) → i < length values.now → ComesBefore (value_at values.now i) next.now }
 {
-    values.iter().all(|value| comes_before(*value, next))
+    values.iter().all(|value| comes_before(*value, *next))
 }
 
 // Whether these may be pushed.
 fn is_next_value(forest: &Forest<'_>, value: Value) -> bool
     ensures { IsTrue result → IsNextValue forest.now value }
 {
-    lies_in(value, forest.section().len() as u64) && come_before(forest.values(), value)
+    lies_in(value, forest.section().len() as u64) && come_before(forest.values(), &value)
 }
 
 fn is_next_end(forest: &Forest<'_>, end: ChainEnd) -> bool
@@ -266,7 +274,8 @@ fn sought(sample: Sample, place: u64) -> Option<Target> {
     target
 }
 
-// Builds the forest, and asks it for all that was pushed and for what begins at each place.
+// Builds the forest, which has no spare memory after each entry, and asks it for all that was pushed and for what begins at
+// each place.
 fn check(rt: &impl Abort, alloc: Global, sample: Sample) -> Result<(), NoMemory> {
     let mut forest = Forest::new(alloc, sample.section);
     assert!(rt; forest.is_empty());
@@ -275,6 +284,7 @@ fn check(rt: &impl Abort, alloc: Global, sample: Sample) -> Result<(), NoMemory>
         assert_eq!(rt; push(rt, &mut forest, sample, entry)? as usize, number);
         assert!(rt; number < forest.len() as usize);
         assert_eq!(rt; forest.entry(number as u32), entry);
+        forest.shrink_to_fit();
     }
     assert_eq!(rt; forest.len() as usize, sample.entries.len());
     assert_eq!(rt; forest.value_count() as usize, sample.values.len());
@@ -293,10 +303,12 @@ fn check(rt: &impl Abort, alloc: Global, sample: Sample) -> Result<(), NoMemory>
 
 #[test]
 fn forests_of_samples(rt: HostRuntime) -> Result<(), Fail> {
+    let gcc_values = gcc_values();
+    let clang_values = clang_values();
     let gcc = Sample {
         section: &GCC,
         entries: &GCC_ENTRIES,
-        values: &GCC_VALUES,
+        values: &gcc_values,
         ends: &GCC_ENDS,
         span: Span { at: 96, len: 3 },
         bytes: b"int",
@@ -304,7 +316,7 @@ fn forests_of_samples(rt: HostRuntime) -> Result<(), Fail> {
     let clang = Sample {
         section: &CLANG,
         entries: &CLANG_ENTRIES,
-        values: &CLANG_VALUES,
+        values: &clang_values,
         ends: &CLANG_ENDS,
         span: Span { at: 54, len: 1 },
         bytes: &[0x57],

@@ -16,7 +16,7 @@ use Rattle.entry_read.specs.Units.{entries_at, IsUnit}
 use Rattle.entry_read.specs.Places.{HaveOwners, ValuesBelong}
 
 -- as many values as columns
-values_counted : (section : List ℕ) (columns : List Spec) (values : List Value) (from to : ℕ) → ValuesBetween section columns values from to → length values ≡ length columns
+pub values_counted : (section : List ℕ) (columns : List Spec) (values : List Value) (from to : ℕ) → ValuesBetween section columns values from to → length values ≡ length columns
 values_counted section [] [] from to same = omega arith
 values_counted section [] (v ∷ vs) from to none = absurd none
 values_counted section (c ∷ cs) [] from to none = absurd none

@@ -87,7 +87,8 @@ fn read_code(info: &[u8], at: usize, end: usize) -> Result<ReadU, Kind>
     }
 }
 
-/// The columns of a declaration.
+/// The columns, in their order, of the declaration with a number in the abbreviation table by which a unit is read (DWARF 5
+/// section 7.5.3). Declarations are counted from 0, as `decl` of an entry counts them. There is no error.
 pub fn columns_of(table: &Table, number: u32) -> &[Spec]
     requires table { IsTable table.now }
     requires inside { number < length (declarations_of table.now) }

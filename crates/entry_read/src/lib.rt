@@ -10,6 +10,7 @@ mod place;
 mod tests;
 mod unit;
 
+pub use entries::columns_of;
 pub use head::{UnitHead, header_size, heads};
 pub use laws::{heads_tile, units_lie, units_whole};
 pub use place::place_of_value;

@@ -1,9 +1,9 @@
 // Units of two compilers and of small shapes, entry by entry, and units that are refused.
-use crate::{Counts, UnitHead, heads, place_of_value, read_unit};
-use abbrev_tables::Table;
+use crate::{Counts, UnitHead, columns_of, heads, place_of_value, read_unit};
+use abbrev_tables::{Spec, Table};
 use dw_base::{Fault, Kind, Refusal, Span};
 use entry_arena::{ChainEnd, Entry};
-use form_codec::Value;
+use form_codec::{Value, Whole};
 use std::alloc::Global;
 use std::process::Abort;
 use std::test::Fail;
@@ -67,16 +67,125 @@ const NONE_BEFORE: Counts = Counts {
     values: 0,
 };
 
+// The place, the bytes, the depth, the declaration, the first value and the count of values of an entry.
+type Row = (u64, u64, u32, u32, u32, u32);
+
+const GCC_ENTRIES: [Row; 4] = [
+    (12, 34, 0, 0, 0, 7),
+    (46, 30, 1, 1, 7, 9),
+    (76, 16, 2, 2, 16, 5),
+    (93, 7, 1, 3, 21, 3),
+];
+
+fn int(number: i64) -> Value {
+    Value::Int(Whole::signed(number))
+}
+
+fn gcc_values() -> [Value; 24] {
+    [
+        Value::StrOffset(0),
+        int(29),
+        Value::LineStrOffset(0),
+        Value::LineStrOffset(4),
+        Value::Addr(0x401000),
+        int(16),
+        Value::Offset(0),
+        Value::Flag(true),
+        Value::Text(Span { at: 47, len: 1 }),
+        int(1),
+        int(1),
+        Value::LocalRef(93),
+        Value::Addr(0x401000),
+        int(16),
+        Value::Expr(Span { at: 71, len: 1 }),
+        Value::LocalRef(93),
+        Value::Text(Span { at: 77, len: 1 }),
+        int(1),
+        Value::LocalRef(93),
+        Value::Offset(16),
+        Value::Offset(12),
+        int(4),
+        int(5),
+        Value::Text(Span { at: 96, len: 3 }),
+    ]
+}
+
+const GCC_ENDS: [ChainEnd; 2] = [
+    ChainEnd { entry: 1, at: 92 },
+    ChainEnd { entry: 0, at: 100 },
+];
+
+const CLANG_ENTRIES: [Row; 4] = [
+    (12, 35, 0, 0, 0, 11),
+    (47, 15, 1, 1, 11, 8),
+    (62, 9, 2, 2, 19, 5),
+    (72, 4, 1, 3, 24, 3),
+];
+
+fn clang_values() -> [Value; 27] {
+    [
+        Value::StrIndex(0),
+        int(29),
+        Value::StrIndex(1),
+        Value::Offset(8),
+        Value::Offset(0),
+        Value::StrIndex(2),
+        Value::Addr(0),
+        Value::RangeIndex(0),
+        Value::Offset(8),
+        Value::Offset(12),
+        Value::Offset(12),
+        Value::AddrIndex(0),
+        int(16),
+        Value::Expr(Span { at: 54, len: 1 }),
+        Value::StrIndex(3),
+        int(0),
+        int(1),
+        Value::LocalRef(72),
+        Value::Flag(true),
+        Value::LocIndex(0),
+        Value::StrIndex(4),
+        int(0),
+        int(1),
+        Value::LocalRef(72),
+        Value::StrIndex(5),
+        int(5),
+        int(4),
+    ]
+}
+
+const CLANG_ENDS: [ChainEnd; 2] = [ChainEnd { entry: 1, at: 71 }, ChainEnd { entry: 0, at: 76 }];
+
+const BLOCK_ENTRIES: [Row; 3] = [
+    (12, 1, 0, 0, 0, 0),
+    (13, 117, 1, 1, 0, 2),
+    (130, 1, 1, 2, 2, 0),
+];
+
+const BLOCK_VALUES: [Value; 2] = [
+    Value::LocalRef(130),
+    Value::Block(Span { at: 19, len: 111 }),
+];
+
+const BLOCK_ENDS: [ChainEnd; 1] = [ChainEnd { entry: 0, at: 131 }];
+
+const SIBLING_ENTRIES: [Row; 2] = [(12, 1, 0, 0, 0, 0), (13, 5, 1, 1, 0, 1)];
+
+const SIBLING_VALUES: [Value; 1] = [Value::LocalRef(18)];
+
+const SIBLING_ENDS: [ChainEnd; 1] = [ChainEnd { entry: 0, at: 18 }];
+
 #[derive(Clone, Copy)]
 struct Sample<'s> {
     info: &'s [u8],
     table: &'s [u8],
-    entries: &'s [Entry],
+    entries: &'s [Row],
     values: &'s [Value],
     ends: &'s [ChainEnd],
 }
 
-fn entry(at: u64, len: u64, depth: u32, decl: u32, first: u32, count: u32) -> Entry {
+fn entry_of(row: Row) -> Entry {
+    let (at, len, depth, decl, first, count) = row;
     Entry {
         at,
         len,
@@ -87,12 +196,13 @@ fn entry(at: u64, len: u64, depth: u32, decl: u32, first: u32, count: u32) -> En
     }
 }
 
-fn end(entry: u32, at: u64) -> ChainEnd {
-    ChainEnd { entry, at }
-}
-
-fn span(at: u64, len: u64) -> Span {
-    Span { at, len }
+// Whether the entries are those of the rows, and no others.
+fn are_entries(entries: &[Entry], rows: &[Row]) -> bool {
+    entries.len() == rows.len()
+        && entries
+            .iter()
+            .zip(rows.iter())
+            .all(|(entry, row)| *entry == entry_of(*row))
 }
 
 // The fault of the units of a section that stands at 64 in the file, or none. All of them have one table.
@@ -137,7 +247,7 @@ fn reads(alloc: Global, sample: &Sample) -> Result<bool, Fail> {
         let forest = unit.forest();
         return Ok(
             unit.head() == *head
-                && forest.entries() == sample.entries
+                && are_entries(forest.entries(), sample.entries)
                 && forest.values() == sample.values
                 && forest.chain_ends() == sample.ends,
         );
@@ -147,8 +257,7 @@ fn reads(alloc: Global, sample: &Sample) -> Result<bool, Fail> {
 
 // Whether an entry or the end of a chain stands at a place.
 fn is_boundary(sample: &Sample, place: u64) -> bool {
-    sample.entries.iter().any(|entry| entry.at == place)
-        || sample.ends.iter().any(|end| end.at == place)
+    sample.entries.iter().any(|row| row.0 == place) || sample.ends.iter().any(|end| end.at == place)
 }
 
 // Whether each front of a unit of less than 256 bytes is refused with the right kind: Short while the length says that the
@@ -182,109 +291,71 @@ fn fronts_are_refused(alloc: Global, sample: &Sample) -> Result<bool, Fail> {
     Ok(true)
 }
 
-#[test]
-fn units_of_samples(rt: HostRuntime) -> Result<(), Fail> {
-    let alloc = rt.alloc();
-    let samples = [
+// The values of all samples.
+#[derive(Clone, Copy)]
+struct SampleValues {
+    gcc: [Value; 24],
+    clang: [Value; 27],
+    block: [Value; 2],
+    sibling: [Value; 1],
+}
+
+fn sample_values() -> SampleValues {
+    SampleValues {
+        gcc: gcc_values(),
+        clang: clang_values(),
+        block: BLOCK_VALUES,
+        sibling: SIBLING_VALUES,
+    }
+}
+
+fn samples(values: &SampleValues) -> [Sample<'_>; 4] {
+    [
         Sample {
             info: &GCC,
             table: &GCC_TABLE,
-            entries: &[
-                entry(12, 34, 0, 0, 0, 7),
-                entry(46, 30, 1, 1, 7, 9),
-                entry(76, 16, 2, 2, 16, 5),
-                entry(93, 7, 1, 3, 21, 3),
-            ],
-            values: &[
-                Value::StrOffset(0),
-                Value::Int(29),
-                Value::LineStrOffset(0),
-                Value::LineStrOffset(4),
-                Value::Addr(0x401000),
-                Value::Int(16),
-                Value::Offset(0),
-                Value::Flag(true),
-                Value::Text(span(47, 1)),
-                Value::Int(1),
-                Value::Int(1),
-                Value::LocalRef(93),
-                Value::Addr(0x401000),
-                Value::Int(16),
-                Value::Expr(span(71, 1)),
-                Value::LocalRef(93),
-                Value::Text(span(77, 1)),
-                Value::Int(1),
-                Value::LocalRef(93),
-                Value::Offset(16),
-                Value::Offset(12),
-                Value::Int(4),
-                Value::Int(5),
-                Value::Text(span(96, 3)),
-            ],
-            ends: &[end(1, 92), end(0, 100)],
+            entries: &GCC_ENTRIES,
+            values: &values.gcc,
+            ends: &GCC_ENDS,
         },
         Sample {
             info: &CLANG,
             table: &CLANG_TABLE,
-            entries: &[
-                entry(12, 35, 0, 0, 0, 11),
-                entry(47, 15, 1, 1, 11, 8),
-                entry(62, 9, 2, 2, 19, 5),
-                entry(72, 4, 1, 3, 24, 3),
-            ],
-            values: &[
-                Value::StrIndex(0),
-                Value::Int(29),
-                Value::StrIndex(1),
-                Value::Offset(8),
-                Value::Offset(0),
-                Value::StrIndex(2),
-                Value::Addr(0),
-                Value::RangeIndex(0),
-                Value::Offset(8),
-                Value::Offset(12),
-                Value::Offset(12),
-                Value::AddrIndex(0),
-                Value::Int(16),
-                Value::Expr(span(54, 1)),
-                Value::StrIndex(3),
-                Value::Int(0),
-                Value::Int(1),
-                Value::LocalRef(72),
-                Value::Flag(true),
-                Value::LocIndex(0),
-                Value::StrIndex(4),
-                Value::Int(0),
-                Value::Int(1),
-                Value::LocalRef(72),
-                Value::StrIndex(5),
-                Value::Int(5),
-                Value::Int(4),
-            ],
-            ends: &[end(1, 71), end(0, 76)],
+            entries: &CLANG_ENTRIES,
+            values: &values.clang,
+            ends: &CLANG_ENDS,
         },
         Sample {
             info: &BLOCK,
             table: &BLOCK_TABLE,
-            entries: &[
-                entry(12, 1, 0, 0, 0, 0),
-                entry(13, 117, 1, 1, 0, 2),
-                entry(130, 1, 1, 2, 2, 0),
-            ],
-            values: &[Value::LocalRef(130), Value::Block(span(19, 111))],
-            ends: &[end(0, 131)],
+            entries: &BLOCK_ENTRIES,
+            values: &values.block,
+            ends: &BLOCK_ENDS,
         },
         Sample {
             info: &SIBLING,
             table: &SIBLING_TABLE,
-            entries: &[entry(12, 1, 0, 0, 0, 0), entry(13, 5, 1, 1, 0, 1)],
-            values: &[Value::LocalRef(18)],
-            ends: &[end(0, 18)],
+            entries: &SIBLING_ENTRIES,
+            values: &values.sibling,
+            ends: &SIBLING_ENDS,
         },
-    ];
-    for sample in samples.iter() {
-        assert!(rt; reads(alloc, sample)?);
-        assert!(rt; fronts_are_refused(alloc, sample)?);
+    ]
+}
+
+#[test]
+fn samples_are_read(rt: HostRuntime) -> Result<(), Fail> {
+    let values = sample_values();
+    for sample in samples(&values).iter() {
+        assert!(rt; reads(rt.alloc(), sample)?);
+    }
+    Ok(())
+}
+
+#[test]
+fn fronts_of_samples_are_refused(rt: HostRuntime) -> Result<(), Fail> {
+    let values = sample_values();
+    for sample in samples(&values).iter() {
+        assert!(rt; fronts_are_refused(rt.alloc(), sample)?);
     }
     Ok(())
 }
@@ -357,113 +428,147 @@ fn heads_of_each_type(rt: HostRuntime) -> Result<(), Fail> {
 }
 
 // The bytes of .debug_info, and the kind and the place of its fault.
-#[test]
-fn refused_units(rt: HostRuntime) -> Result<(), Fail> {
-    let alloc = rt.alloc();
-    let rows: [(&[u8], Kind, u64); 22] = [
-        // the section ends in a length, and in a unit
-        (&[9, 0, 0], Kind::Short, 64),
-        (&[9, 0, 0, 0, 5, 0, 1, 8, 0, 0, 0, 0], Kind::Short, 64),
-        // a reserved length, and one that is less than a header
-        (
-            &[0xf0, 0xff, 0xff, 0xff, 5, 0, 1, 8, 0, 0, 0, 0],
-            Kind::UnitHead,
-            64,
-        ),
-        (&[7, 0, 0, 0, 5, 0, 1, 8, 0, 0, 0], Kind::UnitHead, 64),
-        // version 4, types 0 and 5, addresses of 4 bytes, a type unit with 12 bytes of header
-        (&[9, 0, 0, 0, 4, 0, 1, 8, 0, 0, 0, 0, 1], Kind::UnitHead, 64),
-        (&[9, 0, 0, 0, 5, 0, 0, 8, 0, 0, 0, 0, 1], Kind::UnitHead, 64),
-        (&[9, 0, 0, 0, 5, 0, 5, 8, 0, 0, 0, 0, 1], Kind::UnitHead, 64),
-        (&[9, 0, 0, 0, 5, 0, 1, 4, 0, 0, 0, 0, 1], Kind::UnitHead, 64),
-        (&[9, 0, 0, 0, 5, 0, 2, 8, 0, 0, 0, 0, 1], Kind::UnitHead, 64),
-        // a root of code 0, an open chain, and a byte after the tree
-        (&[9, 0, 0, 0, 5, 0, 1, 8, 0, 0, 0, 0, 0], Kind::Tree, 64),
-        (&[9, 0, 0, 0, 5, 0, 1, 8, 0, 0, 0, 0, 1], Kind::Tree, 64),
-        (
-            &[12, 0, 0, 0, 5, 0, 1, 8, 0, 0, 0, 0, 1, 0, 0, 5],
-            Kind::Tree,
-            64,
-        ),
-        // a code that isn't declared, one that is cut, and one that doesn't fit
-        (
-            &[11, 0, 0, 0, 5, 0, 1, 8, 0, 0, 0, 0, 1, 7, 0],
-            Kind::CodeMissing,
-            77,
-        ),
-        (
-            &[10, 0, 0, 0, 5, 0, 1, 8, 0, 0, 0, 0, 1, 0x82],
-            Kind::Short,
-            77,
-        ),
-        (
-            &[
-                19, 0, 0, 0, 5, 0, 1, 8, 0, 0, 0, 0, 1, 0xff, 0xff, 0xff, 0xff, 0xff, 0xff, 0xff,
-                0xff, 0xff, 2,
-            ],
-            Kind::LebWide,
-            77,
-        ),
-        // a number that is cut or doesn't fit, and a text that ends in the next unit
-        (
-            &[11, 0, 0, 0, 5, 0, 1, 8, 0, 0, 0, 0, 1, 2, 0x80],
-            Kind::Short,
-            78,
-        ),
-        (
-            &[
-                20, 0, 0, 0, 5, 0, 1, 8, 0, 0, 0, 0, 1, 2, 0xff, 0xff, 0xff, 0xff, 0xff, 0xff,
-                0xff, 0xff, 0xff, 2,
-            ],
-            Kind::LebWide,
-            78,
-        ),
-        (
-            &[
-                12, 0, 0, 0, 5, 0, 1, 8, 0, 0, 0, 0, 1, 2, 5, 0x41, 10, 0, 0, 0, 5, 0, 1, 8, 0, 0,
-                0, 0, 1, 0,
-            ],
-            Kind::Text,
-            79,
-        ),
-        // the second unit
-        (
-            &[
-                10, 0, 0, 0, 5, 0, 1, 8, 0, 0, 0, 0, 1, 0, 9, 0, 0, 0, 5, 0, 1, 8, 0, 0, 0, 0, 0,
-            ],
-            Kind::Tree,
-            78,
-        ),
-        (
-            &[
-                10, 0, 0, 0, 5, 0, 1, 8, 0, 0, 0, 0, 1, 0, 9, 0, 0, 0, 4, 0, 1, 8, 0, 0, 0, 0, 0,
-            ],
-            Kind::UnitHead,
-            78,
-        ),
-        // the tree of the first unit doesn't end in the second
-        (
-            &[
-                9, 0, 0, 0, 5, 0, 1, 8, 0, 0, 0, 0, 1, 10, 0, 0, 0, 5, 0, 1, 8, 0, 0, 0, 0, 1, 0,
-            ],
-            Kind::Tree,
-            64,
-        ),
-        // nor does an entry's code
-        (
-            &[
-                10, 0, 0, 0, 5, 0, 1, 8, 0, 0, 0, 0, 1, 0x80, 10, 0, 0, 0, 5, 0, 1, 8, 0, 0, 0, 0,
-                1, 0,
-            ],
-            Kind::Short,
-            77,
-        ),
-    ];
-    for (info, kind, place) in rows {
+type Refused = (&'static [u8], Kind, u64);
+
+// Headers that are refused.
+const REFUSED_HEADS: [Refused; 9] = [
+    // the section ends in a length, and in a unit
+    (&[9, 0, 0], Kind::Short, 64),
+    (&[9, 0, 0, 0, 5, 0, 1, 8, 0, 0, 0, 0], Kind::Short, 64),
+    // a reserved length, and one that is less than a header
+    (
+        &[0xf0, 0xff, 0xff, 0xff, 5, 0, 1, 8, 0, 0, 0, 0],
+        Kind::UnitHead,
+        64,
+    ),
+    (&[7, 0, 0, 0, 5, 0, 1, 8, 0, 0, 0], Kind::UnitHead, 64),
+    // version 4, types 0 and 5, addresses of 4 bytes, a type unit with 12 bytes of header
+    (&[9, 0, 0, 0, 4, 0, 1, 8, 0, 0, 0, 0, 1], Kind::UnitHead, 64),
+    (&[9, 0, 0, 0, 5, 0, 0, 8, 0, 0, 0, 0, 1], Kind::UnitHead, 64),
+    (&[9, 0, 0, 0, 5, 0, 5, 8, 0, 0, 0, 0, 1], Kind::UnitHead, 64),
+    (&[9, 0, 0, 0, 5, 0, 1, 4, 0, 0, 0, 0, 1], Kind::UnitHead, 64),
+    (&[9, 0, 0, 0, 5, 0, 2, 8, 0, 0, 0, 0, 1], Kind::UnitHead, 64),
+];
+
+// Trees that don't end, end too early, or are followed by more.
+const REFUSED_TREES: [Refused; 3] = [
+    // a root of code 0, an open chain, and a byte after the tree
+    (&[9, 0, 0, 0, 5, 0, 1, 8, 0, 0, 0, 0, 0], Kind::Tree, 64),
+    (&[9, 0, 0, 0, 5, 0, 1, 8, 0, 0, 0, 0, 1], Kind::Tree, 64),
+    (
+        &[12, 0, 0, 0, 5, 0, 1, 8, 0, 0, 0, 0, 1, 0, 0, 5],
+        Kind::Tree,
+        64,
+    ),
+];
+
+// Codes and values that are refused.
+const REFUSED_VALUES: [Refused; 6] = [
+    // a code that isn't declared, one that is cut, and one that doesn't fit
+    (
+        &[11, 0, 0, 0, 5, 0, 1, 8, 0, 0, 0, 0, 1, 7, 0],
+        Kind::CodeMissing,
+        77,
+    ),
+    (
+        &[10, 0, 0, 0, 5, 0, 1, 8, 0, 0, 0, 0, 1, 0x82],
+        Kind::Short,
+        77,
+    ),
+    (
+        &[
+            19, 0, 0, 0, 5, 0, 1, 8, 0, 0, 0, 0, 1, 0xff, 0xff, 0xff, 0xff, 0xff, 0xff, 0xff, 0xff,
+            0xff, 2,
+        ],
+        Kind::LebWide,
+        77,
+    ),
+    // a number that is cut or doesn't fit, and a text that ends in the next unit
+    (
+        &[11, 0, 0, 0, 5, 0, 1, 8, 0, 0, 0, 0, 1, 2, 0x80],
+        Kind::Short,
+        78,
+    ),
+    (
+        &[
+            20, 0, 0, 0, 5, 0, 1, 8, 0, 0, 0, 0, 1, 2, 0xff, 0xff, 0xff, 0xff, 0xff, 0xff, 0xff,
+            0xff, 0xff, 2,
+        ],
+        Kind::LebWide,
+        78,
+    ),
+    (
+        &[
+            12, 0, 0, 0, 5, 0, 1, 8, 0, 0, 0, 0, 1, 2, 5, 0x41, 10, 0, 0, 0, 5, 0, 1, 8, 0, 0, 0,
+            0, 1, 0,
+        ],
+        Kind::Text,
+        79,
+    ),
+];
+
+// Faults of a second unit, and first units that are cut by it.
+const REFUSED_SECONDS: [Refused; 4] = [
+    // the second unit
+    (
+        &[
+            10, 0, 0, 0, 5, 0, 1, 8, 0, 0, 0, 0, 1, 0, 9, 0, 0, 0, 5, 0, 1, 8, 0, 0, 0, 0, 0,
+        ],
+        Kind::Tree,
+        78,
+    ),
+    (
+        &[
+            10, 0, 0, 0, 5, 0, 1, 8, 0, 0, 0, 0, 1, 0, 9, 0, 0, 0, 4, 0, 1, 8, 0, 0, 0, 0, 0,
+        ],
+        Kind::UnitHead,
+        78,
+    ),
+    // the tree of the first unit doesn't end in the second
+    (
+        &[
+            9, 0, 0, 0, 5, 0, 1, 8, 0, 0, 0, 0, 1, 10, 0, 0, 0, 5, 0, 1, 8, 0, 0, 0, 0, 1, 0,
+        ],
+        Kind::Tree,
+        64,
+    ),
+    // nor does an entry's code
+    (
+        &[
+            10, 0, 0, 0, 5, 0, 1, 8, 0, 0, 0, 0, 1, 0x80, 10, 0, 0, 0, 5, 0, 1, 8, 0, 0, 0, 0, 1, 0,
+        ],
+        Kind::Short,
+        77,
+    ),
+];
+
+fn check_refused(rt: &impl Abort, alloc: Global, rows: &[Refused]) -> Result<(), Fail> {
+    for row in rows {
+        let (info, kind, place) = *row;
         let fault = fault_of(alloc, info, &PAIR_TABLE, NONE_BEFORE)?.ok_or("accepted")?;
         assert_eq!(rt; fault, Fault { kind, place });
     }
     Ok(())
+}
+
+#[test]
+fn heads_are_refused(rt: HostRuntime) -> Result<(), Fail> {
+    check_refused(&rt, rt.alloc(), &REFUSED_HEADS)
+}
+
+#[test]
+fn trees_are_refused(rt: HostRuntime) -> Result<(), Fail> {
+    check_refused(&rt, rt.alloc(), &REFUSED_TREES)
+}
+
+#[test]
+fn values_are_refused(rt: HostRuntime) -> Result<(), Fail> {
+    check_refused(&rt, rt.alloc(), &REFUSED_VALUES)
+}
+
+#[test]
+fn second_units_are_refused(rt: HostRuntime) -> Result<(), Fail> {
+    check_refused(&rt, rt.alloc(), &REFUSED_SECONDS)
 }
 
 // The entries and the values before a unit of two entries and one value, and the place of its fault.
@@ -563,4 +668,38 @@ fn places_of_values(rt: HostRuntime) -> Result<(), Fail> {
         assert_eq!(rt; place_in(alloc, info, table, id, column)?, place);
     }
     Ok(())
+}
+
+// The columns of a declaration.
+fn columns_in(
+    rt: &impl Abort,
+    alloc: Global,
+    table: &[u8],
+    number: u32,
+    expected: &[Spec],
+) -> Result<(), Fail> {
+    if table.is_empty() {
+        return Err("no table")?;
+    }
+    let Ok(table) = Table::read(alloc, table, 0, 0) else {
+        return Err("no table")?;
+    };
+    if number >= table.len() {
+        return Err("no declaration")?;
+    }
+    assert_eq!(rt; columns_of(&table, number), expected);
+    Ok(())
+}
+
+// None of the root, and two of the entries below it.
+#[test]
+fn columns_of_declarations(rt: HostRuntime) -> Result<(), Fail> {
+    let spec = |name, form, constant| Spec {
+        name,
+        form,
+        constant,
+    };
+    columns_in(&rt, rt.alloc(), &PAIR_TABLE, 0, &[])?;
+    let pair = [spec(0x49, 0x0f, 0), spec(3, 8, 0)];
+    columns_in(&rt, rt.alloc(), &PAIR_TABLE, 1, &pair)
 }

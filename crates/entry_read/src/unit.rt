@@ -103,6 +103,8 @@ pub fn read_unit<'a>(
     if !is_padding(&info[end..scope.end()]) {
         return Err(scope.refused(Kind::Tree, head.at as usize));
     }
+    // All units are held at once, each with no more memory than it needs.
+    forest.shrink_to_fit();
     Ok(Unit {
         head: *head,
         forest,

@@ -121,83 +121,84 @@ fn programs_are_read(rt: HostRuntime) -> Result<(), Fail> {
 }
 
 // Sections of files whose faults are known, and places in the sections.
+const REFUSED: [(&[u8], Kind, u64); 7] = [
+    // an operand of the last opcode is cut
+    (
+        &[
+            0x48, 0, 0, 0, 5, 0, 8, 0, 0x26, 0, 0, 0, 1, 1, 1, 0xff, 0xf3, 0x0d, 0, 1, 1, 1, 1, 0,
+            0, 0, 1, 0, 0, 1, 0x9c, 0xae, 0xd2, 0xeb, 0xbc, 0x56, 0xea, 0xd5, 8, 0xd9, 0xb6, 0x87,
+            0x37, 0xc2, 0x44, 0xfe, 0xec, 0xc0, 0xc8, 0x53, 0, 0x89, 0, 2, 0xa8, 0, 0, 0, 0, 0, 0,
+            0x80, 5, 0x28, 0x0b, 0x0b, 2, 5, 3, 0xd7, 0xfe, 0xff, 0xff, 0x7f, 0xb8, 2,
+        ],
+        Kind::Short,
+        76,
+    ),
+    // the length of an extended opcode is 10, and its code 2
+    (
+        &[
+            0x4f, 0, 0, 0, 5, 0, 8, 0, 0x26, 0, 0, 0, 1, 1, 1, 0xff, 0xf3, 0x0d, 0, 1, 1, 1, 1, 0,
+            0, 0, 1, 0, 0, 1, 0x9c, 0xae, 0xd2, 0xeb, 0xbc, 0x56, 0xea, 0xd5, 8, 0xd9, 0xb6, 0x87,
+            0x37, 0xc2, 0x44, 0xfe, 0xec, 0xc0, 0xc8, 0x53, 0, 0x8a, 0, 2, 0xa8, 0, 0, 0, 0, 0, 0,
+            0x80, 5, 0x28, 0x0b, 0x0b, 2, 5, 3, 0xd7, 0xfe, 0xff, 0xff, 0x7f, 0xb8, 2, 0xa3, 0x80,
+            0, 0, 0x81, 0, 1,
+        ],
+        Kind::LineOp,
+        50,
+    ),
+    // the standard opcode 2 has 129 operands
+    (
+        &[
+            0x19, 0, 0, 0, 5, 0, 8, 0, 0x10, 0, 0, 0, 2, 1, 1, 0xff, 4, 0x0b, 0, 1, 0x81, 0, 1, 1,
+            0, 0, 0, 1, 0,
+        ],
+        Kind::LineHead,
+        0,
+    ),
+    // the version is 21
+    (
+        &[
+            0x3d, 0, 0, 0, 0x15, 0, 8, 0, 0x19, 0, 0, 0, 1, 1, 1, 1, 0x0a, 0x0d, 0, 1, 1, 1, 1, 0,
+            0, 0, 1, 0, 0, 1, 0x11, 0x5e, 0x20, 0xe1, 0xea, 0x21, 0x1a, 0, 9, 2, 0xe7, 0xcb, 0x40,
+            0, 0, 0, 0, 0, 3, 0x7e, 0xaf, 4, 2, 3, 0x14, 1, 0x0a, 3, 3, 1, 2, 4, 0, 1, 1,
+        ],
+        Kind::LineHead,
+        0,
+    ),
+    // the length of an extended opcode is 0
+    (
+        &[
+            0x42, 0, 0, 0, 5, 0, 8, 0, 0x13, 0, 0, 0, 8, 1, 0, 0x80, 4, 0x0a, 0, 1, 1, 1, 1, 0, 0,
+            0, 1, 0x68, 1, 0, 0, 0, 0, 0, 0, 0, 0xff, 0xff, 0xff, 0xff, 0xff, 0xff, 2, 0xd0, 0x9f,
+            0xb9, 0xcb, 0x8a, 0x86, 0xab, 0x92, 7, 3, 0xe6, 0xc5, 0x81, 0x80, 0x80, 0x80, 0x80,
+            0x80, 0x80, 0x80, 0x80, 0x80, 0, 0x5d, 0, 1, 1,
+        ],
+        Kind::LineOp,
+        31,
+    ),
+    // the product of an advance_pc is 8 * 127 * 2^56
+    (
+        &[
+            0x28, 0, 0, 0, 5, 0, 8, 0, 0x13, 0, 0, 0, 8, 1, 1, 0x7f, 0xf3, 0x0a, 0, 1, 1, 1, 1, 0,
+            0, 0, 1, 0xfd, 0x13, 0x65, 0x2e, 2, 0x80, 0x80, 0x80, 0x80, 0x80, 0x80, 0x80, 0x80,
+            0x7f, 0, 1, 1, 0x19, 0, 0, 0, 5, 0, 8, 0, 0x11, 0, 0, 0, 0xff, 1, 1, 0x80, 2, 0x0c, 0,
+            1, 1, 1, 1, 0, 0, 0, 1, 0, 0,
+        ],
+        Kind::LineValue,
+        31,
+    ),
+    // the unit ends in its header
+    (
+        &[
+            0x0e, 0, 0, 0, 5, 0, 8, 0, 0x11, 0, 0, 0, 2, 1, 1, 0x4a, 2, 0x0c,
+        ],
+        Kind::LineHead,
+        0,
+    ),
+];
+
 #[test]
 fn other_programs_are_refused(rt: HostRuntime) -> Result<(), Fail> {
-    let rows: [(&[u8], Kind, u64); 7] = [
-        // an operand of the last opcode is cut
-        (
-            &[
-                0x48, 0, 0, 0, 5, 0, 8, 0, 0x26, 0, 0, 0, 1, 1, 1, 0xff, 0xf3, 0x0d, 0, 1, 1, 1, 1,
-                0, 0, 0, 1, 0, 0, 1, 0x9c, 0xae, 0xd2, 0xeb, 0xbc, 0x56, 0xea, 0xd5, 8, 0xd9, 0xb6,
-                0x87, 0x37, 0xc2, 0x44, 0xfe, 0xec, 0xc0, 0xc8, 0x53, 0, 0x89, 0, 2, 0xa8, 0, 0, 0,
-                0, 0, 0, 0x80, 5, 0x28, 0x0b, 0x0b, 2, 5, 3, 0xd7, 0xfe, 0xff, 0xff, 0x7f, 0xb8, 2,
-            ],
-            Kind::Short,
-            76,
-        ),
-        // the length of an extended opcode is 10, and its code 2
-        (
-            &[
-                0x4f, 0, 0, 0, 5, 0, 8, 0, 0x26, 0, 0, 0, 1, 1, 1, 0xff, 0xf3, 0x0d, 0, 1, 1, 1, 1,
-                0, 0, 0, 1, 0, 0, 1, 0x9c, 0xae, 0xd2, 0xeb, 0xbc, 0x56, 0xea, 0xd5, 8, 0xd9, 0xb6,
-                0x87, 0x37, 0xc2, 0x44, 0xfe, 0xec, 0xc0, 0xc8, 0x53, 0, 0x8a, 0, 2, 0xa8, 0, 0, 0,
-                0, 0, 0, 0x80, 5, 0x28, 0x0b, 0x0b, 2, 5, 3, 0xd7, 0xfe, 0xff, 0xff, 0x7f, 0xb8, 2,
-                0xa3, 0x80, 0, 0, 0x81, 0, 1,
-            ],
-            Kind::LineOp,
-            50,
-        ),
-        // the standard opcode 2 has 129 operands
-        (
-            &[
-                0x19, 0, 0, 0, 5, 0, 8, 0, 0x10, 0, 0, 0, 2, 1, 1, 0xff, 4, 0x0b, 0, 1, 0x81, 0, 1,
-                1, 0, 0, 0, 1, 0,
-            ],
-            Kind::LineHead,
-            0,
-        ),
-        // the version is 21
-        (
-            &[
-                0x3d, 0, 0, 0, 0x15, 0, 8, 0, 0x19, 0, 0, 0, 1, 1, 1, 1, 0x0a, 0x0d, 0, 1, 1, 1, 1,
-                0, 0, 0, 1, 0, 0, 1, 0x11, 0x5e, 0x20, 0xe1, 0xea, 0x21, 0x1a, 0, 9, 2, 0xe7, 0xcb,
-                0x40, 0, 0, 0, 0, 0, 3, 0x7e, 0xaf, 4, 2, 3, 0x14, 1, 0x0a, 3, 3, 1, 2, 4, 0, 1, 1,
-            ],
-            Kind::LineHead,
-            0,
-        ),
-        // the length of an extended opcode is 0
-        (
-            &[
-                0x42, 0, 0, 0, 5, 0, 8, 0, 0x13, 0, 0, 0, 8, 1, 0, 0x80, 4, 0x0a, 0, 1, 1, 1, 1, 0,
-                0, 0, 1, 0x68, 1, 0, 0, 0, 0, 0, 0, 0, 0xff, 0xff, 0xff, 0xff, 0xff, 0xff, 2, 0xd0,
-                0x9f, 0xb9, 0xcb, 0x8a, 0x86, 0xab, 0x92, 7, 3, 0xe6, 0xc5, 0x81, 0x80, 0x80, 0x80,
-                0x80, 0x80, 0x80, 0x80, 0x80, 0x80, 0, 0x5d, 0, 1, 1,
-            ],
-            Kind::LineOp,
-            31,
-        ),
-        // the product of an advance_pc is 8 * 127 * 2^56
-        (
-            &[
-                0x28, 0, 0, 0, 5, 0, 8, 0, 0x13, 0, 0, 0, 8, 1, 1, 0x7f, 0xf3, 0x0a, 0, 1, 1, 1, 1,
-                0, 0, 0, 1, 0xfd, 0x13, 0x65, 0x2e, 2, 0x80, 0x80, 0x80, 0x80, 0x80, 0x80, 0x80,
-                0x80, 0x7f, 0, 1, 1, 0x19, 0, 0, 0, 5, 0, 8, 0, 0x11, 0, 0, 0, 0xff, 1, 1, 0x80, 2,
-                0x0c, 0, 1, 1, 1, 1, 0, 0, 0, 1, 0, 0,
-            ],
-            Kind::LineValue,
-            31,
-        ),
-        // the unit ends in its header
-        (
-            &[
-                0x0e, 0, 0, 0, 5, 0, 8, 0, 0x11, 0, 0, 0, 2, 1, 1, 0x4a, 2, 0x0c,
-            ],
-            Kind::LineHead,
-            0,
-        ),
-    ];
-    for (section, kind, place) in rows {
+    for (section, kind, place) in REFUSED {
         let fault = match read_lines(rt.alloc(), section, 64) {
             Ok(_) => Err("accepted")?,
             Err(Refusal::Refused(fault)) => fault,

@@ -1,7 +1,8 @@
-use Rattle.std.proofs.Common.{◌≡◌, ◌≤◌, ◌<◌, ℕ, length, [], subst, refl, true, false, arith}
+use Rattle.std.proofs.Common.{◌≡◌, ◌≤◌, ◌<◌, ℕ, length, [], sym, subst, refl, true, false, arith}
 use Rattle.std.specs.Prelude.{slice_index}
+use Rattle.entry_arena.specs.Arena.{Arena}
 use Rattle.entry_arena.specs.Trees.{bytes_between, listed_to}
-use Rattle.entry_read.specs.Units.{declarations_of, end_of}
+use Rattle.entry_read.specs.Units.{declarations_of, end_of, IsUnitHeld}
 use Rattle.entry_read.specs.Faults.{FaultUnit}
 use Rattle.entry_read.proofs.Declarations.{have_codes}
 use Rattle.entry_read.proofs.Parts.{zeros_between, other_between}
@@ -31,7 +32,8 @@ returns-clause-unit c =
     let at = c.in-Ok.end in
     let inside : end_of head ≤ length info = unit_inside info head c.requires.head in
     let zeros = subst (λ (z : ℕ). (k : ℕ) → k < length (bytes_between info at z) → slice_index (bytes_between info at z) k ≡ 0) c.end.ensures (c.if-not-is_padding.ensures.0 refl) in
-    (at, unit_held info head ds c.args.before c.read_entries.new.forest at c.in-Ok.ensures.front c.in-Ok.ensures.some (zeros_between info at (end_of head) inside zeros))
+    let held : IsUnitHeld info head ds c.read_entries.new.forest = (at, unit_held info head ds c.args.before c.read_entries.new.forest at c.in-Ok.ensures.front c.in-Ok.ensures.some (zeros_between info at (end_of head) inside zeros)) in
+    subst (λ (f : Arena). IsUnitHeld info head ds f) (sym c.shrink_to_fit.ensures) held
 
 pub returns-clause-whole : goal.returns-clause-whole
 returns-clause-whole c =
