@@ -5,10 +5,9 @@ use Rattle.std.specs.List.{AllZip}
 use Rattle.std.proofs.lemmas.List.{append-nil, append_assoc, length-append, length-map, get_or_append_left, get_or-append-add, get_or-take, get_or-drop, get_or-map}
 use Rattle.std.proofs.lemmas.Bool.{cases_lt}
 use Rattle.std.proofs.Common.{add-one}
-use Rattle.leb_codec.specs.Leb.{Uleb}
+use Rattle.leb_codec.specs.Leb.{Uleb, ShortestUnsigned, least_unsigned_len}
 use Rattle.leb_codec.proofs.SpellingLaws.{leb_one}
 use Rattle.form_codec.specs.declared.value.Value.{Value}
-use Rattle.form_codec.specs.Forms.{Meaning}
 use Rattle.form_codec.specs.Values.{meant_in}
 use Rattle.abbrev_tables.specs.declared.decl.Spec.{Spec}
 use Rattle.abbrev_tables.specs.Tables.{Declared}
@@ -16,7 +15,7 @@ use Rattle.abbrev_tables.specs.Listings.{Listing, declared_in}
 use Rattle.entry_arena.specs.declared.entry.Entry.{Entry}
 use Rattle.entry_arena.specs.declared.entry.ChainEnd.{ChainEnd}
 use Rattle.entry_arena.specs.Arena.{Arena, entry_at, value_at}
-use Rattle.entry_arena.specs.Trees.{Listed, listed_to, nothing_from, declared_at, bytes_between, ValuesBetween, AddsEntry, AddsEnd}
+use Rattle.entry_arena.specs.Trees.{Listed, listed_to, nothing_from, declared_at, bytes_between, SpellsBetween, ValuesBetween, AddsEntry, AddsEnd}
 use Rattle.entry_arena.specs.Walks.{Item, IsGoing, Walks, opened}
 use Rattle.entry_arena.specs.Walks.Item.{AnEntry, AnEnd}
 use Rattle.entry_arena.specs.Onward.{HasWalked, EntryIsNext, EndIsNext}
@@ -25,17 +24,12 @@ use Rattle.entry_arena.proofs.SpellingLaws.{cut, values_found}
 use Rattle.entry_read.specs.Units.{declarations_of}
 use Rattle.unit_write.specs.Values.{with_number, HaveSize}
 use Rattle.unit_write.specs.Placing.{columns_of, values_in, EntrySize, ArePlaced, IsRenumbered}
-use Rattle.unit_write.specs.Moved.{IsMovedEntry, IsMovedEnd}
+use Rattle.unit_write.specs.Moved.{WrittenBetween, IsMovedEntry, IsMovedEnd, StandsShort}
 use Rattle.unit_write.specs.Puts.{PutsValues, PutsEntry, PutsItems, numbers_in}
 use Rattle.entry_arena.proofs.Between.{length_between}
 use Rattle.entry_arena.proofs.OnwardLaws.{walks_go_on}
 use Rattle.unit_write.proofs.PutLaws.{values_as}
-
--- what values mean with numbers of their own
-abbrev renamed : List ℕ → List Value → List ℕ → List Meaning
-renamed section [] ns = []
-renamed section (v ∷ vs) [] = []
-renamed section (v ∷ vs) (n ∷ ns) = with_number n (meant_in section v) ∷ renamed section vs ns
+use Rattle.unit_write.proofs.ShortLaws.{renamed, values_short, entry_short, first_short}
 
 values_spelled : (section : List ℕ) (cs : List Spec) (vs : List Value) (ns bytes : List ℕ) → PutsValues section cs vs ns bytes → SpellsValues cs (renamed section vs ns) bytes
 values_spelled section [] [] [] bytes p = p
@@ -146,6 +140,9 @@ module _ (table : Listing) (columns : List Spec) (numbers held : List ℕ) (f : 
     ended : next.ends ≡ new.ends
     at : entry.at ≡ new.place
     moved : Moved mid next
+    values : List Value
+    listed : next.values ≡ new.values ++ values
+    short : (more : List Value) → StandsShort section ds (next.values ++ more) entry
 
   entry_stands : (depth number id : ℕ) (old mid new : Listed) (to : ℕ) (bytes : List ℕ) → Moved old new → (adds : AddsEntry f.section (declarations_of table) depth number old mid) → entry_at f.entries id ≡ record { at = old.place; len = mid.place - old.place; depth = depth; decl = number; first = length old.values; count = length adds.values } → values_in f id ≡ adds.values → get_or numbers number 0 ≢ 0 → PutsEntry table columns numbers held f id bytes → new.place ≤ to → to ≤ length section → bytes_between section new.place to ≡ bytes → EntryStands depth number mid new to
   entry_stands depth number id old mid new to bytes moved adds here values_are used p order inside whole =
@@ -164,6 +161,10 @@ module _ (table : Listing) (columns : List Spec) (numbers held : List ℕ) (f : 
       let coded = subst (λ (z : List ℕ). Uleb ((declared_at ds (number_of number)).code) z) (sym c.first) (subst (λ (z : ℕ). Uleb z p.code) code p.coded) in
       let v = values_found section cs (renamed f.section vs ns) c.mid to c.before inside (subst (λ (z : List ℕ). SpellsValues cs (renamed f.section vs ns) z) (sym c.second) (values_spelled f.section cs vs ns p.rest put)) in
       let r = are_renamed f.section section cs vs v.values ns p.rest put v.means in
+      let code_len : length (bytes_between section new.place c.mid) ≡ least_unsigned_len ((declared_at ds (number_of number)).code) = ap length c.first ∙ p.shortest ∙ ap least_unsigned_len code in
+      let code_short : SpellsBetween (ShortestUnsigned ((declared_at ds (number_of number)).code)) section new.place c.mid = record { order = c.after; inside = omega arith; spelled = (coded.0, code_len) } in
+      let put_there : PutsValues f.section cs vs ns (bytes_between section c.mid to) = subst (λ (z : List ℕ). PutsValues f.section cs vs ns z) (sym c.second) put in
+      let written : WrittenBetween section ((declared_at ds (number_of number)).columns) v.values c.mid to = subst (λ (z : List Spec). WrittenBetween section z v.values c.mid to) (sym (ap (λ (z : Declared). z.columns) there.1)) (values_short f.section section cs vs v.values ns c.mid to c.before inside put_there v.means) in
       let entry : Entry = record { at = new.place; len = to - new.place; depth = depth; decl = number_of number; first = length new.values; count = length v.values } in
       let next : Listed = record { entries = new.entries ++ entry ∷ []; values = new.values ++ v.values; ends = new.ends; place = to } in
       record {
@@ -189,6 +190,9 @@ module _ (table : Listing) (columns : List Spec) (numbers held : List ℕ) (f : 
           values = subst (λ (z : List Value). (k : ℕ) → k < length z → meant_in section (value_at (new.values ++ v.values) k) ≡ with_number (get_or held k 0) (meant_in f.section (value_at z k))) (sym adds.listed) (values_more held f.section section old.values new.values vs v.values moved.count moved.values r);
           ends = subst (λ (z : List ChainEnd). AllZip IsMovedEnd z new.ends) (sym adds.ended) moved.ends;
         };
+        values = v.values;
+        listed = refl;
+        short = λ more. entry_short section ds new.values v.values more new.place c.mid to depth (number_of number) order code_short written;
       }
 
   -- the items of a walk stand in the new section
@@ -196,13 +200,16 @@ module _ (table : Listing) (columns : List Spec) (numbers held : List ℕ) (f : 
     pub items_anew : List Item
     pub last : Listed
     pub entries : List Entry
+    pub values : List Value
     pub ends : List ChainEnd
     pub walked : Walks section ds new chains items_anew last []
     pub place : last.place ≡ to
     pub moved : Moved forest last
     pub entries_are : last.entries ≡ new.entries ++ entries
+    pub values_are : last.values ≡ new.values ++ values
     pub ends_are : last.ends ≡ new.ends ++ ends
     pub placed : ArePlaced (EntrySize table columns numbers f) id items new.place (map (λ (e : Entry). e.at) entries) (map (λ (e : ChainEnd). e.at) ends) to
+    pub short : (k : ℕ) → k < length entries → StandsShort section ds last.values (entry_at entries k)
 
   children_same : (number : ℕ) → number < length table.decls → get_or numbers number 0 ≢ 0 → (declared_at (declarations_of table) number).children ≡ (declared_at ds (number_of number)).children
   children_same number known used =
@@ -249,12 +256,15 @@ module _ (table : Listing) (columns : List Spec) (numbers held : List ℕ) (f : 
           items_anew = AnEntry (number_of e.number) ∷ r.items_anew;
           last = r.last;
           entries = s.entry ∷ r.entries;
+          values = s.values ++ r.values;
           ends = r.ends;
           walked = (going_moved now new chains moved e.going, (s.next, s.adds, subst (λ (z : List ℕ). Walks section ds s.next z r.items_anew r.last []) open_ r.walked));
           place = r.place;
           moved = r.moved;
           entries_are = r.entries_are ∙ ap (λ (z : List Entry). z ++ r.entries) s.entered ∙ append_assoc new.entries (s.entry ∷ []) r.entries;
+          values_are = r.values_are ∙ ap (λ (z : List Value). z ++ r.values) s.listed ∙ append_assoc new.values s.values r.values;
           ends_are = r.ends_are ∙ ap (λ (z : List ChainEnd). z ++ r.ends) s.ended;
+          short = first_short section ds r.last.values s.entry r.entries (subst (λ (z : List Value). StandsShort section ds z s.entry) (sym r.values_are) (s.short r.values)) r.short;
           placed = (s.at, (length first, entry_sized table columns numbers held f entries first p, subst (λ (z : ℕ). ArePlaced (EntrySize table columns numbers f) (suc entries) rest z (map (λ (e : Entry). e.at) r.entries) (map (λ (e : ChainEnd). e.at) r.ends) to) there r.placed));
         }
 
@@ -267,13 +277,16 @@ module _ (table : Listing) (columns : List Spec) (numbers held : List ℕ) (f : 
           items_anew = [];
           last = new;
           entries = [];
+          values = [];
           ends = [];
           walked = (refl, h.onward.1);
           place = same;
           moved = subst (λ (z : Listed). Moved z new) (sym h.onward.0) moved;
           entries_are = sym (append-nil new.entries);
+          values_are = sym (append-nil new.values);
           ends_are = sym (append-nil new.ends);
           placed = same;
+          short = λ k inside. absurd (omega arith);
         }
     stand_anew (AnEntry number ∷ rest) done now new chains entries ends to bytes h moved (first, more, p, q, w) order inside whole =
         let e = entry_next number entries ends rest done now chains h in
@@ -318,11 +331,14 @@ module _ (table : Listing) (columns : List Spec) (numbers held : List ℕ) (f : 
           items_anew = AnEnd ∷ r.items_anew;
           last = r.last;
           entries = r.entries;
+          values = r.values;
           ends = end ∷ r.ends;
           walked = (e.parent, e.outer, next, e.innermost, adds, r.walked);
           place = r.place;
           moved = r.moved;
           entries_are = r.entries_are;
+          values_are = r.values_are;
           ends_are = r.ends_are ∙ joined;
+          short = r.short;
           placed = (refl, subst (λ (z : ℕ). ArePlaced (EntrySize table columns numbers f) entries rest z (map (λ (e : Entry). e.at) r.entries) (map (λ (e : ChainEnd). e.at) r.ends) to) one r.placed);
         }

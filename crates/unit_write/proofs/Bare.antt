@@ -9,15 +9,14 @@ use Rattle.abbrev_tables.specs.declared.decl.Spec.{Spec}
 use Rattle.abbrev_tables.specs.Listings.{Listing, decl_at}
 use Rattle.entry_arena.specs.declared.entry.Entry.{Entry}
 use Rattle.entry_arena.specs.Arena.{entry_at}
-use Rattle.entry_arena.specs.Trees.{ValuesBetween, declared_at, listed_to}
-use Rattle.entry_arena.proofs.FrontLaws.{comes_to_entry}
+use Rattle.entry_arena.specs.Trees.{ValuesBetween, declared_at}
 use Rattle.entry_read.specs.Heads.{IsHead}
-use Rattle.entry_read.specs.Units.{HeadAndForest, entries_at, declarations_of, IsUnitHeld}
-use Rattle.entry_read.proofs.Declarations.{count_same, declared_is}
+use Rattle.entry_read.specs.Units.{HeadAndForest, declarations_of, IsUnitHeld}
+use Rattle.entry_read.proofs.Declarations.{declared_is}
 use Rattle.unit_write.specs.Values.{HaveSize}
 use Rattle.unit_write.specs.Placing.{columns_of, values_in, EntrySize}
 use Rattle.unit_write.specs.Moved.{IsWritable}
-use Rattle.unit_write.proofs.Standing.{whole_walk, entry_stands}
+use Rattle.unit_write.proofs.Standing.{entry_stands, entry_declared}
 
 no_part : (specs : List Spec) (first count : ℕ) → specs ≡ [] → take count (drop first specs) ≡ []
 no_part specs first count e = ap (λ (z : List Spec). take count (drop first z)) e ∙ ap (λ (z : List Spec). take count z) (drop-nil first) ∙ take-nil count
@@ -28,20 +27,11 @@ none_valued section [] (v ∷ values) from to e p = absurd p
 none_valued section (c ∷ columns) values from to e p = absurd (let long : length (c ∷ columns) ≡ 0 = ap length e in omega arith)
 
 module _ (unit : HeadAndForest) (table : Listing) (columns : List Spec) (numbers : List ℕ) (held : IsUnitHeld unit.forest.section unit.head (declarations_of table) unit.forest) (bare : table.specs ≡ []) (none : columns ≡ []) (numbered : length numbers ≡ length table.decls) where
-  declared : (id : ℕ) → id < length unit.forest.entries → (entry_at unit.forest.entries id).decl < length table.decls
-  declared id inside =
-      let whole = whole_walk unit table held in
-      let c = comes_to_entry unit.forest.section (declarations_of table) (entries_at unit.head) whole.items (listed_to unit.forest held.0) [] whole.walked id inside in
-      let number : (entry_at unit.forest.entries id).decl ≡ c.number = ap (λ (e : Entry). e.decl) c.here in
-      let known : c.number < length (declarations_of table) = c.adds.known in
-      let size : length (declarations_of table) ≡ length table.decls = count_same table in
-      omega arith
-
   no_values : (id : ℕ) → id < length unit.forest.entries → values_in unit.forest id ≡ []
   no_values id inside =
       let e : Entry = entry_at unit.forest.entries id in
       let s = entry_stands unit table held id inside in
-      let own : (declared_at (declarations_of table) e.decl).columns ≡ [] = ap (λ z. z.columns) (declared_is table e.decl (declared id inside)) ∙ no_part table.specs (decl_at table.decls e.decl).first (decl_at table.decls e.decl).count bare in
+      let own : (declared_at (declarations_of table) e.decl).columns ≡ [] = ap (λ z. z.columns) (declared_is table e.decl (entry_declared unit table held id inside)) ∙ no_part table.specs (decl_at table.decls e.decl).first (decl_at table.decls e.decl).count bare in
       none_valued unit.forest.section ((declared_at (declarations_of table) e.decl).columns) (values_in unit.forest id) s.values_at (e.at + e.len) own s.valued
 
   sized : (id : ℕ) → id < length unit.forest.entries → (size : ℕ) × EntrySize table columns numbers unit.forest id size
@@ -60,6 +50,6 @@ module _ (unit : HeadAndForest) (table : Listing) (columns : List Spec) (numbers
     numbered = numbered;
     renewed = renewed;
     roomy = λ k d lt. absurd (let size : length columns ≡ 0 = ap length none in omega arith);
-    used = λ id inside. used (entry_at unit.forest.entries id).decl 0 (let known : (entry_at unit.forest.entries id).decl < length table.decls = declared id inside in omega arith);
+    used = λ id inside. used (entry_at unit.forest.entries id).decl 0 (let known : (entry_at unit.forest.entries id).decl < length table.decls = entry_declared unit table held id inside in omega arith);
     sized = sized;
   }

@@ -2,11 +2,13 @@ pub mod Bare
 pub mod ValueLaws
 pub mod Placed
 pub mod PlacingUnit
+pub mod MostLaws
 pub mod Sizing
 pub mod Standing
 pub mod Stepping
 pub mod PutLaws
 pub mod ItemLaws
+pub mod ShortLaws
 pub mod Anew
 pub mod HeadLaws
 pub mod UnitLaws

@@ -1,60 +1,141 @@
 -- The items of a unit placed one after the other: what the loop keeps, and what it gives at its end.
-use Rattle.std.proofs.Common.{◌≡◌, ◌<◌, ◌+◌, ◌-◌, ℕ, List, [], ◌∷◌, ◌++◌, length, Some, None, ◌∙◌, sym, ap, refl, subst, arith}
-use Rattle.std.proofs.lemmas.List.{length_push}
+use Rattle.std.proofs.Common.{◌≡◌, ◌≤◌, ◌<◌, ◌+◌, ◌-◌, ◌*◌, ◌^◌, ℕ, List, [], ◌∷◌, ◌++◌, length, Some, None, ◌∙◌, sym, ap, refl, subst, arith}
+use Rattle.std.specs.Prelude.{slice_index}
+use Rattle.std.specs.List.{All}
+use Rattle.std.proofs.lemmas.List.{length_push, length-append}
 use Rattle.abbrev_tables.specs.declared.decl.Spec.{Spec}
 use Rattle.abbrev_tables.specs.Listings.{Listing}
+use Rattle.entry_arena.specs.declared.entry.Entry.{Entry}
+use Rattle.entry_arena.specs.Arena.{entry_at}
 use Rattle.entry_arena.specs.Trees.{Listed, listed_to, nothing_from}
 use Rattle.entry_arena.specs.Walks.{Item, Walks}
 use Rattle.entry_arena.specs.Walks.Item.{AnEntry, AnEnd}
-use Rattle.entry_arena.specs.Onward.{HasWalked}
+use Rattle.entry_arena.specs.Onward.{HasWalked, EntryIsNext, EndIsNext}
+use Rattle.entry_arena.proofs.StepLaws.{code_rises, walks_rise}
 use Rattle.entry_read.specs.Heads.{header_size, least_reserved}
-use Rattle.entry_read.specs.Units.{HeadAndForest, entries_at, declarations_of}
+use Rattle.entry_read.specs.Units.{HeadAndForest, entries_at, end_of, declarations_of, IsUnitHeld}
+use Rattle.entry_read.proofs.Declarations.{count_same}
 use Rattle.unit_write.specs.declared.items.Items.{Items}
 use Rattle.unit_write.specs.declared.items.Next.{Next}
 use Rattle.unit_write.specs.declared.items.Next.TheVariants.{Entry as TheEntry, End as TheEnd}
 use Rattle.unit_write.specs.declared.places.Places.{Places}
+use Rattle.unit_write.specs.Most.{most_bytes, HasRoom}
 use Rattle.unit_write.specs.Placing.{EntrySize, ArePlaced}
 use Rattle.unit_write.specs.Moved.{IsWritable, IsPlacedAt}
 use Rattle.unit_write.specs.Readings.{IsNext, HasItem, PutsItem}
+use Rattle.unit_write.proofs.MostLaws.{entry_most}
 use Rattle.unit_write.proofs.Placed.{placed_entry, placed_end}
 use Rattle.unit_write.proofs.Standing.{whole_walk}
+use Rattle.unit_write.proofs.ValueLaws.{five_bytes}
+
+-- what is placed of a front of the unit's walk takes at most four bytes more for each entry, and ten for each value
+abbrev pub IsAtMost : HeadAndForest → ℕ → Listed → ℕ → Type 0
+IsAtMost unit start now end =
+    end + unit.head.at ≤ start + now.place + 4 * length now.entries + 10 * length now.values
 
 -- a front of the unit's whole walk has its places
 pub record IsPlacing (unit : HeadAndForest) (table : Listing) (columns : List Spec) (numbers : List ℕ) (start : ℕ) (items : Items) (places : Places) : Type 0 where
   pub place : ℕ
+  pub inside : place ≤ end_of unit.head
   pub done : List Item
   pub now : Listed
   pub chains : List ℕ
   pub rest : List Item
   pub walked : HasWalked unit.forest.section (declarations_of table) (entries_at unit.head) (listed_to unit.forest place) items.entries items.ends done now chains rest
   pub begun : places.start ≡ start
-  pub fits : places.end < least_reserved
+  pub most : IsAtMost unit start now places.end
   pub counted : length places.entries.items ≡ items.entries
   pub placed : ArePlaced (EntrySize table columns numbers unit.forest) 0 done (start + (entries_at unit.head - unit.head.at)) places.entries.items places.ends.items places.end
 
 module _ (unit : HeadAndForest) (table : Listing) (columns : List Spec) (numbers : List ℕ) (start : ℕ) where
-  pub placing_none : (places : Places) → IsWritable unit table columns numbers → places.start ≡ start → places.entries.items ≡ [] → places.ends.items ≡ [] → places.end ≡ start + header_size unit.head.kind → places.end < least_reserved → IsPlacing unit table columns numbers start (record { entries = 0; ends = 0 }) places
-  placing_none places writable begun no_entries no_ends end_is fits =
-      let whole = whole_walk unit table writable.held in
+  abbrev HasCome : ℕ → ℕ → ℕ → List Item → Listed → List ℕ → List Item → Type 0
+  HasCome place entries ends done now chains rest =
+      HasWalked unit.forest.section (declarations_of table) (entries_at unit.head) (listed_to unit.forest place) entries ends done now chains rest
+
+  -- so what is placed ends within what the unit has at most
+  most_of : (place entries ends : ℕ) (done : List Item) (now : Listed) (chains : List ℕ) (rest : List Item) (end : ℕ) → HasCome place entries ends done now chains rest → place ≤ end_of unit.head → IsAtMost unit start now end → end ≤ start + most_bytes unit
+  most_of place entries ends done now chains rest end w inside most =
+      let r = walks_rise unit.forest.section (declarations_of table) now chains rest (listed_to unit.forest place) [] w.onward in
+      let p : now.place ≤ place = r.place in
+      let e : length now.entries ≤ length unit.forest.entries = r.entries in
+      let v : length now.values ≤ length unit.forest.values = r.values in
+      omega (arith, most)
+
+  pub placing_most : (items : Items) (places : Places) → IsPlacing unit table columns numbers start items places → places.end ≤ start + most_bytes unit
+  placing_most items places h = most_of h.place items.entries items.ends h.done h.now h.chains h.rest places.end h.walked h.inside h.most
+
+  -- the walk before its first step
+  none_come : (held : IsUnitHeld unit.forest.section unit.head (declarations_of table) unit.forest) → HasCome held.0 0 0 [] (nothing_from (entries_at unit.head)) [] (whole_walk unit table held).items
+  none_come held = record { walked = (refl, refl); onward = (whole_walk unit table held).walked; entries_are = refl; ends_are = refl }
+
+  none_most : (end : ℕ) → end ≡ start + header_size unit.head.kind → IsAtMost unit start (nothing_from (entries_at unit.head)) end
+  none_most end end_is = omega arith
+
+  pub placing_none : (places : Places) → IsWritable unit table columns numbers → places.start ≡ start → places.entries.items ≡ [] → places.ends.items ≡ [] → places.end ≡ start + header_size unit.head.kind → IsPlacing unit table columns numbers start (record { entries = 0; ends = 0 }) places
+  placing_none places writable begun no_entries no_ends end_is =
       let Size = EntrySize table columns numbers unit.forest in
       let at = start + (entries_at unit.head - unit.head.at) in
       let here : at ≡ places.end = omega arith in
       record {
         place = writable.held.0;
+        inside = writable.held.1.inside;
         done = [];
         now = nothing_from (entries_at unit.head);
         chains = [];
-        rest = whole.items;
-        walked = record { walked = (refl, refl); onward = whole.walked; entries_are = refl; ends_are = refl };
+        rest = (whole_walk unit table writable.held).items;
+        walked = none_come writable.held;
         begun = begun;
-        fits = fits;
+        most = none_most places.end end_is;
         counted = ap length no_entries;
         placed = subst (λ (z : List ℕ). ArePlaced Size 0 [] at z places.ends.items places.end) (sym no_entries) (subst (λ (z : List ℕ). ArePlaced Size 0 [] at [] z places.end) (sym no_ends) here);
       }
 
+  abbrev EntryNext : ℕ → ℕ → ℕ → List Item → Listed → List ℕ → List Item → Type 0
+  EntryNext place entries ends done now chains rest =
+      EntryIsNext unit.forest.section (declarations_of table) (entries_at unit.head) (listed_to unit.forest place) entries ends done now chains rest
+
+  abbrev EndNext : ℕ → ℕ → ℕ → List Item → Listed → List ℕ → List Item → Type 0
+  EndNext place entries ends done now chains rest =
+      EndIsNext unit.forest.section (declarations_of table) (entries_at unit.head) (listed_to unit.forest place) entries ends done now chains rest
+
+  -- an entry and a code 0 keep to what they take at most
+  entry_keeps : (place entries ends : ℕ) (done : List Item) (now : Listed) (chains : List ℕ) (rest : List Item) (end size : ℕ) → (n : EntryNext place entries ends done now chains rest) → IsWritable unit table columns numbers → All (λ (number : ℕ). number < 2 ^ 32) numbers → EntrySize table columns numbers unit.forest entries size → IsAtMost unit start now end → IsAtMost unit start n.mid (end + size)
+  entry_keeps place entries ends done now chains rest end size n writable small sized most =
+      let decl : ℕ = (entry_at unit.forest.entries entries).decl in
+      let same : decl ≡ n.number = ap (λ (e : Entry). e.decl) n.here in
+      let known : n.number < length (declarations_of table) = n.adds.known in
+      let count : length (declarations_of table) ≡ length table.decls = count_same table in
+      let numbered : length numbers ≡ length table.decls = writable.numbered in
+      let five = five_bytes (slice_index numbers decl) (small decl 0 (omega arith)) in
+      let bytes : now.place + size ≤ n.mid.place + 4 + 10 * length n.adds.values = entry_most unit.forest table columns numbers (declarations_of table) (length chains) n.number entries size now n.mid five n.adds n.values_are sized in
+      let entered : length n.mid.entries ≡ length now.entries + 1 = ap length n.adds.entered ∙ length_push now.entries _ in
+      let listed : length n.mid.values ≡ length now.values + length n.adds.values = ap length n.adds.listed ∙ length-append now.values n.adds.values in
+      omega (arith, most)
+
+  end_keeps : (place entries ends : ℕ) (done : List Item) (now : Listed) (chains : List ℕ) (rest : List Item) (end : ℕ) → (n : EndNext place entries ends done now chains rest) → IsAtMost unit start now end → IsAtMost unit start n.mid (end + 1)
+  end_keeps place entries ends done now chains rest end n most =
+      let up : now.place < n.mid.place = code_rises unit.forest.section 0 now.place n.mid.place n.adds.coded in
+      let entered : length n.mid.entries ≡ length now.entries = ap length n.adds.entered in
+      let listed : length n.mid.values ≡ length now.values = ap length n.adds.listed in
+      omega (arith, most)
+
+  -- there is room for what stands next
+  pub placing_room : (old new : Items) (places : Places) (next : Next) → (h : IsPlacing unit table columns numbers start old places) → IsNext unit.forest (declarations_of table) (entries_at unit.head) h.place h.done h.now h.chains h.rest old new (Some next) → IsWritable unit table columns numbers → All (λ (number : ℕ). number < 2 ^ 32) numbers → start + most_bytes unit < least_reserved → HasRoom (EntrySize table columns numbers unit.forest) next places.end
+  placing_room old new places (TheEntry id) h n writable small room =
+      let Size = EntrySize table columns numbers unit.forest in
+      let sized = writable.sized old.entries n.2.inside in
+      let same : id ≡ old.entries = n.0 in
+      let keeps = entry_keeps h.place old.entries old.ends h.done h.now h.chains h.rest places.end sized.0 n.2 writable small sized.1 h.most in
+      let most : places.end + sized.0 ≤ start + most_bytes unit = most_of h.place (old.entries + 1) old.ends _ n.2.mid _ n.2.later (places.end + sized.0) n.2.next h.inside keeps in
+      (sized.0, subst (λ (i : ℕ). Size i sized.0) (sym same) sized.1, omega arith)
+  placing_room old new places TheEnd h n writable small room =
+      let keeps = end_keeps h.place old.entries old.ends h.done h.now h.chains h.rest places.end n.1 h.most in
+      let most : places.end + 1 ≤ start + most_bytes unit = most_of h.place old.entries (old.ends + 1) _ n.1.mid n.1.outer n.1.later (places.end + 1) n.1.next h.inside keeps in
+      omega arith
+
   -- what stands next is placed behind the front
-  pub placing_next : (old new : Items) (before after : Places) (next : Next) → (h : IsPlacing unit table columns numbers start old before) → IsNext unit.forest (declarations_of table) (entries_at unit.head) h.place h.done h.now h.chains h.rest old new (Some next) → IsWritable unit table columns numbers → PutsItem (EntrySize table columns numbers unit.forest) next before after → after.start ≡ before.start → after.end < least_reserved → IsPlacing unit table columns numbers start new after
-  placing_next old new before after (TheEntry id) h n writable puts begun fits =
+  pub placing_next : (old new : Items) (before after : Places) (next : Next) → (h : IsPlacing unit table columns numbers start old before) → IsNext unit.forest (declarations_of table) (entries_at unit.head) h.place h.done h.now h.chains h.rest old new (Some next) → IsWritable unit table columns numbers → All (λ (number : ℕ). number < 2 ^ 32) numbers → PutsItem (EntrySize table columns numbers unit.forest) next before after → after.start ≡ before.start → IsPlacing unit table columns numbers start new after
+  placing_next old new before after (TheEntry id) h n writable small puts begun =
       let Size = EntrySize table columns numbers unit.forest in
       let at = start + (entries_at unit.head - unit.head.at) in
       let number = n.2.number in
@@ -69,17 +150,18 @@ module _ (unit : HeadAndForest) (table : Listing) (columns : List Spec) (numbers
       subst (λ (z : Items). IsPlacing unit table columns numbers start z after) (sym n.1)
       (record {
         place = h.place;
+        inside = h.inside;
         done = h.done ++ AnEntry number ∷ [];
         now = n.2.mid;
         chains = _;
         rest = n.2.later;
         walked = n.2.next;
         begun = begun ∙ h.begun;
-        fits = fits;
+        most = subst (λ (z : ℕ). IsAtMost unit start n.2.mid z) end_is (entry_keeps h.place old.entries old.ends h.done h.now h.chains h.rest before.end sized.0 n.2 writable small sized.1 h.most);
         counted = ap length puts.0 ∙ length_push before.entries.items before.end ∙ ap (λ (z : ℕ). z + 1) h.counted;
         placed = ended;
       })
-  placing_next old new before after TheEnd h n writable puts begun fits =
+  placing_next old new before after TheEnd h n writable small puts begun =
       let Size = EntrySize table columns numbers unit.forest in
       let at = start + (entries_at unit.head - unit.head.at) in
       let placed = placed_end Size 0 at h.done before.entries.items before.ends.items before.end h.placed in
@@ -89,13 +171,14 @@ module _ (unit : HeadAndForest) (table : Listing) (columns : List Spec) (numbers
       subst (λ (z : Items). IsPlacing unit table columns numbers start z after) (sym n.0)
       (record {
         place = h.place;
+        inside = h.inside;
         done = h.done ++ AnEnd ∷ [];
         now = n.1.mid;
         chains = n.1.outer;
         rest = n.1.later;
         walked = n.1.next;
         begun = begun ∙ h.begun;
-        fits = fits;
+        most = subst (λ (z : ℕ). IsAtMost unit start n.1.mid z) (sym puts.2) (end_keeps h.place old.entries old.ends h.done h.now h.chains h.rest before.end n.1 h.most);
         counted = ap length puts.0 ∙ h.counted;
         placed = ended;
       })

@@ -1,6 +1,6 @@
 -- Bytes that are written one after the other.
 use Rattle.std.proofs.Common.{◌≡◌, ◌≤◌, ◌<◌, ◌+◌, ℕ, ◌^◌, zero, suc, List, [], ◌∷◌, ◌++◌, length, drop, get_or, drop-cons, add-one, ◌∙◌, sym, ap, refl, subst, arith}
-use Rattle.std.proofs.lemmas.List.{append-nil, append_assoc, drop_all}
+use Rattle.std.proofs.lemmas.List.{append-nil, append_assoc, drop_all, get_or_read_under}
 use Rattle.std.proofs.lemmas.List.Elements.{All-from_get_or}
 use Rattle.form_codec.specs.declared.value.Value.TheVariants as value
 use Rattle.std.specs.List.{All}
@@ -64,6 +64,12 @@ sized_lengths section [] [] size h = refl
 sized_lengths section [] (v ∷ vs) size h = absurd h
 sized_lengths section (c ∷ cs) [] size h = absurd h
 sized_lengths section (c ∷ cs) (v ∷ vs) size h = ap suc (sized_lengths section cs vs h.1 h.3)
+
+-- a value that is read at the place of a column
+pub value_read : (section : List ℕ) (cs : List Spec) (vs : List Value) (size place : ℕ) (v : Value) → HaveSize section cs vs size → place < length cs → v ≡ get_or vs place v → v ≡ value_at vs place
+value_read section cs vs size place v h lt read =
+    let same : length cs ≡ length vs = sized_lengths section cs vs size h in
+    get_or_read_under vs place (length vs) v (value.Addr 0) read (omega arith) refl
 
 pub size_at : (section : List ℕ) (cs : List Spec) (vs : List Value) (size place : ℕ) → HaveSize section cs vs size → place < length cs → (n : ℕ) × HasSize (spec_at cs place) (meant_in section (value_at vs place)) n
 size_at section [] vs size place h lt = absurd (omega arith)

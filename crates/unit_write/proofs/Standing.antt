@@ -1,13 +1,16 @@
 -- The entries and values of a unit that is held stand in its section.
-use Rattle.std.proofs.Common.{◌<◌, ◌+◌, ℕ, length}
+use Rattle.std.proofs.Common.{◌≡◌, ◌<◌, ◌+◌, ℕ, [], length, ap, arith}
 use Rattle.abbrev_tables.specs.Listings.{Listing}
+use Rattle.entry_arena.specs.declared.entry.Entry.{Entry}
 use Rattle.entry_arena.specs.Arena.{entry_at}
 use Rattle.entry_arena.specs.Trees.{listed_to, declared_at}
 use Rattle.entry_arena.specs.Walks.{IsWhole}
 use Rattle.entry_arena.specs.Standing.{StandsAs}
+use Rattle.entry_arena.proofs.FrontLaws.{comes_to_entry}
 use Rattle.entry_arena.proofs.StandingLaws.{entries_stand}
 use Rattle.entry_arena.proofs.TreeLaws.{trees_are_walks}
 use Rattle.entry_read.specs.Units.{HeadAndForest, entries_at, declarations_of, IsUnitHeld}
+use Rattle.entry_read.proofs.Declarations.{count_same}
 use Rattle.unit_write.specs.Placing.{values_in}
 use Rattle.unit_write.specs.Readings.{AreStanding}
 
@@ -24,3 +27,12 @@ module _ (unit : HeadAndForest) (table : Listing) (held : IsUnitHeld unit.forest
       let e = entry_at unit.forest.entries id in
       let s = entry_stands id inside in
       ((declared_at (declarations_of table) e.decl).columns, s.values_at, e.at + e.len, s.valued)
+
+  -- each has a declaration of the table
+  pub entry_declared : (id : ℕ) → id < length unit.forest.entries → (entry_at unit.forest.entries id).decl < length table.decls
+  entry_declared id inside =
+      let c = comes_to_entry unit.forest.section (declarations_of table) (entries_at unit.head) whole_walk.items (listed_to unit.forest held.0) [] whole_walk.walked id inside in
+      let number : (entry_at unit.forest.entries id).decl ≡ c.number = ap (λ (e : Entry). e.decl) c.here in
+      let known : c.number < length (declarations_of table) = c.adds.known in
+      let size : length (declarations_of table) ≡ length table.decls = count_same table in
+      omega arith

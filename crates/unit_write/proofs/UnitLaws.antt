@@ -9,7 +9,7 @@ use Rattle.abbrev_tables.specs.Tables.{Declared}
 use Rattle.abbrev_tables.specs.Listings.{Listing}
 use Rattle.entry_arena.specs.declared.entry.Entry.{Entry}
 use Rattle.entry_arena.specs.declared.entry.ChainEnd.{ChainEnd}
-use Rattle.entry_arena.specs.Arena.{Arena}
+use Rattle.entry_arena.specs.Arena.{Arena, entry_at}
 use Rattle.entry_arena.specs.Trees.{listed_to, nothing_from, bytes_between}
 use Rattle.entry_arena.specs.Walks.{Item}
 use Rattle.entry_arena.specs.Walks.Item.{AnEntry, AnEnd}
@@ -19,7 +19,7 @@ use Rattle.entry_read.specs.declared.head.UnitHead.{UnitHead}
 use Rattle.entry_read.specs.Heads.{IsUnitType, type_unit, header_size, least_reserved, unit_type}
 use Rattle.entry_read.specs.Units.{HeadAndForest, entries_at, declarations_of}
 use Rattle.unit_write.specs.Placing.{EntrySize, ArePlaced, IsRenumbered}
-use Rattle.unit_write.specs.Moved.{IsMovedEntry, IsWritable, IsPlacedAt, IsWrittenAnew}
+use Rattle.unit_write.specs.Moved.{IsMovedEntry, IsWritable, IsPlacedAt, StandsShort, IsWrittenAnew}
 use Rattle.unit_write.specs.Puts.{PutsEntry, PutsItems, header_bytes}
 use Rattle.unit_write.proofs.ValueLaws.{one_size}
 use Rattle.unit_write.proofs.Placed.{one_placing}
@@ -112,6 +112,7 @@ module _ (unit : HeadAndForest) (table : Listing) (columns : List Spec) (numbers
         entries = r.moved.entries;
         values = record { count = r.moved.count; each = r.moved.values };
         ends = r.moved.ends;
+        short = subst (λ (z : List Entry). (id : ℕ) → id < length z → StandsShort section ds r.last.values (entry_at z id)) (sym r.entries_are) r.short;
         placed = record {
           place = p.place;
           whole = p.whole;

@@ -31,12 +31,12 @@ data_stays : (size n : ℕ) (test : Bool) → is_moving (if test then Bits size 
 data_stays size n true = refl
 data_stays size n false = refl
 
-role_is : (r : Role) (w : Width) (n : ℕ) → is_moving (in_role r w n) ≡ role_moves r
+pub role_is : (r : Role) (w : Width) (n : ℕ) → is_moving (in_role r w n) ≡ role_moves r
 role_is role.Data w n = data_stays (size_of w) n (nat_le (2 ^ (8 * size_of w - 1)) n)
 role_is r w n = refl
 
 -- whether a value moves is told by the shape of its bytes
-shape_is : (s : Shape) (m : Meaning) (bytes : List ℕ) → SpellsShape s m bytes → is_moving m ≡ shape_moves s
+pub shape_is : (s : Shape) (m : Meaning) (bytes : List ℕ) → SpellsShape s m bytes → is_moving m ≡ shape_moves s
 shape_is (Constant v) m bytes p = ap is_moving p.2
 shape_is Present m bytes p = ap is_moving p.1
 shape_is (Number w r) m bytes p = ap is_moving p.1 ∙ role_is r w (number (size_of w) bytes)

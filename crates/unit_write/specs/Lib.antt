@@ -4,3 +4,4 @@ pub mod Moved
 pub mod Readings
 pub mod Puts
 pub mod Sizes
+pub mod Most

@@ -1,15 +1,16 @@
 // Where entries and codes 0 stand, counted by hand from DWARF 5 sections 7.5 and 7.6.
-ghost use Rattle.std.specs.Prelude.{◌≡◌, ◌≢◌, ◌<◌, length, IsTrue};
+ghost use Rattle.std.specs.Prelude.{◌≡◌, ◌≢◌, ◌<◌, ◌+◌, length, IsTrue};
 ghost use Rattle.std.specs.List.{All};
-ghost use Rattle.entry_read.specs.Heads.{IsHead};
+ghost use Rattle.entry_read.specs.Heads.{IsHead, least_reserved};
 ghost use Rattle.entry_read.specs.Units.{declarations_of, IsTable, IsUnitHeld};
+ghost use Rattle.unit_write.specs.Most.{most_bytes};
 
-use crate::places::after_values;
+use crate::values::written_size;
 use crate::{Places, place_unit};
 use abbrev_tables::{Spec, Table};
 use dw_base::{NoMemory, Span};
 use entry_read::{Counts, Unit, UnitHead, heads, read_unit};
-use form_codec::Value;
+use form_codec::{Value, Whole};
 use std::alloc::Global;
 use std::process::Abort;
 use std::test::Fail;
@@ -22,50 +23,49 @@ fn column(form: u64) -> Spec {
     }
 }
 
-// Where the value of a column ends that is written at 100.
-fn end_of(form: u64, value: Value) -> Option<u64> {
-    after_values(&[column(form)], &[value], 100).ok()
+fn int(number: i64) -> Value {
+    Value::Int(Whole::signed(number))
 }
 
 #[test]
-fn values_have_sizes(rt: HostRuntime) -> Result<(), Fail> {
+fn values_have_sizes(rt: HostRuntime) {
     let span = Span { at: 0, len: 3 };
     let rows = [
         // DW_FORM_udata has as few bytes as the number needs, and DW_FORM_sdata too
-        (0x0f, Value::Int(127), 101),
-        (0x0f, Value::Int(128), 102),
-        (0x0d, Value::Int(-64), 101),
-        (0x0d, Value::Int(64), 102),
+        (0x0f, int(127), 1),
+        (0x0f, int(128), 2),
+        (0x0d, int(-64), 1),
+        (0x0d, int(64), 2),
         // DW_FORM_data4, DW_FORM_implicit_const, DW_FORM_flag_present, DW_FORM_addr
-        (0x06, Value::Int(7), 104),
-        (0x19, Value::Flag(true), 100),
-        (0x01, Value::Addr(0), 108),
+        (0x06, int(7), 4),
+        (0x19, Value::Flag(true), 0),
+        (0x01, Value::Addr(0), 8),
         // a text ends with a byte 0, and an expression begins with its count
-        (0x08, Value::Text(span), 104),
-        (0x18, Value::Expr(span), 104),
+        (0x08, Value::Text(span), 4),
+        (0x18, Value::Expr(span), 4),
         // references have the bytes of their forms whatever their numbers, and DW_FORM_ref_udata has five
-        (0x13, Value::LocalRef(0), 104),
-        (0x14, Value::LocalRef(0), 108),
-        (0x15, Value::LocalRef(0), 105),
-        (0x10, Value::SectionRef(1), 104),
-        (0x17, Value::Offset(1), 104),
+        (0x13, Value::LocalRef(0), 4),
+        (0x14, Value::LocalRef(0), 8),
+        (0x15, Value::LocalRef(0), 5),
+        (0x10, Value::SectionRef(1), 4),
+        (0x17, Value::Offset(1), 4),
     ];
-    for (form, value, end) in rows.iter() {
-        assert_eq!(rt; end_of(*form, *value), Some(*end));
+    for (form, value, size) in rows.iter() {
+        assert_eq!(rt; written_size(column(*form), value), *size);
     }
-    let columns = [column(0x0f), column(0x15)];
-    let values = [Value::Int(300), Value::LocalRef(12)];
-    assert_eq!(rt; after_values(&columns, &values, 100).ok(), Some(107));
-    // no place is 4294967280 or more
-    assert_eq!(rt;
-        after_values(&columns, &values, 4_294_967_272).ok(),
-        Some(4_294_967_279)
-    );
-    assert_eq!(rt;
-        after_values(&columns, &values, 4_294_967_273).is_err(),
-        true
-    );
-    Ok(())
+}
+
+// Whether a unit that is written from a place on has room there, however long it gets.
+pub(crate) fn has_room(unit: &Unit<'_>, start: u64) -> bool
+    ensures { IsTrue result → start + most_bytes unit.now < least_reserved }
+{
+    let len = unit.head().len;
+    if len >= 0xffff_fff0 || start >= 0xffff_fff0 {
+        return false;
+    }
+    let forest = unit.forest();
+    let more = 4 * u64::from(forest.len()) + 10 * u64::from(forest.value_count());
+    start + len + more < 0xffff_fff0
 }
 
 // Whether these are new codes of the declarations of a table without columns.
@@ -91,8 +91,11 @@ fn place_bare(
     requires held { IsUnitHeld unit.now.forest.section unit.now.head (declarations_of table.now) unit.now.forest }
 {
     let numbers = numbers.to_vec(alloc)?;
-    if start >= 1 << 32 || !are_codes(table, &numbers) {
+    if !are_codes(table, &numbers) {
         return Err("no codes")?;
+    }
+    if !has_room(unit, start) {
+        return Err("no room")?;
     }
     Ok(place_unit(alloc, unit, table, &Vec::new(alloc), &numbers, start))
 }
@@ -161,8 +164,10 @@ fn entries_and_ends_have_places(rt: HostRuntime) -> Result<(), Fail> {
     );
     assert_eq!(rt; places.ends.as_slice(), [1016, 1019].as_slice());
     assert_eq!(rt; places.end, 1020);
-    // the last place that a unit of 20 bytes can have
-    assert!(rt; placed(alloc, &TREE, &BARE_TABLE, &[127, 128], 4_294_967_259)?.is_ok());
-    assert!(rt; placed(alloc, &TREE, &BARE_TABLE, &[127, 128], 4_294_967_260)?.is_err());
+    // the last place with room for 22 bytes that were read and 4 more for each of four entries
+    let places = placed(alloc, &TREE, &BARE_TABLE, &[127, 128], 4_294_967_241)?
+        .ok()
+        .ok_or("no memory")?;
+    assert_eq!(rt; places.end, 4_294_967_261);
     Ok(())
 }

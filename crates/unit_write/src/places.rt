@@ -1,5 +1,5 @@
 // Where the entries of a unit stand when it is written anew.
-ghost use Rattle.std.specs.Prelude.{◌≡◌, ◌<◌, ◌+◌, ◌^◌, ℕ, List, length, slice_index, IfOk, OnOk};
+ghost use Rattle.std.specs.Prelude.{◌≡◌, ◌≤◌, ◌<◌, ◌+◌, ◌^◌, ℕ, List, length, slice_index, IfOk, OnOk};
 ghost use Rattle.std.specs.List.{All};
 ghost use Rattle.spelled.specs.Spelled.{AreBytes};
 ghost use Rattle.leb_codec.specs.Leb.{least_unsigned_len};
@@ -8,6 +8,7 @@ ghost use Rattle.entry_arena.specs.Arena.{entry_at};
 ghost use Rattle.entry_read.specs.Heads.{least_reserved};
 ghost use Rattle.unit_write.specs.Values.{HaveSize};
 ghost use Rattle.unit_write.specs.Placing.{EntrySize, values_in};
+ghost use Rattle.unit_write.specs.Most.{most_bytes, HaveRoom, HasRoom};
 ghost use Rattle.unit_write.specs.Moved.{IsWritable, IsPlacedAt};
 ghost use Rattle.unit_write.specs.Readings.{AreStanding, HasItem, PutsItem};
 
@@ -35,20 +36,6 @@ pub struct Places {
     pub end: u64,
 }
 
-// The first of the lengths that are reserved (DWARF 5 section 7.4). Places of a section of the 32-bit format are below it.
-const FIRST_RESERVED: u64 = 0xffff_fff0;
-
-// The place some bytes further on. NoMemory answers a place that no section of the 32-bit format has.
-fn further(at: u64, size: u64) -> Result<u64, NoMemory>
-    ensures sum { IfOk result (λ to. to ≡ at + size) }
-    ensures fits { IfOk result (λ to. to < least_reserved) }
-{
-    if size >= FIRST_RESERVED || at >= FIRST_RESERVED - size {
-        return Err(NoMemory);
-    }
-    Ok(at + size)
-}
-
 /// Contracts see a slice as a list of numbers. It has fewer than 2^63, and each is a byte.
 pub(crate) fn bytes_are_small(section: &[u8])
     ensures few { length section.now < 2 ^ 63 }
@@ -57,18 +44,24 @@ pub(crate) fn bytes_are_small(section: &[u8])
     let _section = section;
 }
 
+// Contracts see the new codes as a list of numbers. Each is below 2^32.
+fn numbers_are_small(numbers: &Vec<u32>)
+    ensures { All (λ number. number < 2 ^ 32) numbers.now.items }
+{
+    let _numbers = numbers;
+}
+
 /// The place after the values of columns, which are written from a place on (DWARF 5 section 7.5.2). Both count from the
-/// section's first byte. `NoMemory` answers a place of 0xffff_fff0 or more.
-pub(crate) fn after_values(columns: &[Spec], values: &[Value], at: u64) -> Result<u64, NoMemory>
-    requires { at < least_reserved }
-    ensures size { IfOk result (λ to. (section : List ℕ) (size : ℕ) → length section < 2 ^ 63 → All (IsValueIn section) values.now → HaveSize section columns.now values.now size → to ≡ at + size) }
-    ensures fits { IfOk result (λ to. to < least_reserved) }
+/// section's first byte.
+fn after_values(columns: &[Spec], values: &[Value], at: u64) -> u64
+    requires { HaveRoom columns.now values.now at }
+    ensures { (section : List ℕ) (size : ℕ) → length section < 2 ^ 63 → All (IsValueIn section) values.now → HaveSize section columns.now values.now size → result ≡ at + size }
 {
     let mut to = at;
     for (column, value) in columns.iter().zip(values) {
-        to = further(to, written_size(*column, value))?;
+        to += written_size(*column, value);
     }
-    Ok(to)
+    to
 }
 
 // How many bytes the new code of a declaration has.
@@ -87,17 +80,17 @@ fn after_entry(
     numbers: &Vec<u32>,
     id: u32,
     at: u64,
-) -> Result<u64, NoMemory>
+) -> u64
     requires id { id < length forest.now.entries }
     requires declared { (entry_at forest.now.entries id).decl < length decls.now.decls }
     requires numbered { length numbers.now.items ≡ length decls.now.decls }
     requires stands { AreStanding forest.now.section (values_in forest.now id) }
-    ensures size { IfOk result (λ to. (size : ℕ) → EntrySize decls.now specs.now.items numbers.now.items forest.now id size → to ≡ at + size) }
-    ensures fits { IfOk result (λ to. to < least_reserved) }
+    requires room { (size : ℕ) × EntrySize decls.now specs.now.items numbers.now.items forest.now id size × (at + size < least_reserved) }
+    ensures { (size : ℕ) → EntrySize decls.now specs.now.items numbers.now.items forest.now id size → result ≡ at + size }
 {
     bytes_are_small(forest.section());
     let number = forest.entry(id).decl;
-    let values_at = further(at, code_size(numbers, number))?;
+    let values_at = at + code_size(numbers, number);
     after_values(
         new_columns(decls, specs, number),
         values_of(forest, id),
@@ -117,19 +110,19 @@ fn place_next(
     requires fits { places.old.end < least_reserved }
     requires writable { IsWritable unit.now decls.now specs.now.items numbers.now.items }
     requires item { HasItem unit.now.forest next }
+    requires room { HasRoom (EntrySize decls.now specs.now.items numbers.now.items unit.now.forest) next places.old.end }
     ensures start { places.new.start ≡ places.old.start }
     ensures put { OnOk result (PutsItem (EntrySize decls.now specs.now.items numbers.now.items unit.now.forest) next places.old places.new) }
-    ensures fits { OnOk result (places.new.end < least_reserved) }
 {
     let place = places.end as u32;
     match next {
         Next::Entry(id) => {
             places.entries.push(place)?;
-            places.end = after_entry(unit.forest(), decls, specs, numbers, id, places.end)?;
+            places.end = after_entry(unit.forest(), decls, specs, numbers, id, places.end);
         }
         Next::End => {
             places.ends.push(place)?;
-            places.end = further(places.end, 1)?;
+            places.end += 1;
         }
     }
     Ok(())
@@ -139,9 +132,9 @@ fn place_next(
 /// counted from the first byte of the section, with the unit's table `decls`, a new column in place of each of the table's,
 /// and the new code of each declaration, which is 0 where no entry has it.
 ///
-/// Every LEB128 number has its fewest bytes, but those of DW_FORM_ref_udata, which have five. `NoMemory` comes where memory is
-/// wanting, and where the unit would end at 0xffff_fff0 or later, past what a section of the 32-bit format can have (DWARF 5
-/// section 7.4).
+/// Every LEB128 number has its fewest bytes, but those of DW_FORM_ref_udata, which have five. A code takes at most 4 bytes
+/// more than the old one, and a value at most 10 more than the old bytes: the caller shows that even so the unit would end below
+/// 0xffff_fff0, as a section of the 32-bit format does (DWARF 5 section 7.4). The only error is want of memory.
 pub fn place_unit(
     alloc: Global,
     unit: &Unit<'_>,
@@ -151,16 +144,18 @@ pub fn place_unit(
     start: u64,
 ) -> Result<Places, NoMemory>
     requires writable { IsWritable unit.now decls.now specs.now.items numbers.now.items }
-    requires small { start < 2 ^ 32 }
+    requires room { start + most_bytes unit.now < least_reserved }
     ensures start { IfOk result (λ places. places.start ≡ start) }
     ensures placed { IfOk result (λ places. IsPlacedAt unit.now decls.now specs.now.items numbers.now.items start places.entries.items places.ends.items places.end) }
+    ensures most { IfOk result (λ places. places.end ≤ start + most_bytes unit.now) }
     ensures fits { IfOk result (λ places. places.end < least_reserved) }
 {
+    numbers_are_small(numbers);
     let mut places = Places {
         start,
         entries: Vec::new(alloc),
         ends: Vec::new(alloc),
-        end: further(start, header_size(unit.head().kind) as u64)?,
+        end: start + header_size(unit.head().kind) as u64,
     };
     let mut items = Items::new();
     while let Some(next) = items.next(unit.forest()) {

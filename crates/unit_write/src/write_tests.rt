@@ -11,6 +11,7 @@ ghost use Rattle.unit_write.specs.Moved.{IsRoomy, IsWritable};
 ghost use Rattle.unit_write.specs.Sizes.{HoldsNumber};
 
 use crate::parts::{new_columns, values_of};
+use crate::place_tests::has_room;
 use crate::places::bytes_are_small;
 use crate::values::{moves, put_number};
 use crate::write::put_head;
@@ -207,6 +208,9 @@ fn write_sized(
     }
     if !is_writable(unit, table, &specs, &numbers) {
         return Err("not writable")?;
+    }
+    if !has_room(unit, 2) {
+        return Err("no room")?;
     }
     let places = place_unit(alloc, unit, table, &specs, &numbers, 2)?;
     let new = NewNumbers {

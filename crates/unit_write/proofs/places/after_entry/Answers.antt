@@ -1,4 +1,4 @@
-use Rattle.std.proofs.Common.{◌≡◌, ◌<◌, ◌+◌, ◌^◌, length, ap, subst, ◌∙◌, List, ℕ}
+use Rattle.std.proofs.Common.{◌≡◌, ◌<◌, ◌^◌, length, ap, subst, refl, ◌∙◌, List, ℕ}
 use Rattle.std.specs.Prelude.{slice_index}
 use Rattle.spelled.specs.Spelled.{AreBytes}
 use Rattle.leb_codec.specs.Leb.{least_unsigned_len}
@@ -6,11 +6,11 @@ use Rattle.abbrev_tables.specs.declared.decl.Spec.{Spec}
 use Rattle.entry_arena.specs.declared.entry.Entry.{Entry}
 use Rattle.entry_arena.specs.Arena.{entry_at}
 use Rattle.unit_write.specs.Placing.{columns_of}
-use Rattle.unit_write.proofs.Sizing.{entry_summed}
+use Rattle.unit_write.proofs.Sizing.{entry_room, entry_summed}
 use Rattle.unit_write.proofs.places.after_entry.Goals as goal
 
-pub returns-clause-size : goal.returns-clause-size
-returns-clause-size c =
+pub after_values-requires : goal.after_values-requires
+after_values-requires c =
     let table = c.args.decls.now in
     let columns = c.args.specs.now.items in
     let numbers = c.args.numbers.now.items in
@@ -20,8 +20,23 @@ returns-clause-size c =
     let few = subst (λ (z : List ℕ). length z < 2 ^ 63) same c.bytes_are_small.ensures.few in
     let small = subst (λ (z : List ℕ). AreBytes z) same c.bytes_are_small.ensures.small in
     let coded : c.code_size.result ≡ least_unsigned_len (slice_index numbers e.decl) = c.code_size.ensures ∙ ap (λ (z : Entry). least_unsigned_len (slice_index numbers z.decl)) c.entry-number.ensures in
-    let here : c.in_ok-values_at.values_at ≡ c.args.at + c.code_size.result = c.in_ok-values_at.ensures.sum in
     let named : c.new_columns.result.now ≡ columns_of table columns e.decl =
     c.new_columns.ensures ∙ ap (λ (z : List Spec). columns_of table z c.entry-number.result.decl) c.deref.ensures.value ∙ ap (λ (z : Entry). columns_of table columns z.decl) c.entry-number.ensures
     in
-    entry_summed table columns numbers f c.args.id c.args.at c.new_columns.result.now c.values_of.result.now c.code_size.result c.in_ok-values_at.values_at c.after_values.result named c.values_of.ensures few small c.requires.stands coded here c.after_values.ensures.size
+    entry_room table columns numbers f c.args.id c.args.at c.new_columns.result.now c.values_of.result.now c.code_size.result _ named c.values_of.ensures few small c.requires.stands coded refl c.requires.room
+
+pub returns : goal.returns
+returns c =
+    let table = c.args.decls.now in
+    let columns = c.args.specs.now.items in
+    let numbers = c.args.numbers.now.items in
+    let f = c.args.forest.now in
+    let e : Entry = entry_at f.entries c.args.id in
+    let same : c.section.result.now ≡ f.section = c.section.ensures in
+    let few = subst (λ (z : List ℕ). length z < 2 ^ 63) same c.bytes_are_small.ensures.few in
+    let small = subst (λ (z : List ℕ). AreBytes z) same c.bytes_are_small.ensures.small in
+    let coded : c.code_size.result ≡ least_unsigned_len (slice_index numbers e.decl) = c.code_size.ensures ∙ ap (λ (z : Entry). least_unsigned_len (slice_index numbers z.decl)) c.entry-number.ensures in
+    let named : c.new_columns.result.now ≡ columns_of table columns e.decl =
+    c.new_columns.ensures ∙ ap (λ (z : List Spec). columns_of table z c.entry-number.result.decl) c.deref.ensures.value ∙ ap (λ (z : Entry). columns_of table columns z.decl) c.entry-number.ensures
+    in
+    entry_summed table columns numbers f c.args.id c.args.at c.new_columns.result.now c.values_of.result.now c.code_size.result _ c.after_values.result named c.values_of.ensures few small c.requires.stands coded refl c.after_values.ensures

@@ -1,14 +1,21 @@
-use Rattle.std.proofs.Common.{◌≡◌, ◌⊎◌, length, inl, inr}
-use Rattle.unit_write.proofs.Sizing.{summed_next, summed_all}
+use Rattle.std.proofs.Common.{◌≡◌, ◌<◌, ◌+◌, ◌⊎◌, length, inl, inr, refl, arith}
+use Rattle.entry_read.specs.Heads.{least_reserved}
+use Rattle.unit_write.proofs.Sizing.{summed_next, summed_below, summed_all}
 use Rattle.unit_write.proofs.places.after_values.Goals as goal
+
+pub overflow_add-to : goal.overflow_add-to
+overflow_add-to c =
+    let s = c.in-Some.ensures.steps in
+    let below : c.loop-column.to + c.written_size-to.result < least_reserved = summed_below c.args.columns.now c.args.values.now c.args.at c.in-Some.column.now c.in-Some.value.now _ c.next.new.self.a.rest.now _ c.next.new.self.b.rest.now c.loop-column.to c.written_size-to.result c.loop-column.invariant s.0 s.1 c.written_size-to.ensures in
+    omega arith
 
 pub loop-column-preserved : goal.loop-column-preserved
 loop-column-preserved c =
     let s = c.in-Some.ensures.steps in
-    summed_next c.args.columns.now c.args.values.now c.args.at c.in-Some.column.now c.in-Some.value.now _ c.next.new.self.a.rest.now _ c.next.new.self.b.rest.now c.loop-column.to c.written_size.result c.in_ok-to.to c.loop-column.invariant s.0 s.1 c.written_size.ensures c.in_ok-to.ensures.sum c.in_ok-to.ensures.fits
+    summed_next c.args.columns.now c.args.values.now c.args.at c.in-Some.column.now c.in-Some.value.now _ c.next.new.self.a.rest.now _ c.next.new.self.b.rest.now c.loop-column.to c.written_size-to.result _ c.loop-column.invariant s.0 s.1 c.written_size-to.ensures refl
 
-pub returns-clause-size : goal.returns-clause-size
-returns-clause-size c =
+pub returns : goal.returns
+returns c =
     let columns = c.loop-column.column-iterator.a.rest.now in
     let values = c.loop-column.column-iterator.b.rest.now in
     let none : (length columns ≡ 0) ⊎ (length values ≡ 0) = elim (c.in-None.ensures.steps) [ inl x ↦ inl x.1.0 | inr x ↦ inr x.1.0 ] in

@@ -1,0 +1,202 @@
+-- What is written of a value, and of an entry, has few bytes more than what was read of it.
+use Rattle.std.proofs.Common.{◌≡◌, ◌≤◌, ◌<◌, ◌+◌, ◌-◌, ◌*◌, ◌^◌, ℕ, List, [], ◌∷◌, ◌++◌, length, Bool, true, false, ◌∙◌, ap, refl, subst, arith, inl, inr}
+use Rattle.std.specs.Prelude.{ℤ, pos, negsuc, nat_le, if◌then◌else◌, slice_index, FitsSigned}
+use Rattle.std.specs.Int.{w64}
+use Rattle.std.proofs.lemmas.Int.{ints}
+use Rattle.std.proofs.lemmas.Bool.{cases_lt}
+use Rattle.std.proofs.lemmas.List.{length-append, get_or_append_left, get_or-append-add}
+use Rattle.spelled.specs.Spelled.{AreBytes}
+use Rattle.leb_codec.specs.Leb.{least_unsigned_len, least_signed_len}
+use Rattle.leb_codec.proofs.Lens.{unsigned_lens, signed_lens}
+use Rattle.leb_codec.proofs.SpellingLaws.{unsigned_spellings, signed_spellings}
+use Rattle.form_codec.specs.declared.form.Role.{Role}
+use Rattle.form_codec.specs.declared.form.Role.TheVariants as role
+use Rattle.form_codec.specs.declared.form.Shape.{Shape}
+use Rattle.form_codec.specs.declared.form.Shape.TheVariants.{Constant, Present, Number, Uleb as ByUleb, Sleb as BySleb, Counted, UlebCounted, Sixteen, ZeroEnded}
+use Rattle.form_codec.specs.declared.form.Content.{Content}
+use Rattle.form_codec.specs.declared.form.Content.TheVariants as content
+use Rattle.form_codec.specs.declared.form.Width.{Width}
+use Rattle.form_codec.specs.declared.form.Width.TheVariants.{One, Two, Three, Four, Eight}
+use Rattle.form_codec.specs.declared.value.Value.{Value}
+use Rattle.form_codec.specs.Forms.{Meaning, SpellsShape, SpellsValue, IsUlebCounted, shape_of, size_of, number, in_role, of_content}
+use Rattle.form_codec.specs.Forms.Meaning.{Bits, Whole, SixteenBytes, Data, Expression, Text, InUnit, InSection, SectionPlace}
+use Rattle.form_codec.specs.Values.{meant_in}
+use Rattle.abbrev_tables.specs.declared.decl.Spec.{Spec}
+use Rattle.abbrev_tables.specs.Tables.{Declared}
+use Rattle.abbrev_tables.specs.Listings.{Listing}
+use Rattle.entry_arena.specs.Arena.{Arena, entry_at}
+use Rattle.entry_arena.specs.Trees.{Listed, AddsEntry, ValuesBetween, bytes_between, declared_at}
+use Rattle.entry_arena.proofs.Between.{length_between}
+use Rattle.entry_arena.proofs.StepLaws.{code_rises}
+use Rattle.unit_write.specs.Values.{with_number, IsWritten, HasSize, HaveSize}
+use Rattle.unit_write.specs.Placing.{columns_of, values_in, EntrySize}
+
+-- the bytes that a value has whatever its form
+abbrev pub own_len : Meaning → ℕ
+own_len (SixteenBytes bytes) = length bytes
+own_len (Data bytes) = length bytes
+own_len (Expression bytes) = length bytes
+own_len (Text bytes) = length bytes
+own_len meaning = 0
+
+data_len : (size n : ℕ) (test : Bool) → own_len (if test then Bits size n else Whole (pos n)) ≡ 0
+data_len size n true = refl
+data_len size n false = refl
+
+role_len : (r : Role) (w : Width) (n : ℕ) → own_len (in_role r w n) ≡ 0
+role_len role.Data w n = data_len (size_of w) n (nat_le (2 ^ (8 * size_of w - 1)) n)
+role_len r w n = refl
+
+content_len : (kind : Content) (bytes : List ℕ) → own_len (of_content kind bytes) ≡ length bytes
+content_len content.Data bytes = refl
+content_len content.Expression bytes = refl
+
+-- they stand in each spelling of it
+pub spelled_len : (s : Shape) (m : Meaning) (bytes : List ℕ) → SpellsShape s m bytes → own_len m ≤ length bytes
+spelled_len (Constant v) m bytes p = let e : own_len m ≡ 0 = ap own_len p.2 in omega arith
+spelled_len Present m bytes p = let e : own_len m ≡ 0 = ap own_len p.1 in omega arith
+spelled_len (Number w r) m bytes p = let e : own_len m ≡ 0 = ap own_len p.1 ∙ role_len r w (number (size_of w) bytes) in omega arith
+spelled_len (ByUleb r) m bytes p = let e : own_len m ≡ 0 = ap own_len p.2 ∙ role_len r Eight p.0 in omega arith
+spelled_len BySleb m bytes p = let e : own_len m ≡ 0 = ap own_len p.2 in omega arith
+spelled_len (Counted w) m bytes p =
+    let e : own_len m ≡ length p.body = ap own_len p.holds in
+    let whole : length bytes ≡ length p.head + length p.body = ap length p.whole ∙ length-append p.head p.body in
+    omega arith
+spelled_len (UlebCounted kind) m bytes p =
+    let e : own_len m ≡ length p.body = ap own_len p.holds ∙ content_len kind p.body in
+    let whole : length bytes ≡ length p.head + length p.body = ap length p.whole ∙ length-append p.head p.body in
+    omega arith
+spelled_len Sixteen m bytes p = let e : own_len m ≡ length bytes = ap own_len p.1 in omega arith
+spelled_len ZeroEnded m bytes p =
+    let e : own_len m ≡ length p.text = ap own_len p.holds in
+    let whole : length bytes ≡ length p.text + 1 = ap length p.whole ∙ length-append p.text (0 ∷ []) in
+    omega arith
+
+-- another number doesn't change them
+renumbered_len : (n : ℕ) (m : Meaning) → own_len (with_number n m) ≡ own_len m
+renumbered_len n (InUnit k) = refl
+renumbered_len n (InSection k) = refl
+renumbered_len n (SectionPlace k) = refl
+renumbered_len n m = refl
+
+small_width : (w : Width) → size_of w ≤ 8
+small_width One = omega arith
+small_width Two = omega arith
+small_width Three = omega arith
+small_width Four = omega arith
+small_width Eight = omega arith
+
+-- numbers of 64 bits have ten bytes at most
+ten_unsigned : (n : ℕ) → n < 2 ^ 64 → least_unsigned_len n ≤ 10
+ten_unsigned n few = (unsigned_lens.enough n 10).0 (record { some = omega arith; below = omega arith })
+
+ten_signed : (v : ℤ) → FitsSigned w64 v → least_signed_len v ≤ 10
+ten_signed (pos n) fits =
+    let few : n < 2 ^ 63 = fits.sfits in
+    (signed_lens.enough (pos n) 10).0 (record { some = omega arith; from = omega (arith, ints); below = omega (arith, ints) })
+ten_signed (negsuc n) fits =
+    let few : n < 2 ^ 63 = fits.sfits in
+    (signed_lens.enough (negsuc n) 10).0 (record { some = omega arith; from = omega (arith, ints); below = omega (arith, ints) })
+
+-- bytes behind bytes
+both_small : (a b : List ℕ) → AreBytes a → AreBytes b → AreBytes (a ++ b)
+both_small a b p q k inside =
+    elim (cases_lt k (length a)) [
+      | inl left ↦ rw (get_or_append_left a b 0 k left) (p k left)
+      | inr right ↦
+          let e : k ≡ length a + (k - length a) = omega arith in
+          let all : length (a ++ b) ≡ length a + length b = length-append a b in
+          let at : slice_index (a ++ b) k ≡ slice_index b (k - length a) = ap (λ i. slice_index (a ++ b) i) e ∙ get_or-append-add a b (k - length a) 0 in
+          rw at (q (k - length a) (omega arith))
+    ]
+
+tail_small : (a b : List ℕ) → AreBytes (a ++ b) → AreBytes b
+tail_small a b small k inside =
+    let at : slice_index (a ++ b) (length a + k) ≡ slice_index b k = get_or-append-add a b k 0 in
+    let all : length (a ++ b) ≡ length a + length b = length-append a b in
+    let s = small (length a + k) (omega arith) in
+    omega (arith, s, at)
+
+-- a block with a count of ten bytes
+ten_counted : (kind : Content) (m : Meaning) (bytes : List ℕ) → AreBytes bytes → IsUlebCounted kind m bytes → (others : List ℕ) × AreBytes others × IsUlebCounted kind m others × (length others ≡ 10 + own_len m)
+ten_counted kind m bytes small p =
+    let few : length p.body < 2 ^ 64 = p.count.1 in
+    let b = unsigned_spellings.each_len (length p.body) 10 (ten_unsigned (length p.body) few) in
+    let body : AreBytes p.body = tail_small p.head p.body (subst (λ (z : List ℕ). AreBytes z) p.whole small) in
+    let len : length b.0 ≡ 10 = b.2 in
+    let own : own_len m ≡ length p.body = ap own_len p.holds ∙ content_len kind p.body in
+    let all : length (b.0 ++ p.body) ≡ length b.0 + length p.body = length-append b.0 p.body in
+    (b.0 ++ p.body, both_small b.0 p.body b.1.0.byte body, record { head = b.0; body = p.body; count = (b.1, p.count.1); whole = refl; holds = p.holds }, omega arith)
+
+abbrev AreLeast : Shape → Meaning → List ℕ → Type 0
+AreLeast s m bytes = (others : List ℕ) → AreBytes others → SpellsShape s m others → length bytes ≤ length others
+
+-- the shortest bytes of a shape have at most ten more
+shortest_len : (s : Shape) (m : Meaning) (bytes : List ℕ) → AreBytes bytes → SpellsShape s m bytes → AreLeast s m bytes → length bytes ≤ own_len m + 10
+shortest_len (Constant v) m bytes small p least = let e : length bytes ≡ 0 = ap length p.0 in omega arith
+shortest_len Present m bytes small p least = let e : length bytes ≡ 0 = ap length p.0 in omega arith
+shortest_len (Number w r) m bytes small p least = let e : length bytes ≡ size_of w = p.0 in omega (arith, small_width w)
+shortest_len (ByUleb r) m bytes small p least =
+    let b = unsigned_spellings.each_len p.0 10 (ten_unsigned p.0 p.1.1) in
+    let up : length bytes ≤ length b.0 = least b.0 b.1.0.byte (p.0, (b.1, p.1.1), p.2) in
+    let len : length b.0 ≡ 10 = b.2 in
+    omega arith
+shortest_len BySleb m bytes small p least =
+    let b = signed_spellings.each_len p.0 10 (ten_signed p.0 p.1.1) in
+    let up : length bytes ≤ length b.0 = least b.0 b.1.0.byte (p.0, (b.1, p.1.1), p.2) in
+    let len : length b.0 ≡ 10 = b.2 in
+    omega arith
+shortest_len (Counted w) m bytes small p least =
+    let e : own_len m ≡ length p.body = ap own_len p.holds in
+    let whole : length bytes ≡ length p.head + length p.body = ap length p.whole ∙ length-append p.head p.body in
+    let head : length p.head ≡ size_of w = p.size in
+    omega (arith, small_width w)
+shortest_len (UlebCounted kind) m bytes small p least =
+    let b = ten_counted kind m bytes small p in
+    let up : length bytes ≤ length b.0 = least b.0 b.1 b.2 in
+    let len : length b.0 ≡ 10 + own_len m = b.3 in
+    omega arith
+shortest_len Sixteen m bytes small p least = let e : own_len m ≡ length bytes = ap own_len p.1 in omega arith
+shortest_len ZeroEnded m bytes small p least =
+    let e : own_len m ≡ length p.text = ap own_len p.holds in
+    let whole : length bytes ≡ length p.text + 1 = ap length p.whole ∙ length-append p.text (0 ∷ []) in
+    omega arith
+
+-- so have the bytes that are written for a value
+written_len : (column : Spec) (m : Meaning) (bytes : List ℕ) → IsWritten column m bytes → length bytes ≤ own_len m + 10
+written_len column m bytes (s, inl (leb, five)) = omega (arith, five)
+written_len column m bytes (s, inr (other, shortest)) =
+    let t = shortest.spelled in
+    shortest_len (shape_of t.form shortest.constant) m bytes t.small t.spelled (λ others small p. shortest.shortest shortest.constant others (record { form = t.form; known = t.known; small = small; spelled = p }))
+
+-- at most ten bytes more than any bytes that spell it
+pub value_most : (column : Spec) (m : Meaning) (size code : ℕ) (constant : ℤ) (old : List ℕ) → HasSize column m size → SpellsValue code constant m old → size ≤ length old + 10
+value_most column m size code constant old (n, bytes, written, e) s =
+    let new : length bytes ≤ own_len (with_number n m) + 10 = written_len column (with_number n m) bytes written in
+    let same : own_len (with_number n m) ≡ own_len m = renumbered_len n m in
+    let held : own_len m ≤ length old = spelled_len (shape_of s.form constant) m old s.spelled in
+    omega (arith, e)
+
+-- and so for values that stand in a section
+pub values_most : (section : List ℕ) (cs ds : List Spec) (vs : List Value) (size from to : ℕ) → HaveSize section cs vs size → ValuesBetween section ds vs from to → from + size ≤ to + 10 * length vs
+values_most section [] [] [] size from to p q = omega (arith, p, q)
+values_most section [] (d ∷ ds) [] size from to p q = absurd q
+values_most section [] ds (v ∷ vs) size from to p q = absurd p
+values_most section (c ∷ cs) ds [] size from to p q = absurd p
+values_most section (c ∷ cs) [] (v ∷ vs) size from to p q = absurd q
+values_most section (c ∷ cs) (d ∷ ds) (v ∷ vs) size from to (first, rest, has, have, sum) (next, spelled, placed, more) =
+    let here : first ≤ length (bytes_between section from next) + 10 = value_most c (meant_in section v) first d.form d.constant (bytes_between section from next) has spelled.spelled in
+    let len : length (bytes_between section from next) ≡ next - from = length_between section from next spelled.inside in
+    let order : from ≤ next = spelled.order in
+    let others : next + rest ≤ to + 10 * length vs = values_most section cs ds vs rest next to have more in
+    omega (arith, sum)
+
+-- an entry takes at most four bytes more, and ten for each value, where its new code has no more than five
+pub entry_most : (f : Arena) (table : Listing) (columns : List Spec) (numbers : List ℕ) (ds : List Declared) (depth number id size : ℕ) (now mid : Listed) → least_unsigned_len (slice_index numbers (entry_at f.entries id).decl) ≤ 5 → (adds : AddsEntry f.section ds depth number now mid) → values_in f id ≡ adds.values → EntrySize table columns numbers f id size → now.place + size ≤ mid.place + 4 + 10 * length adds.values
+entry_most f table columns numbers ds depth number id size now mid five adds same sized =
+    let cs : List Spec = columns_of table columns (entry_at f.entries id).decl in
+    let valued = subst (λ (z : List Value). HaveSize f.section cs z sized.0) same sized.1 in
+    let rest : adds.values_at + sized.0 ≤ mid.place + 10 * length adds.values = values_most f.section cs ((declared_at ds number).columns) adds.values sized.0 adds.values_at mid.place valued adds.valued in
+    let code : now.place < adds.values_at = code_rises f.section ((declared_at ds number).code) now.place adds.values_at adds.coded in
+    let sum = sized.2 in
+    omega (arith, five, sum)

@@ -1,0 +1,66 @@
+-- Entries that are written stand without a byte too many.
+use Rattle.std.proofs.Common.{◌≡◌, ◌≤◌, ◌<◌, ◌+◌, ◌-◌, ℕ, zero, suc, List, [], ◌∷◌, ◌++◌, length, take, drop, ◌∙◌, sym, ap, refl, subst, arith}
+use Rattle.std.specs.Prelude.{map}
+use Rattle.std.proofs.lemmas.List.{append_assoc, take_at, drop_at}
+use Rattle.leb_codec.specs.Leb.{ShortestUnsigned}
+use Rattle.form_codec.specs.declared.value.Value.{Value}
+use Rattle.form_codec.specs.Forms.{Meaning}
+use Rattle.form_codec.specs.Values.{meant_in}
+use Rattle.abbrev_tables.specs.declared.decl.Spec.{Spec}
+use Rattle.abbrev_tables.specs.Tables.{Declared}
+use Rattle.entry_arena.specs.declared.entry.Entry.{Entry}
+use Rattle.entry_arena.specs.Arena.{entry_at}
+use Rattle.entry_arena.specs.Trees.{declared_at, bytes_between, SpellsBetween}
+use Rattle.entry_arena.proofs.Between.{length_between}
+use Rattle.entry_arena.proofs.SpellingLaws.{cut}
+use Rattle.unit_write.specs.Values.{with_number, IsWritten}
+use Rattle.unit_write.specs.Moved.{WrittenBetween, StandsShort}
+use Rattle.unit_write.specs.Puts.{PutsValues}
+
+-- what values mean with numbers of their own
+abbrev pub renamed : List ℕ → List Value → List ℕ → List Meaning
+renamed section [] ns = []
+renamed section (v ∷ vs) [] = []
+renamed section (v ∷ vs) (n ∷ ns) = with_number n (meant_in section v) ∷ renamed section vs ns
+
+-- values that mean what was written stand in what was written
+pub values_short : (old new : List ℕ) (cs : List Spec) (vs ws : List Value) (ns : List ℕ) (from to : ℕ) → from ≤ to → to ≤ length new → PutsValues old cs vs ns (bytes_between new from to) → map (meant_in new) ws ≡ renamed old vs ns → WrittenBetween new cs ws from to
+values_short old new [] [] [] [] from to order inside p e =
+    let size : to - from ≡ 0 = sym (length_between new from to inside) ∙ ap length p in
+    omega arith
+values_short old new [] [] (w ∷ ws) [] from to order inside p e = absurd (cc (e))
+values_short old new [] [] ws (n ∷ ns) from to order inside p e = absurd p
+values_short old new [] (v ∷ vs) ws ns from to order inside p e = absurd p
+values_short old new (c ∷ cs) [] ws ns from to order inside p e = absurd p
+values_short old new (c ∷ cs) (v ∷ vs) ws [] from to order inside p e = absurd p
+values_short old new (c ∷ cs) (v ∷ vs) [] (n ∷ ns) from to order inside p e = absurd (cc (e))
+values_short old new (c ∷ cs) (v ∷ vs) (w ∷ ws) (n ∷ ns) from to order inside (first, rest, x, p, whole) e =
+    let here : meant_in new w ≡ with_number n (meant_in old v) = cc (e) in
+    let there : map (meant_in new) ws ≡ renamed old vs ns = cc (e) in
+    let k = cut new from to first rest order inside whole in
+    let before : k.mid ≤ to = k.before in
+    let bytes : IsWritten c (with_number n (meant_in old v)) (bytes_between new from k.mid) = subst (λ (z : List ℕ). IsWritten c (with_number n (meant_in old v)) z) (sym k.first) x in
+    let written : IsWritten c (meant_in new w) (bytes_between new from k.mid) = subst (λ (m : Meaning). IsWritten c m (bytes_between new from k.mid)) (sym here) bytes in
+    let others : PutsValues old cs vs ns (bytes_between new k.mid to) = subst (λ (z : List ℕ). PutsValues old cs vs ns z) (sym k.second) p in
+    (k.mid, record { order = k.after; inside = omega arith; spelled = written }, values_short old new cs vs ws ns k.mid to k.before inside others there)
+
+-- the values of an entry, with more behind them
+values_taken : (before vs more : List Value) → take (length vs) (drop (length before) ((before ++ vs) ++ more)) ≡ vs
+values_taken before vs more =
+    ap (λ (z : List Value). take (length vs) (drop (length before) z)) (append_assoc before vs more) ∙ ap (λ (z : List Value). take (length vs) z) (drop_at before (vs ++ more) (length before) refl) ∙ take_at vs more (length vs) refl
+
+-- so does an entry whose code and values are written, whatever values are listed behind its own
+pub entry_short : (section : List ℕ) (ds : List Declared) (before vs more : List Value) (at mid to depth decl : ℕ) → at ≤ to → SpellsBetween (ShortestUnsigned ((declared_at ds decl).code)) section at mid → WrittenBetween section ((declared_at ds decl).columns) vs mid to → StandsShort section ds ((before ++ vs) ++ more) (record { at = at; len = to - at; depth = depth; decl = decl; first = length before; count = length vs })
+entry_short section ds before vs more at mid to depth decl order coded valued =
+    let end : at + (to - at) ≡ to = omega arith in
+    let up : WrittenBetween section ((declared_at ds decl).columns) vs mid (at + (to - at)) = subst (λ (n : ℕ). WrittenBetween section ((declared_at ds decl).columns) vs mid n) (sym end) valued in
+    record {
+      values_at = mid;
+      coded = coded;
+      valued = subst (λ (z : List Value). WrittenBetween section ((declared_at ds decl).columns) z mid (at + (to - at))) (sym (values_taken before vs more)) up;
+    }
+
+-- one more entry before others
+pub first_short : (section : List ℕ) (ds : List Declared) (values : List Value) (e : Entry) (entries : List Entry) → StandsShort section ds values e → ((k : ℕ) → k < length entries → StandsShort section ds values (entry_at entries k)) → (k : ℕ) → k < length (e ∷ entries) → StandsShort section ds values (entry_at (e ∷ entries) k)
+first_short section ds values e entries first rest zero inside = first
+first_short section ds values e entries first rest (suc k) inside = rest k (omega arith)
