@@ -3,7 +3,7 @@ use Rattle.std.proofs.Common.{◌≡◌, ◌≤◌, ◌<◌, ◌+◌, ◌∙◌,
 use Rattle.std.specs.Prelude.{◌↔◌, Bool, true, false, ◌||◌, nat_eq}
 use Rattle.std.specs.List.{list_any, Contains}
 use Rattle.std.proofs.Math.Seq.{get_or-append_seam}
-use Rattle.std.proofs.lemmas.List.{length-append, length-drop, length-take-le, get_or-take, get_or-drop}
+use Rattle.std.proofs.lemmas.List.{length-append, length-drop, length-take-le, get_or-take, get_or-drop, get_or_read_under}
 use Rattle.std.proofs.lemmas.List.Folds.{list_any_at}
 use Rattle.std.proofs.lemmas.Bool.{eqb-true, eq-eqb}
 use Rattle.dw_base.specs.declared.fault.Kind.{Kind}
@@ -130,6 +130,10 @@ module _ (section : List ℕ) (columns : List Spec) (values : List Value) (name 
       none k k_in (ap (λ z. z.0) is, sym (offset_place section (value_at values k)) ∙ ap (λ z. is_place z.1) is)
 
 -- AT THE ROOT
+
+-- a value that is read at the place of a column among the values of all entries
+pub value_read : (values : List Value) (first count k : ℕ) (v : Value) → first + count ≤ length values → k < count → v ≡ get_or values (first + k) v → v ≡ value_at values (first + k)
+value_read values first count k v there inside read = get_or_read_under values (first + k) (length values) v (value.Addr 0) read (omega arith) refl
 
 -- a column of an entry gives a base of a name, where these are the values of all entries
 abbrev pub GivesBaseIn : List Declared → Entry → List Value → ℕ → ℕ → Type 0

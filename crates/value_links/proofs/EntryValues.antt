@@ -1,5 +1,5 @@
 -- The values of entries, by the numbers of their columns.
-use Rattle.std.proofs.Common.{◌≡◌, ◌≤◌, ◌<◌, ◌+◌, ◌++◌, ◌∙◌, ℕ, List, [], ◌∷◌, length, take, drop, sym, ap, subst, refl, arith}
+use Rattle.std.proofs.Common.{◌≡◌, ◌≤◌, ◌<◌, ◌+◌, ◌++◌, ◌∙◌, ℕ, zero, suc, List, [], ◌∷◌, length, take, drop, sym, ap, subst, refl, arith}
 use Rattle.std.specs.Prelude.{pos}
 use Rattle.std.proofs.Math.Seq.{get_or-append_seam}
 use Rattle.std.proofs.lemmas.List.{length-append, length-take-le, take-append-drop, drop_more}
@@ -32,6 +32,16 @@ values_inside section [] [] from to inside same = let here : from ≡ to = same 
 values_inside section [] (v ∷ vs) from to inside none = absurd none
 values_inside section (c ∷ cs) [] from to inside none = absurd none
 values_inside section (c ∷ cs) (v ∷ vs) from to inside (next, spelled, placed, rest) = values_inside section cs vs next to spelled.inside rest
+
+-- the first values of columns end somewhere
+pub values_front : (section : List ℕ) (columns : List Spec) (values : List Value) (from to k : ℕ) → ValuesBetween section columns values from to → (mid : ℕ) × ValuesBetween section (take k columns) (take k values) from mid
+values_front section columns values from to zero valued = (from, refl)
+values_front section [] [] from to (suc k) same = (from, refl)
+values_front section [] (v ∷ vs) from to (suc k) none = absurd none
+values_front section (c ∷ cs) [] from to (suc k) none = absurd none
+values_front section (c ∷ cs) (v ∷ vs) from to (suc k) (next, spelled, placed, rest) =
+    let front = values_front section cs vs next to k rest in
+    (front.0, (next, spelled, placed, front.1))
 
 module _ (unit : UnitRead) (owned : HaveOwners (declarations unit) unit.forest) (id : ℕ) (known : id < length unit.forest.entries) where
   -- the value of a column stands where the code and the values before it end
@@ -73,3 +83,9 @@ module _ (unit : UnitRead) (owned : HaveOwners (declarations unit) unit.forest) 
       let column : spec_at (declaration_of unit id).columns k ≡ h.column = ap (λ z. spec_at z k) h.columns ∙ get_or-append_seam h.earlier_columns h.column h.later_columns no_spec in
       let value : value_at (values_of unit id) k ≡ h.value = ap (λ z. value_at z k) h.values ∙ ap (value_at (h.earlier ++ h.value ∷ h.later)) (sym same) ∙ get_or-append_seam h.earlier h.value h.later (value.Addr 0) in
       (k, inside, h.named ∙ ap (λ z. z.name) (sym column), h.meant ∙ ap (meant_in unit.forest.section) (sym value ∙ own_value unit.forest.values (entry_of unit id).first (entry_of unit id).count k inside))
+
+  -- whose number tells that of the column
+  pub column_numbered : (number name : ℕ) (meaning : Meaning) (place : ℕ) → (h : HasValueAt unit id number name meaning place) → number ≡ (entry_of unit id).first + (column_of number name meaning place h).0
+  unfolding column_of
+  column_numbered number name meaning place h =
+      h.numbered ∙ ap (λ (z : ℕ). (entry_of unit id).first + z) (counted_between unit.forest.section h.earlier_columns h.earlier h.values_at place h.valued)

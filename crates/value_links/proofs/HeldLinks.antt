@@ -39,7 +39,7 @@ units_same (x ∷ xs) (y ∷ ys) e tables =
     one_unit : (x y : UnitRead) → x.head ≡ y.head → x.table ≡ y.table → x.forest ≡ y.forest → x ≡ y
     one_unit x y head table forest = ap (λ z. record { head = z; table = x.table; forest = x.forest }) head ∙ (ap (λ z. record { head = y.head; table = z; forest = x.forest }) table ∙ ap (λ z. record { head = y.head; table = y.table; forest = z }) forest)
 
-units_held_once : (read other : List UnitRead) (held : List HeadAndForest) (tables : List NamedTable) (numbers : List ℕ) → held ≡ map head_and_forest read → held ≡ map head_and_forest other → AreTablesOf read tables numbers → AreTablesOf other tables numbers → read ≡ other
+pub units_held_once : (read other : List UnitRead) (held : List HeadAndForest) (tables : List NamedTable) (numbers : List ℕ) → held ≡ map head_and_forest read → held ≡ map head_and_forest other → AreTablesOf read tables numbers → AreTablesOf other tables numbers → read ≡ other
 units_held_once read other held tables numbers e f named others =
     let same : map head_and_forest read ≡ map head_and_forest other = sym e ∙ f in
     let size : length read ≡ length other = sym (length-map read head_and_forest) ∙ ap length same ∙ length-map other head_and_forest in

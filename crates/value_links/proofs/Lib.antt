@@ -26,3 +26,6 @@ pub mod Fronts
 pub mod WorldLaws
 pub mod HeldLinks
 pub mod SectionBytes
+pub mod Owning
+pub mod NumberedValues
+pub mod LinksOnce

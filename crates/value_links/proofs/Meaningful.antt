@@ -40,7 +40,7 @@ use Rattle.value_links.proofs.Resolving.{search_below, resolved_or_faulty}
 
 -- WHERE VALUES STAND
 
-entry_stands : (info : List ℕ) (head : UnitHead) (ds : List Declared) (f : Arena) → f.section ≡ info → IsUnitHeld info head ds f → (id : ℕ) → id < length f.entries → StandsAs f.section ds f.values (entry_at f.entries id)
+pub entry_stands : (info : List ℕ) (head : UnitHead) (ds : List Declared) (f : Arena) → f.section ≡ info → IsUnitHeld info head ds f → (id : ℕ) → id < length f.entries → StandsAs f.section ds f.values (entry_at f.entries id)
 entry_stands info head ds f section (end, unit) id inside =
     let whole = (trees_are_walks info ds (entries_at head) (listed_to f end)).0 unit.tree in
     subst (λ (z : List ℕ). StandsAs z ds f.values (entry_at f.entries id)) (sym section) (entries_stand info ds (entries_at head) (listed_to f end) id whole inside)
@@ -79,7 +79,7 @@ module _ (r : Reading) (u id : ℕ) where
       ((c.name, y) ∷ ys, (record { name = refl; value = means }, zip))
 
 -- each value means something
-abbrev ValuesMean : Reading → Type 0
+abbrev pub ValuesMean : Reading → Type 0
 ValuesMean r = (u id number name : ℕ) (meaning : Meaning) (place : ℕ) → u < length r.units → HasValueAt (unit_at r u) id number name meaning place → (v : Resolved) × Resolves r u id name meaning v
 
 -- each type unit has the entry of its type
@@ -145,7 +145,7 @@ module _ (file : List ℕ) (reach : Reach) (r : Reading) (read : IsReading file 
   no_link_fault : (kind : Kind) (place : ℕ) → FaultLinks file reach kind place → ⊥
   no_link_fault kind place f = valid OfLinks kind (offset_named file info_name + place) (inl (place, refl, f))
 
-  valid_values : ValuesMean r
+  pub valid_values : ValuesMean r
   valid_values u id number name meaning place inside h = elim (resolved_or_faulty r u id name meaning) [
     | inl means ↦ means
     | inr faulty ↦ absurd (no_link_fault faulty.0 place (record { r = r; read = read.parts; u = u; inside = inside; fault = inl (record { id = id; number = number; name = name; meaning = meaning; stands = h; fault = faulty.1 }) }))

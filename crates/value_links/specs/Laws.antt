@@ -12,7 +12,9 @@ use Rattle.form_codec.specs.Forms.{Meaning}
 use Rattle.abbrev_tables.specs.Tables.{Declared}
 use Rattle.value_links.specs.Reading.{ProgramRead, UnitRead, Reading, declarations, unit_at, AreProgramsOf, AreUnitsOf, IsReadToLinks, IsReading}
 use Rattle.value_links.specs.Values.{HasValueAt}
-use Rattle.value_links.specs.Resolved.{Resolved, Resolves}
+use Rattle.value_links.specs.Resolved.{Resolved, Resolves, IsLinked}
+use Rattle.value_links.specs.declared.link.Link.{Link}
+use Rattle.value_links.specs.Links.{HasLink}
 use Rattle.value_links.specs.Debug.{Debug, MeansDebug, Means}
 use Rattle.value_links.specs.Faults.{is_list_section, HasShortReference, FaultValue, FaultOfFile, FaultOfNames, FaultOfPrograms, FaultOfUnits, FaultOfLinks, Faulty, IsValid}
 
@@ -24,6 +26,13 @@ OneReading = (file : List ℕ) (r s : Reading) → IsReading file r → IsReadin
 abbrev pub OneMeaning : Type 0
 OneMeaning =
     (file : List ℕ) (r : Reading) (u id name : ℕ) (meaning : Meaning) (v w : Resolved) → IsReadToLinks file r → u < length r.units → Resolves r u id name meaning v → Resolves r u id name meaning w → v ≡ w
+
+-- The value with a number among those of a unit's entries means one thing, and so it has one link.
+abbrev pub OneResolved : Type 0
+OneResolved = (file : List ℕ) (r : Reading) (u number : ℕ) (v w : Resolved) → IsReadToLinks file r → IsLinked r u number v → IsLinked r u number w → v ≡ w
+
+abbrev pub OneLink : Type 0
+OneLink = (file : List ℕ) (r : Reading) (u number : ℕ) (a b : Link) → IsReadToLinks file r → HasLink r u number a → HasLink r u number b → a ≡ b
 
 -- A file means one thing.
 abbrev pub OneDebug : Type 0

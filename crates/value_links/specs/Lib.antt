@@ -13,3 +13,4 @@ pub mod Parts
 pub mod Links
 pub mod Checks
 pub mod Passes
+pub mod Owners

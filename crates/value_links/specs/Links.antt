@@ -10,9 +10,10 @@ use Rattle.value_links.specs.declared.link.Link.{Link}
 use Rattle.value_links.specs.declared.link.Link.TheVariants.{Plain, Place, Lines, Kept as KeptPlace}
 use Rattle.value_links.specs.Attributes.{OffsetClass}
 use Rattle.value_links.specs.Attributes.OffsetClass.{LinePtr, AddrPtr, StrOffsetsPtr, MacPtr}
-use Rattle.value_links.specs.Reading.{no_program, no_unit}
+use Rattle.value_links.specs.Reading.{Reading, no_program, no_unit, unit_at}
+use Rattle.value_links.specs.Values.{meaning_at}
 use Rattle.value_links.specs.World.{head_and_forest}
-use Rattle.value_links.specs.Resolved.{Resolved, IsTargetAt}
+use Rattle.value_links.specs.Resolved.{Resolved, IsTargetAt, IsLinked}
 use Rattle.value_links.specs.Resolved.Resolved.{Itself, Refers, Program, Kept}
 
 -- what a value with this meaning means by its link
@@ -21,6 +22,10 @@ resolved_by meaning Plain = Itself meaning
 resolved_by meaning (Place unit target) = Refers unit target
 resolved_by meaning (Lines program) = Program program
 resolved_by meaning (KeptPlace place) = Kept place
+
+-- the value with a number among those of a unit's entries has this link: by it, it means what it means in the reading
+abbrev pub HasLink : Reading → ℕ → ℕ → Link → Type 0
+HasLink r u number link = IsLinked r u number (resolved_by (meaning_at (unit_at r u) number) link)
 
 -- WHAT IS HELD
 

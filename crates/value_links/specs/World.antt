@@ -2,6 +2,7 @@
 use Rattle.std.specs.Prelude.{◌≡◌, ◌<◌, ℕ, List, [], length, map, slice_index, slice_index_or}
 use Rattle.dw_base.specs.declared.fault.Reach.{Reach}
 use Rattle.line_machine.specs.declared.head.Head.{Head}
+use Rattle.abbrev_tables.specs.Listings.{Listing}
 use Rattle.entry_read.specs.Units.{HeadAndForest}
 use Rattle.companions.specs.declared.set.ArangeSet.{ArangeSet}
 use Rattle.value_links.specs.declared.units.NamedTable.{NamedTable}
@@ -25,6 +26,10 @@ head_and_forest unit = record { head = unit.head; forest = unit.forest }
 -- the table with a number; past the end there is none, and an empty one stands for it
 abbrev pub table_at : List NamedTable → ℕ → NamedTable
 table_at tables i = slice_index_or tables i (record { place = 0; table = record { decls = []; specs = []; end = 0 } })
+
+-- the table of the unit with a number
+abbrev pub own_table : World → ℕ → Listing
+own_table world u = (table_at world.tables (slice_index world.table_of u)).table
 
 -- the table that the header of a unit names, with its place
 abbrev pub named_by : UnitRead → NamedTable

@@ -46,7 +46,7 @@ fn table_of<'a>(held: &'a Units<'_>, number: u32) -> &'a Table
 }
 
 // The name of a column of a declaration.
-fn column_name(table: &Table, number: u32, column: u32) -> u64
+pub(crate) fn column_name(table: &Table, number: u32, column: u32) -> u64
     requires table { IsTable table.now }
     requires number { number < length (declarations_of table.now) }
     requires column { column < length (declared_at (declarations_of table.now) number).columns }

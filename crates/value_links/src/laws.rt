@@ -1,7 +1,7 @@
 // Laws of the definitions.
 ghost use Rattle.value_links.specs.Sections.{FindsSections};
 ghost use Rattle.value_links.specs.Parts.{LinkedFilesMean};
-ghost use Rattle.value_links.specs.Laws.{OneReading, OneMeaning, OneDebug, ResolvedHaveNoFault, ResolvedOrFaulty, FirstFaultsDecide, MeaningFilesAreValid, ValidFilesMean};
+ghost use Rattle.value_links.specs.Laws.{OneReading, OneMeaning, OneResolved, OneLink, OneDebug, ResolvedHaveNoFault, ResolvedOrFaulty, FirstFaultsDecide, MeaningFilesAreValid, ValidFilesMean};
 
 /// A law: the section of a name is found exactly where one has it, and is the first that does.
 pub fn sections_found()
@@ -18,6 +18,13 @@ pub fn one_reading()
 /// the children of an entry, of one unit; and a place in .debug_line that of one program.
 pub fn one_meaning()
     ensures { OneMeaning }
+{}
+
+/// Laws: the value with a number among those of a unit's entries means one thing, and so it has one link: its number tells the
+/// entry that has it, and the name of the attribute.
+pub fn one_link()
+    ensures value { OneResolved }
+    ensures link { OneLink }
 {}
 
 /// A law: a file has one debug meaning. So two files mean the same exactly where what the one means the other means too.

@@ -7,6 +7,7 @@ mod laws;
 mod link;
 #[cfg(test)]
 mod link_tests;
+mod owners;
 mod sections;
 mod tables;
 #[cfg(test)]
@@ -18,8 +19,8 @@ mod world_tests;
 
 pub use check::check_links;
 pub use laws::{
-    first_faults_decide, linked_files_mean, one_debug, one_meaning, one_reading, resolved_whole,
-    sections_found, valid_files,
+    first_faults_decide, linked_files_mean, one_debug, one_link, one_meaning, one_reading,
+    resolved_whole, sections_found, valid_files,
 };
 pub use link::{Link, resolve};
 pub use units::{NamedTable, Units, read_units};

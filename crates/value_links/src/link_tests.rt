@@ -2,7 +2,7 @@
 use crate::{Link, Units, check_links, read_units, resolve};
 use dw_base::{Fault, Kind, Span};
 use entry_arena::Target;
-use form_codec::Value;
+use form_codec::{Value, Whole};
 use line_machine::Head;
 use std::alloc::Global;
 use std::process::Abort;
@@ -90,7 +90,7 @@ fn links_of_values(rt: HostRuntime) -> Result<(), Fail> {
         (0, 0x73, Value::Offset(8), Some(Link::Kept(8))),
         (0, 0x02, Value::Offset(0), None),
         (0, 0x02, Value::LocIndex(0), None),
-        (0, 0x0b, Value::Int(12), Some(Link::Plain)),
+        (0, 0x0b, Value::Int(Whole::unsigned(12)), Some(Link::Plain)),
     ];
     for (unit, name, value, link) in rows.iter() {
         if (*unit as usize) < held.units.len() {

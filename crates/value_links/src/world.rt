@@ -4,6 +4,8 @@ ghost use Rattle.dw_base.specs.declared.fault.Reach.{Reach};
 ghost use Rattle.dw_base.specs.declared.fault.Reach.TheVariants.{Wide};
 ghost use Rattle.elf_sections.specs.Faults.{IsRead};
 ghost use Rattle.form_codec.specs.Values.{meant_in};
+ghost use Rattle.entry_read.specs.Places.{HaveOwners};
+ghost use Rattle.entry_read.specs.Units.{declarations_of, IsTable};
 ghost use Rattle.line_write.specs.Readings.{AreRead};
 ghost use Rattle.companions.specs.Aranges.{SetsTile};
 ghost use Rattle.value_links.specs.Sections.{debug_info, debug_abbrev, debug_line, debug_aranges};
@@ -11,18 +13,20 @@ ghost use Rattle.value_links.specs.Reading.{Reading, unit_at};
 ghost use Rattle.value_links.specs.Resolved.{Resolved, Resolves};
 ghost use Rattle.value_links.specs.Faults.{NamesFault};
 ghost use Rattle.value_links.specs.Laws.{IsImageInOrder};
-ghost use Rattle.value_links.specs.Links.{resolved_by};
+ghost use Rattle.value_links.specs.Links.{resolved_by, held_at, HasLink};
 ghost use Rattle.value_links.specs.Passes.{starts_of, ArePartsInOrder, NamesLaterFault};
-ghost use Rattle.value_links.specs.World.{World, Holds, table_at, IsWorldOf};
+ghost use Rattle.value_links.specs.World.{World, Holds, table_at, own_table, IsWorldOf};
 
 use crate::check::check_links;
 use crate::link::{Link, resolve};
+use crate::owners::{attribute_name, owner_of};
 use crate::sections::{debug_section, list_section};
 use crate::units::{NamedTable, Units, read_units};
 use abbrev_tables::Table;
 use companions::{ArangeSet, read_aranges};
 use dw_base::{Fault, Kind, NoMemory, Reach, Refusal};
 use elf_sections::Image;
+use entry_arena::Forest;
 use entry_read::Unit;
 use form_codec::Value;
 use line_machine::Head;
@@ -226,5 +230,34 @@ impl<'a> World<'a> {
         ensures { (file : List ℕ) (r : Reading) (id : ℕ) → Holds file self.now r → MatchOption result ((v : Resolved) → Resolves r unit id name (meant_in (unit_at r unit).forest.section value.now) v → ⊥) (λ link. Resolves r unit id name (meant_in (unit_at r unit).forest.section value.now) (resolved_by (meant_in (unit_at r unit).forest.section value.now) link)) }
     {
         resolve(&self.units, &self.programs, unit, name, value)
+    }
+
+    // The entries of the unit with a number, each of whose values is one of an entry. What is held is of a valid file.
+    fn entries_of(&self, unit: u32) -> &Forest<'a>
+        requires { unit < length self.now.units }
+        ensures world { (reach : Reach) × IsWorldOf self.now.image reach self.now }
+        ensures forest { result.now ≡ (held_at self.now.units unit).forest }
+        ensures table { IsTable (own_table self.now unit) }
+        ensures owned { HaveOwners (declarations_of (own_table self.now unit)) (held_at self.now.units unit).forest }
+    {
+        self.units.units[unit as usize].forest()
+    }
+
+    /// What the value with a number refers to, counted from 0 over the values of all entries of the unit with a number, which is
+    /// counted from 0 too (DWARF 5 sections 7.5.4 and 7.5.5). Each value of a valid file means something, so that there is no
+    /// error. The entry that has the value is searched for. It takes no memory.
+    pub fn link(&self, unit: u32, value: u32) -> Link
+        requires unit { unit < length self.now.units }
+        requires value { value < length (held_at self.now.units unit).forest.values }
+        ensures { (file : List ℕ) (r : Reading) → Holds file self.now r → HasLink r unit value result }
+    {
+        let forest = self.entries_of(unit);
+        let id = owner_of(forest, value);
+        let name = attribute_name(forest, self.table(unit), id, value);
+        match self.resolve(unit, name, &forest.value(value)) {
+            Some(link) => link,
+            // Each value means something.
+            None => unreachable!(),
+        }
     }
 }

@@ -1,6 +1,7 @@
 // A small file by hand, what is held of it, and files that differ from it in a few bytes and are refused.
 use crate::{Link, World};
 use dw_base::{Fault, Kind, Reach, Refusal};
+use entry_arena::Target;
 use form_codec::Value;
 use std::alloc::{AllocError, Global};
 use std::process::Abort;
@@ -76,6 +77,64 @@ fn a_small_file_is_held(rt: HostRuntime) -> Result<(), Fail> {
         let program = world.resolve(0, 0x10, &Value::Offset(0));
         assert!(rt; program == Some(Link::Lines(0)));
         assert!(rt; world.resolve(0, 0x10, &Value::Offset(1)) == None);
+    }
+    Ok(())
+}
+
+// Abbreviations behind the file: 1 is a root with children, DW_AT_stmt_list and DW_AT_str_offsets_base; 2 has no attribute; 3 has
+// DW_AT_type in the form ref4 and DW_AT_declaration in the form flag_present; 4 is a root with DW_AT_str_offsets_base alone.
+const TABLE: [u8; 31] = [
+    1, 0x11, 1, 0x10, 0x17, 0x72, 0x17, 0, 0, 2, 0x0b, 0, 0, 0, 3, 0x34, 0, 0x49, 0x13, 0x3c, 0x19,
+    0, 0, 4, 0x11, 0, 0x72, 0x17, 0, 0, 0,
+];
+
+// Units behind them. The first has a root at 12, and entries by 2, 3, 2 and 3 at 21, 22, 27 and 28, whose types are those at 21
+// and 22; the second has a root by 4.
+const UNITS: [u8; 51] = [
+    0x1e, 0, 0, 0, 5, 0, 1, 8, 0, 0, 0, 0, 1, 0, 0, 0, 0, 8, 0, 0, 0, 2, 3, 21, 0, 0, 0, 2, 3, 22,
+    0, 0, 0, 0, 0x0d, 0, 0, 0, 5, 0, 1, 8, 0, 0, 0, 0, 4, 16, 0, 0, 0,
+];
+
+// The file with these, where its headers have their places and sizes.
+fn with_units(alloc: Global) -> Result<Vec<u8>, AllocError> {
+    let places = [
+        (344, 0x80),
+        (345, 2),
+        (352, 31),
+        (408, 0x9f),
+        (409, 2),
+        (416, 51),
+    ];
+    let mut file = changed(alloc, &places)?;
+    file.extend_from_slice(&TABLE)?;
+    file.extend_from_slice(&UNITS)?;
+    Ok(file)
+}
+
+// The unit of a value, the number of the value, and what it refers to.
+#[test]
+fn links_by_number(rt: HostRuntime) -> Result<(), Fail> {
+    let alloc = rt.alloc();
+    let file = with_units(alloc)?;
+    let world = World::read(alloc, &file, Reach::Narrow)
+        .ok()
+        .ok_or("refused")?;
+    let rows = [
+        (0, 0, Link::Lines(0)),
+        (0, 1, Link::Kept(8)),
+        (0, 2, Link::Place(0, Target::Entry(1))),
+        (0, 3, Link::Plain),
+        (0, 4, Link::Place(0, Target::Entry(2))),
+        (0, 5, Link::Plain),
+        (1, 0, Link::Kept(16)),
+    ];
+    for (unit, value, link) in rows.iter() {
+        let units = world.units();
+        if (*unit as usize) < units.len() && *value < units[*unit as usize].forest().value_count() {
+            assert_eq!(rt; world.link(*unit, *value), *link);
+        } else {
+            Err("fewer values")?;
+        }
     }
     Ok(())
 }

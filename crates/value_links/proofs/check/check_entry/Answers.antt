@@ -1,15 +1,18 @@
-use Rattle.std.proofs.Common.{◌≤◌, ◌<◌, ◌∙◌, ℕ, List, length, take, drop, subst, sym, ap, arith, below_more}
-use Rattle.std.specs.Prelude.{None}
+use Rattle.std.proofs.Common.{◌≡◌, ◌≤◌, ◌<◌, ◌+◌, ◌∙◌, ℕ, List, length, take, drop, subst, sym, ap, arith, below_more}
+use Rattle.std.specs.Prelude.{None, Some}
+use Rattle.form_codec.specs.declared.value.Value.{Value}
+use Rattle.form_codec.specs.Values.{meant_in}
 use Rattle.entry_arena.specs.declared.entry.Entry.{Entry}
-use Rattle.entry_arena.specs.Arena.{entry_at}
+use Rattle.entry_arena.specs.Arena.{entry_at, value_at}
 use Rattle.entry_arena.specs.Trees.{declared_at}
 use Rattle.entry_read.specs.Units.{HeadAndForest, declarations_of}
 use Rattle.entry_read.specs.Places.{StandsAtColumn}
-use Rattle.value_links.specs.Reading.{Reading}
+use Rattle.value_links.specs.Reading.{Reading, unit_at}
 use Rattle.value_links.specs.Links.{held_at}
 use Rattle.value_links.specs.Parts.{AreParts}
-use Rattle.value_links.specs.Checks.{IsColumnLinked}
-use Rattle.value_links.proofs.TabledUnits.{entry_declared, entry_counted}
+use Rattle.value_links.specs.Checks.{IsChecked, IsColumnLinked}
+use Rattle.value_links.proofs.TabledUnits.{entry_declared, entry_counted, entry_inside}
+use Rattle.value_links.proofs.Causes.{value_read}
 use Rattle.value_links.proofs.EntryValues.{values_inside}
 use Rattle.value_links.proofs.PartValues.{checked_column, column_fault}
 use Rattle.value_links.proofs.check.check_entry.Goals as goal
@@ -31,8 +34,13 @@ returns-in-Some-clause-fault c = λ (file : List ℕ) (r : Reading) (parts : Are
     let forest = c.forest-forest.ensures ∙ ap (λ z. z.forest) c.unit_of-unit.ensures in
     let entry = c.entry-entry.ensures ∙ ap (λ z. entry_at z.entries c.args.id) forest in
     let values = c.values-values.ensures.values ∙ ap (λ z. z.values) forest in
+    let unit = held_at c.args.held.now.units.items c.args.number in
+    let within = entry_inside unit c.table_of-table.result.now c.table_of-table.ensures.unit c.forest-forest.result.now forest c.args.id c.requires.id c.entry-entry.result c.entry-entry.ensures in
+    let there : c.entry-entry.result.first + c.entry-entry.result.count ≤ length c.values-values.result.now = subst (λ (z : List Value). c.entry-entry.result.first + c.entry-entry.result.count ≤ length z) (sym values) within in
+    let read : c.index-values-entry.result ≡ value_at c.values-values.result.now (c.entry-entry.result.first + c.loop-column.column) = value_read c.values-values.result.now c.entry-entry.result.first c.entry-entry.result.count c.loop-column.column c.index-values-entry.result there c.loop-column-test.true c.index-values-entry.is in
     let stands = subst (λ (z : HeadAndForest). StandsAtColumn z.forest.section (declarations_of c.table_of-table.result.now) z.forest.values (entry_at z.forest.entries c.args.id) c.loop-column.column c.place_of_value-place.result) c.unit_of-unit.ensures c.place_of_value-place.ensures in
-    column_fault file r c.args.held.now c.args.programs.now.items parts c.args.number c.requires.number c.args.id c.requires.id c.table_of-table.result.now c.table_of-table.ensures.table c.entry-entry.result entry c.values-values.result.now values c.loop-column.column c.column_name-name.result c.in-Some.kind c.place_of_value-place.result c.column_name-name.ensures c.loop-column-test.true stands (c.in-Some.ensures c.args.id file r parts)
+    column_fault file r c.args.held.now c.args.programs.now.items parts c.args.number c.requires.number c.args.id c.requires.id c.table_of-table.result.now c.table_of-table.ensures.table c.entry-entry.result entry c.values-values.result.now values c.loop-column.column c.column_name-name.result c.in-Some.kind c.place_of_value-place.result c.column_name-name.ensures c.loop-column-test.true stands
+    (subst (λ (v : Value). IsChecked r c.args.number c.args.id c.column_name-name.result (meant_in (unit_at r c.args.number).forest.section v) (Some c.in-Some.kind)) read (c.in-Some.ensures c.args.id file r parts))
 
 pub returns-in-Some-clause-inside : goal.returns-in-Some-clause-inside
 returns-in-Some-clause-inside c =
@@ -48,7 +56,12 @@ loop-column-preserved c = λ (file : List ℕ) (r : Reading) (parts : AreParts f
     let forest = c.forest-forest.ensures ∙ ap (λ z. z.forest) c.unit_of-unit.ensures in
     let entry = c.entry-entry.ensures ∙ ap (λ z. entry_at z.entries c.args.id) forest in
     let values = c.values-values.ensures.values ∙ ap (λ z. z.values) forest in
-    let here : IsColumnLinked r c.args.number c.args.id c.loop-column.column = checked_column file r c.args.held.now c.args.programs.now.items parts c.args.number c.requires.number c.args.id c.requires.id c.table_of-table.result.now c.table_of-table.ensures.table c.entry-entry.result entry c.values-values.result.now values c.loop-column.column c.column_name-name.result None c.column_name-name.ensures (c.in_default.ensures c.args.id file r parts) in
+    let unit = held_at c.args.held.now.units.items c.args.number in
+    let within = entry_inside unit c.table_of-table.result.now c.table_of-table.ensures.unit c.forest-forest.result.now forest c.args.id c.requires.id c.entry-entry.result c.entry-entry.ensures in
+    let there : c.entry-entry.result.first + c.entry-entry.result.count ≤ length c.values-values.result.now = subst (λ (z : List Value). c.entry-entry.result.first + c.entry-entry.result.count ≤ length z) (sym values) within in
+    let read : c.index-values-entry.result ≡ value_at c.values-values.result.now (c.entry-entry.result.first + c.loop-column.column) = value_read c.values-values.result.now c.entry-entry.result.first c.entry-entry.result.count c.loop-column.column c.index-values-entry.result there c.loop-column-test.true c.index-values-entry.is in
+    let here : IsColumnLinked r c.args.number c.args.id c.loop-column.column = checked_column file r c.args.held.now c.args.programs.now.items parts c.args.number c.requires.number c.args.id c.requires.id c.table_of-table.result.now c.table_of-table.ensures.table c.entry-entry.result entry c.values-values.result.now values c.loop-column.column c.column_name-name.result None c.column_name-name.ensures
+    (subst (λ (v : Value). IsChecked r c.args.number c.args.id c.column_name-name.result (meant_in (unit_at r c.args.number).forest.section v) None) read (c.in_default.ensures c.args.id file r parts)) in
     below_more (IsColumnLinked r c.args.number c.args.id) c.loop-column.column (c.loop-column.invariant file r parts) here
 
 pub returns-clause-linked : goal.returns-clause-linked

@@ -1,9 +1,11 @@
-use Rattle.std.proofs.Common.{◌≡◌, ◌≤◌, ◌<◌, ◌+◌, ◌∙◌, ℕ, List, length, subst, sym, ap, refl, arith, true≢false}
+use Rattle.std.proofs.Common.{◌≡◌, ◌≤◌, ◌<◌, ◌+◌, ◌∙◌, ℕ, List, length, subst, sym, ap, refl, arith, true≢false, below_more}
 use Rattle.std.specs.Prelude.{true, false}
 use Rattle.form_codec.specs.declared.value.Value.{Value}
-use Rattle.entry_arena.specs.Arena.{Arena}
+use Rattle.entry_arena.specs.Arena.{Arena, value_at}
+use Rattle.entry_read.specs.Units.{declarations_of}
+use Rattle.value_links.specs.Checks.{is_offset}
 use Rattle.value_links.proofs.TabledUnits.{has_root, entry_is, entry_declared, entry_counted, entry_inside}
-use Rattle.value_links.proofs.Causes.{base_found, no_base_found}
+use Rattle.value_links.proofs.Causes.{GivesBaseIn, value_read, base_found, no_base_found}
 use Rattle.value_links.proofs.check.gives_base.Goals as goal
 
 pub entry-root-requires : goal.entry-root-requires
@@ -27,8 +29,19 @@ returns-then-is_base c =
     let same = c.values-values.ensures.values ∙ ap (λ z. z.values) c.forest-forest.ensures in
     let root = entry_is c.args.unit.now c.args.table.now c.requires c.forest-forest.result.now c.forest-forest.ensures 0 (has_root c.args.unit.now c.args.table.now c.requires) c.entry-root.result c.entry-root.ensures in
     let is = c.if-is_base.ensures.0 refl in
-    let here = base_found c.args.unit.now c.args.table.now c.requires c.args.name c.entry-root.result c.values-values.result.now root same c.loop-column.column c.loop-column-test.true (sym c.column_name-named.ensures ∙ is.0, is.1) in
+    let inside = entry_inside c.args.unit.now c.args.table.now c.requires c.forest-forest.result.now c.forest-forest.ensures 0 (has_root c.args.unit.now c.args.table.now c.requires) c.entry-root.result c.entry-root.ensures in
+    let there : c.entry-root.result.first + c.entry-root.result.count ≤ length c.values-values.result.now = subst (λ (z : List Value). c.entry-root.result.first + c.entry-root.result.count ≤ length z) (sym same) inside in
+    let read : c.index-values-root.result ≡ value_at c.values-values.result.now (c.entry-root.result.first + c.loop-column.column) = value_read c.values-values.result.now c.entry-root.result.first c.entry-root.result.count c.loop-column.column c.index-values-root.result there c.loop-column-test.true c.index-values-root.is in
+    let here = base_found c.args.unit.now c.args.table.now c.requires c.args.name c.entry-root.result c.values-values.result.now root same c.loop-column.column c.loop-column-test.true (sym c.column_name-named.ensures ∙ is.0, subst (λ (v : Value). is_offset v ≡ true) read is.1) in
     (λ (yes : true ≡ true). here, λ gives. refl)
+
+pub loop-column-preserved : goal.loop-column-preserved
+loop-column-preserved c =
+    let same = c.values-values.ensures.values ∙ ap (λ z. z.values) c.forest-forest.ensures in
+    let inside = entry_inside c.args.unit.now c.args.table.now c.requires c.forest-forest.result.now c.forest-forest.ensures 0 (has_root c.args.unit.now c.args.table.now c.requires) c.entry-root.result c.entry-root.ensures in
+    let there : c.entry-root.result.first + c.entry-root.result.count ≤ length c.values-values.result.now = subst (λ (z : List Value). c.entry-root.result.first + c.entry-root.result.count ≤ length z) (sym same) inside in
+    let read : c.index-values-root.result ≡ value_at c.values-values.result.now (c.entry-root.result.first + c.loop-column.column) = value_read c.values-values.result.now c.entry-root.result.first c.entry-root.result.count c.loop-column.column c.index-values-root.result there c.loop-column-test.true c.index-values-root.is in
+    below_more (λ (k : ℕ). ¬ GivesBaseIn (declarations_of c.args.table.now) c.entry-root.result c.values-values.result.now c.args.name k) c.loop-column.column c.loop-column.invariant (λ gives. absurd (true≢false (sym (c.if-is_base.ensures.1 (c.column_name-named.ensures ∙ gives.0, subst (λ (v : Value). is_offset v ≡ true) (sym read) gives.1)))))
 
 pub returns : goal.returns
 returns c =

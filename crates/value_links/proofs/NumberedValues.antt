@@ -1,0 +1,106 @@
+-- What the value with a number refers to, in what is held of a valid file.
+use Rattle.std.proofs.Common.{◌≡◌, ◌≤◌, ◌<◌, ◌+◌, ◌-◌, ◌∙◌, ℕ, List, length, sym, ap, subst, arith}
+use Rattle.dw_base.specs.declared.fault.Reach.{Reach}
+use Rattle.form_codec.specs.declared.value.Value.{Value}
+use Rattle.form_codec.specs.Values.{meant_in}
+use Rattle.abbrev_tables.specs.Listings.{Listing, spec_at}
+use Rattle.entry_arena.specs.Arena.{Arena, entry_at, value_at}
+use Rattle.entry_read.specs.Units.{HeadAndForest, declarations_of, IsTable}
+use Rattle.entry_read.specs.Places.{HaveOwners, StandsAtColumn}
+use Rattle.value_links.specs.declared.link.Link.{Link}
+use Rattle.value_links.specs.declared.units.NamedTable.{NamedTable}
+use Rattle.value_links.specs.Sections.{debug_info, debug_abbrev}
+use Rattle.value_links.specs.Reading.{UnitRead, Reading, declarations, unit_at, unit_among, IsUnitRead}
+use Rattle.value_links.specs.Values.{entry_of, declaration_of, values_of, meaning_at, HasValueAt}
+use Rattle.value_links.specs.Resolved.{Resolved, Resolves}
+use Rattle.value_links.specs.Owners.{IsOwner, name_with}
+use Rattle.value_links.specs.Links.{resolved_by, held_at, HasLink}
+use Rattle.value_links.specs.World.{World, head_and_forest, own_table, Holds, IsWorldOf}
+use Rattle.value_links.proofs.HeldUnits.{unit_is, unit_owners, held_count, held_is}
+use Rattle.value_links.proofs.HeldLinks.{units_held_once}
+use Rattle.value_links.proofs.EntryValues.{values_front, stands_at}
+use Rattle.value_links.proofs.Meaningful.{entry_stands, valid_values}
+
+-- an entry of a unit that was read has each value that is among its own, as that of the attribute with the column's name
+module _ (info abbrevs : List ℕ) (unit : UnitRead) (is : IsUnitRead info abbrevs unit) (owned : HaveOwners (declarations unit) unit.forest) (id number : ℕ) (owner : IsOwner unit.forest.entries id number) where
+  owned_value : (place : ℕ) × HasValueAt unit id number (name_with (declarations unit) (entry_of unit id) number) (meaning_at unit number) place
+  owned_value =
+      let k : ℕ = number - (entry_of unit id).first in
+      let from : (entry_of unit id).first ≤ number = owner.from in
+      let to : number < (entry_of unit id).first + (entry_of unit id).count = owner.to in
+      let same : (entry_of unit id).first + k ≡ number = omega arith in
+      let s = entry_stands info unit.head (declarations unit) unit.forest is.section is.entries id owner.known in
+      let front = values_front unit.forest.section (declaration_of unit id).columns (values_of unit id) s.values_at ((entry_of unit id).at + (entry_of unit id).len) k s.valued in
+      let at : StandsAtColumn unit.forest.section (declarations unit) unit.forest.values (entry_of unit id) k front.0 = record { values_at = s.values_at; coded = s.coded; valued = front.1 } in
+      (front.0, subst (λ (z : ℕ). HasValueAt unit id z (spec_at (declaration_of unit id).columns k).name (meant_in unit.forest.section (value_at unit.forest.values z)) front.0) same (stands_at unit owned id owner.known k front.0 (omega arith) at))
+
+module _ (world : World) (reach : Reach) (is : IsWorldOf world.image reach world) (u : ℕ) (inside : u < length world.units) where
+  known : u < length is.r.units
+  known = subst (λ (n : ℕ). u < n) (held_count is.r.units world.units is.holds.units) inside
+
+  unit_held : held_at world.units u ≡ head_and_forest (unit_at is.r u)
+  unit_held = held_is is.r.units world.units is.holds.units u known
+
+  table_held : own_table world u ≡ (unit_at is.r u).table
+  table_held = ap (λ (t : NamedTable). t.table) (is.holds.tables.each u known)
+
+  unit_read : IsUnitRead (debug_info world.image) (debug_abbrev world.image) (unit_at is.r u)
+  unit_read = unit_is (debug_info world.image) (debug_abbrev world.image) is.r.units is.read.parts.units u known
+
+  owned : HaveOwners (declarations (unit_at is.r u)) (unit_at is.r u).forest
+  owned = unit_owners (debug_info world.image) (debug_abbrev world.image) is.r.units is.read.parts.units u known
+
+  -- the table of the unit is one, and by it each value of the unit is that of an entry
+  pub own_stands : IsTable (own_table world u)
+  own_stands = subst IsTable (sym table_held) (debug_abbrev world.image, (unit_at is.r u).head.table, unit_read.table)
+
+  pub own_owners : HaveOwners (declarations_of (own_table world u)) (held_at world.units u).forest
+  own_owners =
+      subst (λ (t : Listing). HaveOwners (declarations_of t) (held_at world.units u).forest) (sym table_held)
+      (subst (λ (z : HeadAndForest). HaveOwners (declarations (unit_at is.r u)) z.forest) (sym unit_held) owned)
+
+  -- an entry that has the value with a number, and the name of the attribute
+  module _ (forest : Arena) (f : forest ≡ (held_at world.units u).forest) (table : Listing) (t : table ≡ own_table world u) (id number name : ℕ) (owner : IsOwner forest.entries id number) (n : name ≡ name_with (declarations_of table) (entry_at forest.entries id) number) (value : Value) (v : value ≡ value_at forest.values number) where
+    forest_same : forest ≡ (unit_at is.r u).forest
+    forest_same = f ∙ ap (λ (z : HeadAndForest). z.forest) unit_held
+
+    name_same : name ≡ name_with (declarations (unit_at is.r u)) (entry_of (unit_at is.r u) id) number
+    name_same =
+        n
+        ∙ ap (λ (z : Listing). name_with (declarations_of z) (entry_at forest.entries id) number) (t ∙ table_held)
+        ∙ ap (λ (z : Arena). name_with (declarations (unit_at is.r u)) (entry_at z.entries id) number) forest_same
+
+    stands_own : (place : ℕ) × HasValueAt (unit_at is.r u) id number name (meaning_at (unit_at is.r u) number) place
+    stands_own =
+        let there = owned_value (debug_info world.image) (debug_abbrev world.image) (unit_at is.r u) unit_read owned id number (subst (λ (z : Arena). IsOwner z.entries id number) forest_same owner) in
+        (there.0, subst (λ (z : ℕ). HasValueAt (unit_at is.r u) id number z (meaning_at (unit_at is.r u) number) there.0) (sym name_same) there.1)
+
+    value_same : value_at (unit_at is.r u).forest.values number ≡ value
+    value_same = sym (v ∙ ap (λ (z : Arena). value_at z.values number) forest_same)
+
+    -- the value means something
+    pub value_means : (w : Resolved) × Resolves is.r u id name (meant_in (unit_at is.r u).forest.section value) w
+    value_means =
+        let there = valid_values world.image reach is.r is.read is.valid u id number name (meaning_at (unit_at is.r u) number) stands_own.0 known stands_own.1 in
+        (there.0, subst (λ (z : Value). Resolves is.r u id name (meant_in (unit_at is.r u).forest.section z) there.0) value_same there.1)
+
+    -- what it resolves to is its link, in each reading that is held so
+    module _ (file : List ℕ) (r : Reading) (holds : Holds file world r) where
+      units_same : is.r.units ≡ r.units
+      units_same = units_held_once is.r.units r.units world.units world.tables world.table_of is.holds.units holds.units is.holds.tables holds.tables
+
+      stands_there : (place : ℕ) × HasValueAt (unit_at r u) id number name (meaning_at (unit_at r u) number) place
+      stands_there = subst (λ (z : List UnitRead). (place : ℕ) × HasValueAt (unit_among z u) id number name (meaning_at (unit_among z u) number) place) units_same stands_own
+
+      value_there : value ≡ value_at (unit_at r u).forest.values number
+      value_there = sym value_same ∙ ap (λ (z : List UnitRead). value_at (unit_among z u).forest.values number) units_same
+
+      pub value_linked : (link : Link) → Resolves r u id name (meant_in (unit_at r u).forest.section value) (resolved_by (meant_in (unit_at r u).forest.section value) link) → HasLink r u number link
+      value_linked link resolves = record {
+        id = id;
+        name = name;
+        meaning = meaning_at (unit_at r u) number;
+        place = stands_there.0;
+        stands = stands_there.1;
+        resolves = subst (λ (z : Value). Resolves r u id name (meant_in (unit_at r u).forest.section z) (resolved_by (meant_in (unit_at r u).forest.section z) link)) value_there resolves;
+      }
