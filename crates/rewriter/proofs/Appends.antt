@@ -2,25 +2,24 @@
 use Rattle.std.proofs.Common.{◌≡◌, ◌≤◌, ◌<◌, ◌+◌, ◌-◌, ◌^◌, inl, inr, ℕ, List, [], ◌∷◌, ◌++◌, length, take, drop, map, get_or, sym, ap, ◌∙◌, refl, subst, arith}
 use Rattle.std.specs.List.{All}
 use Rattle.std.proofs.lemmas.Bool.{cases_lt}
-use Rattle.std.proofs.lemmas.List.{append-nil, length-append, length-drop, length-map, length_push, map-append, take-append-le, drop-append-le, get_or-map, get_or_append_left, get_or_default}
+use Rattle.std.proofs.lemmas.List.{append-nil, length-append, length-drop, length-map, length_push, map-append, take-append-le, drop-append-le, get_or-map, get_or_append_left}
 use Rattle.std.proofs.Math.Seq.{get_or-append_seam, drop-append_seam, take-length}
 use Rattle.leb_codec.specs.Numbering.{IsLeastNumbering, RiseByFallingUses}
 use Rattle.abbrev_tables.specs.declared.decl.Spec.{Spec}
 use Rattle.abbrev_tables.specs.Tables.{SpellsTable, Declared, codes_of, AreDistinct}
 use Rattle.abbrev_tables.specs.Listings.{Listing, decl_at, declarations_in, IsTableAt}
 use Rattle.abbrev_tables.specs.ListingLaws.{TablesAreListed}
-use Rattle.abbrev_tables.specs.Written.{ShortestTable, IsWritable, IsWritten, renumbered, numbered_as}
+use Rattle.abbrev_tables.specs.Written.{ShortestTable, IsWritableColumn, IsWritable, IsWritten, renumbered, numbered_as}
 use Rattle.entry_arena.specs.Trees.{declared_at}
-use Rattle.entry_read.specs.Units.{declarations_of, IsTable}
+use Rattle.entry_read.specs.Units.{HeadAndForest, declarations_of, IsTable}
 use Rattle.unit_write.specs.Placing.{IsRenumbered, columns_of}
 use Rattle.value_links.specs.declared.units.NamedTable.{NamedTable}
 use Rattle.value_links.specs.World.{table_at}
 use Rattle.rewriter.specs.declared.uses.Uses.{Uses}
 use Rattle.rewriter.specs.declared.tables.NewTable.{NewTable}
-use Rattle.rewriter.specs.Tables.{TableAnew, TablesFollow, table_anew, new_table_at}
+use Rattle.rewriter.specs.Tables.{TableAnew, AreColumnsChosen, TablesFollow, table_anew, new_table_at}
 use Rattle.rewriter.specs.Counting.{counts_in}
-use Rattle.rewriter.specs.Appended.{StandsAnew, IsAppended, AreCountsOf, AreAppended}
-use Rattle.rewriter.proofs.UseLaws.{counts_at}
+use Rattle.rewriter.specs.Appended.{StandsAnew, IsAppended, AreAppended}
 use Rattle.rewriter.proofs.Renumbers.{AreNumbersOf, seat, count_used}
 use Rattle.rewriter.proofs.Writables.{writable, distinct}
 
@@ -51,7 +50,7 @@ table_stays section more at t stands =
 
 pub stands_on : (section more : List ℕ) (old : Listing) (uses : List ℕ) (new : TableAnew) → StandsAnew section old uses new → StandsAnew (section ++ more) old uses new
 stands_on section more old uses new s = record {
-  columns = s.columns;
+  renewed = s.renewed;
   least = s.least;
   order = s.order;
   first = s.first;
@@ -86,8 +85,8 @@ anew_last tables new i last =
     ∙ get_or-append_seam (map table_anew tables) (table_anew new) [] no_table
 
 -- one table more
-pub appended_more : (tables : List NamedTable) (all : List Uses) (n : ℕ) (section whole : List ℕ) (done : List NewTable) (new : NewTable) → AreAppended tables all n section done → IsAppended (table_at tables n).table (counts_in all n) section whole (table_anew new) → AreAppended tables all (n + 1) whole (done ++ new ∷ [])
-appended_more tables all n section whole done new now more = subst (λ (bytes : List ℕ). AreAppended tables all (n + 1) bytes (done ++ new ∷ [])) (sym more.grown) (record {
+pub appended_more : (units : List HeadAndForest) (tables : List NamedTable) (all : List Uses) (n : ℕ) (section whole : List ℕ) (done : List NewTable) (new : NewTable) → AreAppended units tables all n section done → IsAppended (table_at tables n).table (counts_in all n) section whole (table_anew new) → AreColumnsChosen units (table_at tables n) (counts_in all n) new.columns.items → AreAppended units tables all (n + 1) whole (done ++ new ∷ [])
+appended_more units tables all n section whole done new now more chosen = subst (λ (bytes : List ℕ). AreAppended units tables all (n + 1) bytes (done ++ new ∷ [])) (sym more.grown) (record {
   count = omega (arith, length_push done new, now.count);
   tiled = follow_more section more.more done new 0 more.stands.listing now.tiled more.at (subst (λ (bytes : List ℕ). IsTableAt bytes new.at more.stands.listing) more.grown more.stands.stands) (more.end ∙ ap length more.grown);
   each = λ i below. elim (cases_lt i n) [
@@ -100,6 +99,14 @@ appended_more tables all n section whole done new now more = subst (λ (bytes : 
         let there : StandsAnew (section ++ more.more) (table_at tables i).table (counts_in all i) (table_anew new) = subst (λ (k : ℕ). StandsAnew (section ++ more.more) (table_at tables k).table (counts_in all k) (table_anew new)) e here in
         subst (λ (t : TableAnew). StandsAnew (section ++ more.more) (table_at tables i).table (counts_in all i) t) (sym (anew_last done new i (sym e ∙ sym now.count))) there
   ];
+  chosen = λ i below. elim (cases_lt i n) [
+    | inl before ↦
+        subst (λ (t : TableAnew). AreColumnsChosen units (table_at tables i) (counts_in all i) t.columns) (sym (anew_before done new i (omega (arith, before, now.count)))) (now.chosen i before)
+    | inr last ↦
+        let e : n ≡ i = omega (arith, last, below) in
+        let there : AreColumnsChosen units (table_at tables i) (counts_in all i) new.columns.items = subst (λ (k : ℕ). AreColumnsChosen units (table_at tables k) (counts_in all k) new.columns.items) e chosen in
+        subst (λ (t : TableAnew). AreColumnsChosen units (table_at tables i) (counts_in all i) t.columns) (sym (anew_last done new i (sym e ∙ sym now.count))) there
+  ];
 })
 
 -- the law of tables that are written
@@ -107,7 +114,7 @@ abbrev pub WrittenAreRead : Type 0
 WrittenAreRead = (ds : List Declared) (bytes : List ℕ) → All IsWritable ds → AreDistinct (codes_of ds) → ShortestTable ds bytes → SpellsTable ds bytes
 
 -- numbers fit 64 bits, whether they are used or not
-numbers_fit : (uses numbers : List ℕ) → IsLeastNumbering uses numbers → AreNumbersOf uses numbers → (i : ℕ) → i < length numbers → get_or numbers i 0 < 2 ^ 64
+pub numbers_fit : (uses numbers : List ℕ) → IsLeastNumbering uses numbers → AreNumbersOf uses numbers → (i : ℕ) → i < length numbers → get_or numbers i 0 < 2 ^ 64
 numbers_fit uses numbers least are i inside =
     let within : i < length uses = omega (arith, inside, are.same_length) in
     elim (cases_lt 0 (get_or uses i 0)) [
@@ -115,14 +122,14 @@ numbers_fit uses numbers least are i inside =
       | inr none ↦ omega (arith, (are.unused i within).1 (omega arith))
     ]
 
-module _ (old : Listing) (known : IsTable old) (uses numbers : List ℕ) (are : AreNumbersOf uses numbers) (fits : (i : ℕ) → i < length numbers → get_or numbers i 0 < 2 ^ 64) (same : length numbers ≡ length old.decls) (before bytes : List ℕ) (written : IsWritten old numbers old.specs bytes) where
+module _ (old : Listing) (known : IsTable old) (uses numbers : List ℕ) (are : AreNumbersOf uses numbers) (fits : (i : ℕ) → i < length numbers → get_or numbers i 0 < 2 ^ 64) (same : length numbers ≡ length old.decls) (columns : List Spec) (wide : length columns ≡ length old.specs) (fine : All IsWritableColumn columns) (before bytes : List ℕ) (written : IsWritten old numbers columns bytes) where
   abbrev declared : List Declared
-  declared = map (renumbered old.decls old.specs) written.order
+  declared = map (renumbered old.decls columns) written.order
 
   spelled : WrittenAreRead → SpellsTable declared bytes
   spelled law =
       let table = known.2.table in
-      law declared bytes (writable old.decls old.specs _ table uses numbers are fits same written.order written.ordered) (distinct old.decls old.specs _ table uses numbers are fits same written.order written.ordered) written.spelled
+      law declared bytes (writable old.decls old.specs _ table columns fine uses numbers are fits same written.order written.ordered) (distinct old.decls old.specs _ table columns fine uses numbers are fits same written.order written.ordered) written.spelled
 
   filled : 0 < length bytes
   filled =
@@ -131,22 +138,22 @@ module _ (old : Listing) (known : IsTable old) (uses numbers : List ℕ) (are : 
       omega (arith, ap length s.4, length-append s.0 s.1, end)
 
   count_is : length declared ≡ length written.order
-  count_is = length-map written.order (renumbered old.decls old.specs)
+  count_is = length-map written.order (renumbered old.decls columns)
 
-  renumbered_as : (ds : List Declared) → ds ≡ declared → IsRenumbered old old.specs numbers ds
+  renumbered_as : (ds : List Declared) → ds ≡ declared → IsRenumbered old columns numbers ds
   renumbered_as ds is = record {
     each = λ number below some.
         let s = seat uses numbers are written.order written.ordered number (omega (arith, below, same)) some in
         let k_is : get_or numbers number 0 - 1 ≡ s.k = omega (arith, s.next) in
         let none : Declared = declared_at [] 0 in
-        let here : declared_at declared s.k ≡ numbered_as (get_or numbers number 0) (decl_at old.decls number) (columns_of old old.specs number) =
-        get_or-map (renumbered old.decls old.specs) written.order s.k (0, 0) none s.inside ∙ ap (renumbered old.decls old.specs) s.here in
-        let here' : declared_at ds (get_or numbers number 0 - 1) ≡ numbered_as (get_or numbers number 0) (decl_at old.decls number) (columns_of old old.specs number) =
+        let here : declared_at declared s.k ≡ numbered_as (get_or numbers number 0) (decl_at old.decls number) (columns_of old columns number) =
+        get_or-map (renumbered old.decls columns) written.order s.k (0, 0) none s.inside ∙ ap (renumbered old.decls columns) s.here in
+        let here' : declared_at ds (get_or numbers number 0 - 1) ≡ numbered_as (get_or numbers number 0) (decl_at old.decls number) (columns_of old columns number) =
         ap (λ (zs : List Declared). declared_at zs (get_or numbers number 0 - 1)) is ∙ ap (λ (k : ℕ). declared_at declared k) k_is ∙ here in
         (omega (arith, k_is, s.inside, count_is, ap length is), here');
   }
 
-  pub appended : WrittenAreRead → TablesAreListed → IsLeastNumbering uses numbers → RiseByFallingUses uses numbers → IsAppended old uses before (before ++ bytes) (record { at = length before; columns = old.specs; numbers = numbers })
+  pub appended : WrittenAreRead → TablesAreListed → IsLeastNumbering uses numbers → RiseByFallingUses uses numbers → IsAppended old uses before (before ++ bytes) (record { at = length before; columns = columns; numbers = numbers })
   appended read_law list_law least rises =
       let found = list_law declared before bytes [] (spelled read_law) in
       let t = found.0 in
@@ -156,14 +163,14 @@ module _ (old : Listing) (known : IsTable old) (uses numbers : List ℕ) (are : 
         grown = refl;
         at = refl;
         stands = record {
-          columns = refl;
+          renewed = wide;
           least = least;
           order = rises;
           first = are.first;
           listing = t;
           inside = omega (arith, length-append before bytes, filled);
           stands = stands;
-          written = subst (λ (zs : List ℕ). IsWritten old numbers old.specs zs) (sym (last_between before bytes t.end found.3)) written;
+          written = subst (λ (zs : List ℕ). IsWritten old numbers columns zs) (sym (last_between before bytes t.end found.3)) written;
           renumbered = renumbered_as (declarations_of t) found.2;
           only = ap length found.2 ∙ count_is ∙ count_used uses numbers are written.order written.ordered;
         };
@@ -171,30 +178,8 @@ module _ (old : Listing) (known : IsTable old) (uses numbers : List ℕ) (are : 
       }
 
 -- the same, where the parts are held in lists of their own
-pub made : (old : Listing) (uses numbers : List ℕ) (columns : List Spec) (before bytes whole : List ℕ) (at : ℕ) → IsTable old → length uses ≡ length old.decls → AreNumbersOf uses numbers → IsLeastNumbering uses numbers → RiseByFallingUses uses numbers → columns ≡ old.specs → IsWritten old numbers columns bytes → at ≡ length before → whole ≡ before ++ bytes → WrittenAreRead → TablesAreListed → IsAppended old uses before whole (record { at = at; columns = columns; numbers = numbers })
-made old uses numbers columns before bytes whole at known count are least rises columns_are written place grown read_law list_law =
-    let written' : IsWritten old numbers old.specs bytes = subst (λ (zs : List Spec). IsWritten old numbers zs bytes) columns_are written in
-    let here = appended old known uses numbers are (numbers_fit uses numbers least are) (are.same_length ∙ count) before bytes written' read_law list_law least rises in
-    let with_columns : IsAppended old uses before (before ++ bytes) (record { at = length before; columns = columns; numbers = numbers }) = subst (λ (zs : List Spec). IsAppended old uses before (before ++ bytes) (record { at = length before; columns = zs; numbers = numbers })) (sym columns_are) here in
-    let with_place : IsAppended old uses before (before ++ bytes) (record { at = at; columns = columns; numbers = numbers }) = subst (λ (p : ℕ). IsAppended old uses before (before ++ bytes) (record { at = p; columns = columns; numbers = numbers })) (sym place) with_columns in
+pub made : (old : Listing) (uses numbers : List ℕ) (columns : List Spec) (before bytes whole : List ℕ) (at : ℕ) → IsTable old → length uses ≡ length old.decls → AreNumbersOf uses numbers → IsLeastNumbering uses numbers → RiseByFallingUses uses numbers → length columns ≡ length old.specs → All IsWritableColumn columns → IsWritten old numbers columns bytes → at ≡ length before → whole ≡ before ++ bytes → WrittenAreRead → TablesAreListed → IsAppended old uses before whole (record { at = at; columns = columns; numbers = numbers })
+made old uses numbers columns before bytes whole at known count are least rises wide fine written place grown read_law list_law =
+    let here = appended old known uses numbers are (numbers_fit uses numbers least are) (are.same_length ∙ count) columns wide fine before bytes written read_law list_law least rises in
+    let with_place : IsAppended old uses before (before ++ bytes) (record { at = at; columns = columns; numbers = numbers }) = subst (λ (p : ℕ). IsAppended old uses before (before ++ bytes) (record { at = p; columns = columns; numbers = numbers })) (sym place) here in
     subst (λ (zs : List ℕ). IsAppended old uses before zs (record { at = at; columns = columns; numbers = numbers })) (sym grown) with_place
-
--- a table and the counts of its declarations, as they are read from the lists
-module _ (tables : List NamedTable) (all : List Uses) (ready : AreCountsOf tables all) (i : ℕ) (inside : i < length tables) (named : NamedTable) (named_is : named ≡ get_or tables i named) (uses : Uses) (uses_are : uses ≡ get_or all i uses) where
-  table_is : table_at tables i ≡ named
-  table_is = get_or_default tables i (table_at [] 0) named inside ∙ sym named_is
-
-  counts_are : counts_in all i ≡ uses.counts.items
-  counts_are = counts_at all i uses (omega (arith, ready.count, inside)) uses_are
-
-  pub known_here : IsTable named.table
-  known_here = subst (λ (t : NamedTable). IsTable t.table) table_is (ready.stand i inside)
-
-  pub count_here : length uses.counts.items ≡ length named.table.decls
-  count_here = ap length (sym counts_are) ∙ ready.each i inside ∙ ap (λ (t : NamedTable). length t.table.decls) table_is
-
-  pub one_more : (section whole : List ℕ) (done : List NewTable) (new : NewTable) → AreAppended tables all i section done → IsAppended named.table uses.counts.items section whole (table_anew new) → AreAppended tables all (i + 1) whole (done ++ new ∷ [])
-  one_more section whole done new now more =
-      let named_more : IsAppended (table_at tables i).table uses.counts.items section whole (table_anew new) = subst (λ (t : NamedTable). IsAppended t.table uses.counts.items section whole (table_anew new)) (sym table_is) more in
-      let counted_more : IsAppended (table_at tables i).table (counts_in all i) section whole (table_anew new) = subst (λ (zs : List ℕ). IsAppended (table_at tables i).table zs section whole (table_anew new)) (sym counts_are) named_more in
-      appended_more tables all i section whole done new now counted_more

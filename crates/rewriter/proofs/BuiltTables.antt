@@ -1,10 +1,10 @@
--- Each declaration of a table that is written anew is one of the old table but for its code. So it can be written where that can.
+-- Each declaration of a table that is written anew is one of the old table but for its code and the forms of its columns. It can
+-- be written where that can.
 use Rattle.std.proofs.Common.{◌≡◌, ◌<◌, ◌+◌, ◌-◌, ℕ, List, [], length, get_or, sym, subst, arith}
 use Rattle.std.specs.List.{All}
 use Rattle.std.proofs.lemmas.List.{get_or-map, length-map}
 use Rattle.std.proofs.lemmas.List.Elements.{All-get_or, All-from_get_or}
 use Rattle.abbrev_tables.specs.declared.decl.Decl.{Decl}
-use Rattle.abbrev_tables.specs.declared.decl.Spec.{Spec}
 use Rattle.abbrev_tables.specs.Listings.{decl_at, declared_in}
 use Rattle.abbrev_tables.specs.Written.{numbered_as}
 use Rattle.entry_arena.specs.Trees.{declared_at}
@@ -13,6 +13,7 @@ use Rattle.unit_write.specs.Placing.{columns_of}
 use Rattle.value_links.specs.declared.units.NamedTable.{NamedTable}
 use Rattle.value_links.specs.Laws.{IsBuilt}
 use Rattle.rewriter.specs.Tables.{TableAnew, IsTableWritten}
+use Rattle.rewriter.proofs.ColumnLaws.{built_still}
 
 module _ (units : List HeadAndForest) (section : List ℕ) (old : NamedTable) (new : TableAnew) (written : IsTableWritten units section old new) where
   -- the declaration from which the one with a number comes
@@ -48,6 +49,6 @@ module _ (units : List HeadAndForest) (section : List ℕ) (old : NamedTable) (n
       All-from_get_or IsBuilt (declarations_of written.listing) (declared_at [] 0) (λ k below.
       let from = source k below in
       let decl : Decl = decl_at old.table.decls from.number in
-      let columns : IsBuilt (declared_in new.columns decl) = subst (λ (zs : List Spec). IsBuilt (declared_in zs decl)) (sym written.columns) (built_at built from.number from.inside) in
+      let columns : IsBuilt (declared_in new.columns decl) = built_still units old written.uses new.columns written.columns from.number from.inside (built_at built from.number from.inside) in
       let numbered : IsBuilt (numbered_as (k + 1) decl (columns_of old.table new.columns from.number)) = columns in
       subst IsBuilt (sym from.same) numbered)

@@ -1,8 +1,7 @@
 -- No declaration of a valid file has a column of a form that isn't written.
-use Rattle.std.proofs.Common.{◌≡◌, ◌<◌, ◌+◌, ◌-◌, ◌∙◌, ◌++◌, ℕ, suc, List, [], ◌∷◌, length, take, drop, get_or, sym, ap, refl, subst, arith, inl, inr}
+use Rattle.std.proofs.Common.{◌≡◌, ◌<◌, ◌+◌, ◌-◌, ℕ, List, [], ◌∷◌, length, take, drop, get_or, sym, refl, subst, arith, inl, inr}
 use Rattle.std.specs.List.{All}
 use Rattle.std.specs.Prelude.{pos}
-use Rattle.std.proofs.Math.Seq.{drop-cons}
 use Rattle.std.proofs.lemmas.List.{get_or-map, length-map, take-append-drop, drop-drop, drop_all}
 use Rattle.std.proofs.lemmas.List.Elements.{All-nil, All-head, All-tail, All-append, All-get_or, All-from_get_or, Contains-get_or}
 use Rattle.dw_base.specs.declared.fault.Kind.TheVariants.{Unbuilt}
@@ -10,11 +9,11 @@ use Rattle.dw_base.specs.declared.fault.Reach.{Reach}
 use Rattle.abbrev_tables.specs.declared.decl.Decl.{Decl}
 use Rattle.abbrev_tables.specs.declared.decl.Spec.{Spec}
 use Rattle.abbrev_tables.specs.Tables.{Declared}
-use Rattle.abbrev_tables.specs.Listings.{Listing, decl_at, declared_in, declarations_in, AreAdjacent, IsTableAt}
+use Rattle.abbrev_tables.specs.Listings.{Listing, decl_at, declared_in, declarations_in, AreAdjacent}
 use Rattle.abbrev_tables.specs.ListingLaws.{DeclarationsStand}
 use Rattle.entry_arena.specs.Trees.{declared_at}
 use Rattle.entry_read.specs.declared.head.UnitHead.{UnitHead}
-use Rattle.entry_read.specs.Heads.{Follow, Tile}
+use Rattle.entry_read.specs.Heads.{no_head, head_numbered, Tile}
 use Rattle.entry_read.specs.Units.{declarations_of}
 use Rattle.entry_read.proofs.Declarations.{declared_is, count_same}
 use Rattle.unit_write.specs.Moved.{IsRoomy}
@@ -23,24 +22,14 @@ use Rattle.value_links.specs.Reading.{UnitRead, Reading, no_unit, unit_heads, un
 use Rattle.value_links.specs.Faults.{IsValid, IsUnitOf, FaultTables}
 use Rattle.value_links.specs.Faults.Pass.{OfUnits}
 use Rattle.value_links.specs.Laws.{IsBuilt, AreBuilt}
-
--- a list around one of its elements
-parted : {X : Type 0} (xs : List X) (i : ℕ) (d : X) → i < length xs → xs ≡ take i xs ++ get_or xs i d ∷ drop (suc i) xs
-parted xs i d inside = sym (take-append-drop i xs) ∙ ap (λ z. take i xs ++ z) (drop-cons xs i d inside)
-
-follow_front : (info : List ℕ) (before : List UnitHead) (head : UnitHead) (after : List UnitHead) (a e : ℕ) → Follow info (before ++ head ∷ after) a e → (end : ℕ) × Follow info (before ++ head ∷ []) a end
-follow_front info [] head after a e (here, stands, rest) = (a + head.len, (here, stands, refl))
-follow_front info (b ∷ before) head after a e (here, stands, rest) =
-    let (end, front) = follow_front info before head after (a + b.len) e rest in
-    (end, (here, stands, front))
+use Rattle.value_links.proofs.Fronts.{unit_of}
 
 unit_head : (info : List ℕ) (units : List UnitRead) (u : ℕ) → Tile info (unit_heads units) → u < length units → IsUnitOf info (get_or units u no_unit).head
 unit_head info units u tile inside =
     let heads : List UnitHead = unit_heads units in
     let size : length heads ≡ length units = length-map units (λ (x : UnitRead). x.head) in
-    let here : get_or heads u no_unit.head ≡ (get_or units u no_unit).head = get_or-map (λ (x : UnitRead). x.head) units u no_unit no_unit.head inside in
-    let (end, front) = follow_front info (take u heads) (get_or heads u no_unit.head) (drop (suc u) heads) 0 (length info) (subst (λ (z : List UnitHead). Follow info z 0 (length info)) (parted heads u no_unit.head (omega (arith, size, inside))) tile) in
-    subst (λ (z : UnitHead). IsUnitOf info z) here (take u heads, end, front)
+    let here : head_numbered heads u ≡ (get_or units u no_unit).head = get_or-map (λ (x : UnitRead). x.head) units u no_unit no_head inside in
+    subst (λ (z : UnitHead). IsUnitOf info z) here (unit_of info heads u tile (omega (arith, size, inside)))
 
 module _ (stand : DeclarationsStand) (file : List ℕ) (reach : Reach) (r : Reading) (valid : IsValid file reach) (read : IsReading file r) where
   declaration_built : (u : ℕ) → u < length r.units → (i : ℕ) → i < length (unit_at r u).table.decls → IsBuilt (declared_in (unit_at r u).table.specs (decl_at (unit_at r u).table.decls i))
@@ -73,7 +62,8 @@ built_roomy d built =
       (λ is. built (get_or d.columns k none, Contains-get_or d.columns k none inside, inr is)),
     ))
 
-all_columns_roomy : (specs : List Spec) (from : ℕ) (ds : List Decl) → AreAdjacent from ds (length specs) → All IsBuilt (declarations_in specs ds) → All IsRoomy (drop from specs)
+-- the columns of a table from one on, where its declarations can be written
+pub all_columns_roomy : (specs : List Spec) (from : ℕ) (ds : List Decl) → AreAdjacent from ds (length specs) → All IsBuilt (declarations_in specs ds) → All IsRoomy (drop from specs)
 all_columns_roomy specs from [] e built =
     let same : from ≡ length specs = e in
     subst (λ (z : List Spec). All IsRoomy z) (sym (drop_all from specs (omega (arith, same)))) (All-nil IsRoomy)
@@ -84,7 +74,3 @@ all_columns_roomy specs from (d ∷ ds) (e, rest) built =
     let moved : drop d.count (drop from specs) ≡ drop (from + d.count) specs = drop-drop d.count from specs in
     let later = subst (λ (z : List Spec). All IsRoomy z) (sym moved) more in
     subst (λ (z : List Spec). All IsRoomy z) (take-append-drop d.count (drop from specs)) (All-append IsRoomy (take d.count (drop from specs)) (drop d.count (drop from specs)) first later)
-
--- and each reference of a table has room for any number that fits 32 bits
-pub table_roomy : (section : List ℕ) (at : ℕ) (t : Listing) → IsTableAt section at t → All IsBuilt (declarations_of t) → All IsRoomy t.specs
-table_roomy section at t stands built = all_columns_roomy t.specs 0 t.decls stands.adjacent built

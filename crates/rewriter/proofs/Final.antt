@@ -13,7 +13,7 @@ use Rattle.abbrev_tables.specs.declared.decl.Spec.{Spec}
 use Rattle.abbrev_tables.specs.Listings.{Listing, decl_at, spec_at}
 use Rattle.entry_arena.specs.declared.entry.Entry.{Entry}
 use Rattle.entry_arena.specs.Arena.{entry_at, value_at}
-use Rattle.entry_arena.specs.Trees.{ValuesBetween}
+use Rattle.entry_read.proofs.OwnerLaws.{values_counted}
 use Rattle.entry_read.specs.Units.{HeadAndForest}
 use Rattle.unit_write.specs.declared.places.Places.{Places}
 use Rattle.unit_write.specs.declared.write.NewNumbers.{NewNumbers}
@@ -72,13 +72,6 @@ pub unit_reads : (file : List ℕ) (world : World) (r : Reading) (u : ℕ) (reac
 unit_reads file world r u reach is holds inside =
     let size : length world.units ≡ length is.r.units = held_count world.image world is.r is.holds in
     subst (IsUnitRead (debug_info world.image) (debug_abbrev world.image)) (unit_once world.image file world is.r r u is.holds holds inside) (read_unit_at world.image is.r u is.read.parts.units.each (omega arith))
-
--- as many values as columns
-values_counted : (section : List ℕ) (columns : List Spec) (values : List Value) (from to : ℕ) → ValuesBetween section columns values from to → length values ≡ length columns
-values_counted section [] [] from to same = omega arith
-values_counted section [] (v ∷ vs) from to none = absurd none
-values_counted section (c ∷ cs) [] from to none = absurd none
-values_counted section (c ∷ cs) (v ∷ vs) from to (next, spelled, placed, rest) = let later : length vs ≡ length cs = values_counted section cs vs next to rest in omega arith
 
 -- the new numbers of values, where the unit and its table are given
 abbrev NumbersIn : Reading → List Places → List ℕ → ℕ → List ℕ → HeadAndForest → Listing → Type 0

@@ -1,5 +1,5 @@
 -- A file that is written anew means what the old one means: each entry, and so each unit.
-use Rattle.std.proofs.Common.{◌≡◌, ◌<◌, ◌+◌, ◌∙◌, ℕ, List, [], length, get_or, sym, ap, subst, refl, arith}
+use Rattle.std.proofs.Common.{◌≡◌, ◌<◌, ◌+◌, ◌∙◌, ℕ, suc, List, [], ◌∷◌, length, get_or, sym, ap, subst, refl, arith}
 use Rattle.std.specs.Prelude.{Option, Some, None, false, slice_index}
 use Rattle.std.specs.List.{AllZip}
 use Rattle.std.proofs.lemmas.List.{get_or-map, length-map}
@@ -23,6 +23,7 @@ use Rattle.rewriter.specs.declared.tables.NewTable.{NewTable}
 use Rattle.rewriter.specs.Tables.{new_table_at}
 use Rattle.rewriter.specs.Placed.{places_at}
 use Rattle.rewriter.specs.Follows.{AreReadAnew, LinksFollow}
+use Rattle.rewriter.proofs.ColumnLaws.{AreNamedAlike}
 use Rattle.rewriter.proofs.MovedPlaces.{entry_moves}
 use Rattle.rewriter.proofs.MovedValues.{attributes_follow, as_many}
 use Rattle.rewriter.proofs.MovedEntries.{moved, entry_moved, entries_count, same_declared, stands_in, has_value, new_values, values_are, values_mean}
@@ -30,6 +31,18 @@ use Rattle.rewriter.proofs.MovedLinks.{value_follows}
 
 abbrev no_entry : Entry
 no_entry = record { at = 0; len = 0; depth = 0; decl = 0; first = 0; count = 0 }
+
+-- attributes depend on the names of columns alone
+attributes_alike : (section : List ℕ) (old new : List Spec) (values : List Value) → AreNamedAlike old new → attributes_of section old values ≡ attributes_of section new values
+attributes_alike section [] [] values alike = refl
+attributes_alike section [] (c ∷ cs) values alike = absurd (let count = alike.count in omega (arith, count))
+attributes_alike section (d ∷ ds) [] values alike = absurd (let count = alike.count in omega (arith, count))
+attributes_alike section (d ∷ ds) (c ∷ cs) [] alike = refl
+attributes_alike section (d ∷ ds) (c ∷ cs) (v ∷ vs) alike =
+    let count = alike.count in
+    let name : d.name ≡ c.name = sym (alike.each 0 (omega arith)) in
+    let rest : attributes_of section ds vs ≡ attributes_of section cs vs = attributes_alike section ds cs vs (record { count = omega (arith, count); each = λ j inside. alike.each (suc j) (omega arith) }) in
+    ap (λ (n : ℕ). (n, meant_in section v) ∷ attributes_of section ds vs) name ∙ ap (λ (z : List (ℕ × Meaning)). (c.name, meant_in section v) ∷ z) rest
 
 module _ {file : List ℕ} {world : World} {tables : List NewTable} {places : List Places} {starts info abbrevs : List ℕ} {r s : Reading} (all : AreReadAnew file world tables places starts info abbrevs r s) where
   -- ENTRIES
@@ -64,7 +77,7 @@ module _ {file : List ℕ} {world : World} {tables : List NewTable} {places : Li
         depth = means.depth ∙ sym entry.depth;
         tag = means.tag ∙ sym declared.tag;
         children = means.children ∙ sym declared.children;
-        attributes = subst (λ (z : List Spec). AllZip (MeansAttribute s u id) (attributes_of section z (values_of (unit_at s u) id)) e.attributes) (sym declared.columns) by_values;
+        attributes = subst (λ (z : List (ℕ × Meaning)). AllZip (MeansAttribute s u id) z e.attributes) (attributes_alike section (declaration_of (unit_at r u) id).columns (declaration_of (unit_at s u) id).columns (values_of (unit_at s u) id) declared.named) by_values;
       }
 
   -- UNITS

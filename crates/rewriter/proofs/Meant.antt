@@ -16,6 +16,7 @@ use Rattle.entry_arena.specs.declared.entry.Entry.{Entry}
 use Rattle.entry_arena.specs.Arena.{entry_at, value_at, IsEntryAt}
 use Rattle.entry_arena.specs.Forests.{Described, attributes_of, described_by}
 use Rattle.entry_arena.specs.Trees.{declared_at, listed_to}
+use Rattle.entry_arena.proofs.StandingLaws.{entries_stand}
 use Rattle.entry_arena.proofs.TreeLaws.{trees_are_walks}
 use Rattle.entry_read.specs.Heads.{type_unit}
 use Rattle.entry_read.specs.Units.{HeadAndForest, entries_at, IsTable}
@@ -29,7 +30,8 @@ use Rattle.value_links.specs.Debug.{EntryMeaning, UnitMeaning, described, MeansA
 use Rattle.value_links.specs.World.{World, head_and_forest, IsWorldOf}
 use Rattle.value_links.specs.declared.units.NamedTable.{NamedTable}
 use Rattle.rewriter.specs.Placed.{unit_in}
-use Rattle.rewriter.specs.Held.{MeansSomething, table_for, HaveAllValues, UnitMeans, HasType}
+use Rattle.rewriter.specs.Held.{FitsOffset, MeansSomething, table_for, HaveAllValues, UnitMeans, HasType}
+use Rattle.rewriter.proofs.OffsetSizes.{offsets_fit}
 use Rattle.rewriter.proofs.Standing.{filled, held_unit, held_count}
 
 -- AN ENTRY'S ATTRIBUTES
@@ -117,6 +119,16 @@ module _ (info abbrevs : List ℕ) (unit : UnitRead) (is : IsUnitRead info abbre
         get_or-take (entry_at unit.forest.entries id).count (drop (entry_at unit.forest.entries id).first unit.forest.values) j _ below
         ∙ get_or-drop (entry_at unit.forest.entries id).first unit.forest.values j _
 
+    -- each section offset among its values fits 32 bits
+    pub offset_fits : (j : ℕ) → j < (entry_at unit.forest.entries id).count → FitsOffset (value_at unit.forest.values ((entry_at unit.forest.entries id).first + j))
+    offset_fits j below =
+        let e : Entry = entry_at unit.forest.entries id in
+        let whole = (trees_are_walks info (declarations unit) (entries_at unit.head) (listed_to unit.forest is.entries.0)).0 is.entries.1.tree in
+        let stands = entries_stand info (declarations unit) (entries_at unit.head) (listed_to unit.forest is.entries.0) id whole inside in
+        let size : length (take (entry_at unit.forest.entries id).count (drop (entry_at unit.forest.entries id).first unit.forest.values)) ≡ (entry_at unit.forest.entries id).count = values_size in
+        let fits = offsets_fit info (declared_at (declarations unit) e.decl).columns (take e.count (drop e.first unit.forest.values)) stands.values_at (e.at + e.len) j stands.valued (omega (arith, size, below)) in
+        subst FitsOffset (value_same j below) fits
+
 -- the attribute with a number means something
 attribute_means : (info abbrevs : List ℕ) (r : Reading) (u id j : ℕ) (unit : UnitMeaning) → IsUnitRead info abbrevs (unit_at r u) → MeansUnit r u unit → (inside : id < length (unit_at r u).forest.entries) → j < (entry_at (unit_at r u).forest.entries id).count → (v : Resolved) × Resolves r u id (spec_at (unit_at r u).table.specs ((decl_at (unit_at r u).table.decls (entry_at (unit_at r u).forest.entries id).decl).first + j)).name (meant_in (unit_at r u).forest.section (value_at (unit_at r u).forest.values ((entry_at (unit_at r u).forest.entries id).first + j))) v
 attribute_means info abbrevs r u id j unit is means inside below =
@@ -181,7 +193,7 @@ module _ (world : World) (u : ℕ) (reach : Reach) (is : IsWorldOf world.image r
     values = (owners (debug_info world.image) (debug_abbrev world.image) (unit_at is.r u) unit_is).inside id inside;
     means = λ column below.
         let m = attribute_means (debug_info world.image) (debug_abbrev world.image) is.r u id column (slice_index_or is.debug.units u (record { unit_type = 0; signature = 0; type_entry = None; forest = [] })) unit_is means_unit inside below in
-        record { file = world.image; r = is.r; holds = is.holds; id = id; resolved = m.0; resolves = m.1 };
+        record { file = world.image; r = is.r; holds = is.holds; id = id; resolved = m.0; resolves = m.1; fits = offset_fits (debug_info world.image) (debug_abbrev world.image) (unit_at is.r u) unit_is id inside column below };
   }
 
   pub unit_means : UnitMeans world u

@@ -25,11 +25,12 @@ use Rattle.unit_write.specs.Moved.{IsMovedEntry}
 use Rattle.value_links.specs.Sections.{debug_info}
 use Rattle.value_links.specs.Reading.{UnitRead, Reading, unit_at, declarations}
 use Rattle.value_links.specs.Values.{entry_of, declaration_of, values_of, HasValueAt}
-use Rattle.value_links.specs.World.{World}
+use Rattle.value_links.specs.World.{World, named_by}
 use Rattle.rewriter.specs.declared.tables.NewTable.{NewTable}
 use Rattle.rewriter.specs.Tables.{TableAnew, new_table_at}
 use Rattle.rewriter.specs.Units.{IsUnitMoved}
 use Rattle.rewriter.specs.Follows.{AreReadAnew}
+use Rattle.rewriter.proofs.ColumnLaws.{AreNamedAlike, columns_named}
 use Rattle.rewriter.proofs.UsedDeclarations.{table_written, decl_known, decl_used, unit_is}
 use Rattle.rewriter.proofs.MovedValues.{value_here, as_many}
 
@@ -42,12 +43,12 @@ no_decl = record { at = 0; code = 0; tag = 0; children = false; first = 0; count
 abbrev no_declared : Declared
 no_declared = record { code = 0; tag = 0; children = false; columns = [] }
 
--- the declaration of an entry is the same, but that its code is the new number
+-- the declaration of an entry is the same, but for its code, which is the new number, and for the forms of its columns
 pub record IsSameDeclared (r s : Reading) (numbers : List ℕ) (u id : ℕ) : Type 0 where
   pub code : (declaration_of (unit_at s u) id).code ≡ slice_index numbers (entry_of (unit_at r u) id).decl
   pub tag : (declaration_of (unit_at s u) id).tag ≡ (declaration_of (unit_at r u) id).tag
   pub children : (declaration_of (unit_at s u) id).children ≡ (declaration_of (unit_at r u) id).children
-  pub columns : (declaration_of (unit_at s u) id).columns ≡ (declaration_of (unit_at r u) id).columns
+  pub named : AreNamedAlike (declaration_of (unit_at r u) id).columns (declaration_of (unit_at s u) id).columns
 
 -- an entry of a unit stands in its section
 pub entry_stands : (info : List ℕ) (head : UnitHead) (ds : List Declared) (f : Arena) → f.section ≡ info → IsUnitHeld info head ds f → (id : ℕ) → id < length f.entries → StandsAs f.section ds f.values (entry_at f.entries id)
@@ -87,12 +88,14 @@ module _ {file : List ℕ} {world : World} {tables : List NewTable} {places : Li
       let is : declared_at ds (number - 1) ≡ numbered_as number (decl_at unit.table.decls decl) (columns_of unit.table (new_table u).columns decl) = ((moved u inside).renumbered.each decl declared some).1 in
       let here : declaration_of (unit_at s u) id ≡ declared_at ds (number - 1) = ap (λ (z : ℕ). declared_at ds z) (entry_moved u id inside known).decl in
       let old : declaration_of unit id ≡ declared_in unit.table.specs (decl_at unit.table.decls decl) = declared_is unit.table decl declared in
-      let columns : columns_of unit.table (new_table u).columns decl ≡ columns_of unit.table unit.table.specs decl = ap (λ (z : List Spec). columns_of unit.table z decl) (table_written all.read all.holds all.tables_written u inside).columns in
+      let w = table_written all.read all.holds all.tables_written u inside in
+      let named : AreNamedAlike (columns_of unit.table unit.table.specs decl) (columns_of unit.table (new_table u).columns decl) = columns_named world.units (named_by unit) w.uses (new_table u).columns w.columns decl declared in
+      let by_old = subst (λ (z : Declared). AreNamedAlike z.columns (columns_of unit.table (new_table u).columns decl)) (sym old) named in
       record {
         code = ap (λ (z : Declared). z.code) (here ∙ is);
         tag = ap (λ (z : Declared). z.tag) (here ∙ is) ∙ sym (ap (λ (z : Declared). z.tag) old);
         children = ap (λ (z : Declared). z.children) (here ∙ is) ∙ sym (ap (λ (z : Declared). z.children) old);
-        columns = ap (λ (z : Declared). z.columns) (here ∙ is) ∙ columns ∙ sym (ap (λ (z : Declared). z.columns) old);
+        named = subst (λ (z : Declared). AreNamedAlike (declaration_of unit id).columns z.columns) (sym (here ∙ is)) by_old;
       }
 
   -- a value of an entry stands in it

@@ -1,5 +1,5 @@
 -- The values of an entry, one by one, and what they mean in the file that is written anew.
-use Rattle.std.proofs.Common.{◌≡◌, ◌<◌, ◌+◌, ◌-◌, ◌∙◌, ◌++◌, ℕ, zero, suc, List, [], ◌∷◌, length, take, drop, sym, ap, min, subst, refl, arith}
+use Rattle.std.proofs.Common.{◌≡◌, ◌<◌, ◌+◌, ◌-◌, ◌∙◌, ◌++◌, ℕ, zero, suc, List, [], ◌∷◌, length, get_or, take, drop, sym, ap, min, subst, refl, arith}
 use Rattle.std.specs.List.{AllZip}
 use Rattle.std.proofs.lemmas.List.{append_assoc, get_or-take, get_or-drop, length-take, length-drop}
 use Rattle.form_codec.specs.declared.value.Value.{Value}
@@ -15,15 +15,20 @@ use Rattle.value_links.specs.Reading.{Reading}
 use Rattle.value_links.specs.Resolved.{Resolved, Resolves}
 use Rattle.value_links.specs.Debug.{MeansAttribute}
 
+-- an item of a part of a list, among all items
+pub part_at : {X : Type 0} (xs : List X) (first count k : ℕ) (d : X) → k < length (take count (drop first xs)) → (get_or (take count (drop first xs)) k d ≡ get_or xs (first + k) d) × (k < count) × (first + k < length xs)
+part_at xs first count k d inside =
+    let size : length (take count (drop first xs)) ≡ min count (length (drop first xs)) = length-take count (drop first xs) in
+    let left : length (drop first xs) ≡ length xs - first = length-drop first xs in
+    let below : k < count = omega (arith, size) in
+    (get_or-take count (drop first xs) k d below ∙ get_or-drop first xs k d, below, omega (arith, size, left))
+
 -- one of the values of an entry among all values
 pub value_here : (values : List Value) (first count k : ℕ) → k < length (take count (drop first values)) → (value_at (take count (drop first values)) k ≡ value_at values (first + k)) × (first + k < length values)
-value_here values first count k inside =
-    let size : length (take count (drop first values)) ≡ min count (length (drop first values)) = length-take count (drop first values) in
-    let left : length (drop first values) ≡ length values - first = length-drop first values in
-    (get_or-take count (drop first values) k (value.Addr 0) (omega (arith, size)) ∙ get_or-drop first values k (value.Addr 0), omega (arith, size, left))
+value_here values first count k inside = let p = part_at values first count k (value.Addr 0) inside in (p.0, p.2)
 
--- as many values of an entry, where there are as many in all
-pub as_many : (old new : List Value) (first count : ℕ) → length new ≡ length old → length (take count (drop first new)) ≡ length (take count (drop first old))
+-- as many items of a part, where there are as many in all
+pub as_many : {X : Type 0} (old new : List X) (first count : ℕ) → length new ≡ length old → length (take count (drop first new)) ≡ length (take count (drop first old))
 as_many old new first count same =
     let a : length (take count (drop first new)) ≡ min count (length (drop first new)) = length-take count (drop first new) in
     let b : length (take count (drop first old)) ≡ min count (length (drop first old)) = length-take count (drop first old) in

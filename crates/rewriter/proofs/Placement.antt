@@ -1,22 +1,28 @@
 -- Units that stand one after the other.
-use Rattle.std.proofs.Common.{◌≡◌, ◌<◌, ◌+◌, ℕ, List, [], ◌∷◌, ◌++◌, length, get_or, ◌∙◌, sym, ap, refl, subst, arith, inl, inr}
+use Rattle.std.proofs.Common.{◌≡◌, ◌≤◌, ◌<◌, ◌+◌, ℕ, List, [], ◌∷◌, ◌++◌, length, take, get_or, ◌∙◌, sym, ap, refl, subst, arith, inl, inr}
 use Rattle.std.specs.Prelude.{map}
+use Rattle.std.specs.List.{sum_by}
 use Rattle.std.proofs.lemmas.Bool.{cases_lt}
 use Rattle.std.proofs.lemmas.List.{length-append, length-map, map-append}
+use Rattle.std.proofs.lemmas.List.Sums.{sum_by_more, sum_by-take-le}
 use Rattle.std.proofs.Math.ListN.{get_or-append}
 use Rattle.std.proofs.Math.Seq.{get_or-append_seam}
+use Rattle.dw_base.specs.declared.fault.Reach.TheVariants.{Narrow}
 use Rattle.entry_read.specs.Heads.{least_reserved}
+use Rattle.unit_write.specs.Most.{most_bytes}
 use Rattle.unit_write.specs.declared.places.Places.{Places}
-use Rattle.value_links.specs.World.{World}
+use Rattle.value_links.specs.World.{World, IsWorldOf}
 use Rattle.rewriter.specs.declared.tables.NewTable.{NewTable}
-use Rattle.rewriter.specs.Placed.{PlacesAnew, places_anew, places_at, IsPlacedBy, PlacesFollow}
+use Rattle.rewriter.specs.Placed.{PlacesAnew, places_anew, places_at, unit_in, IsPlacedBy, PlacesFollow}
 use Rattle.rewriter.specs.Held.{IsPlacedFrom}
+use Rattle.rewriter.proofs.UnitRoom.{units_have_room}
 
--- so many units stand from 0 up to a place
+-- So many units stand from 0 up to a place. They have no more bytes than such units can get.
 pub record ArePlacedUpTo (world : World) (tables : List NewTable) (places : List Places) (number end : ℕ) : Type 0 where
   pub count : length places ≡ number
   pub follow : PlacesFollow places 0 end
   pub small : end < least_reserved
+  pub within : end ≤ sum_by most_bytes (take number world.units)
   pub each : (u : ℕ) → u < number → IsPlacedBy world tables u (places_at places u)
 
 pub follow_more : (places : List Places) (at end : ℕ) (next : Places) → PlacesFollow places at end → next.start ≡ end → PlacesFollow (places ++ next ∷ []) at next.end
@@ -42,14 +48,27 @@ module _ (places : List Places) (next : Places) where
 
 -- none stands yet
 pub placed_none : (world : World) (tables : List NewTable) → ArePlacedUpTo world tables [] 0 0
-placed_none world tables = record { count = refl; follow = refl; small = omega arith; each = λ u below. absurd (let no : u < 0 = below in omega arith) }
+placed_none world tables = record { count = refl; follow = refl; small = omega arith; within = omega arith; each = λ u below. absurd (let no : u < 0 = below in omega arith) }
 
--- one more
-pub placed_more : (world : World) (tables : List NewTable) (places : List Places) (number end : ℕ) (next : Places) → ArePlacedUpTo world tables places number end → IsPlacedFrom world tables number end next → ArePlacedUpTo world tables (places ++ next ∷ []) (number + 1) next.end
-placed_more world tables places number end next up is = record {
+-- one more unit
+most_more : (world : World) (number : ℕ) → number < length world.units → sum_by most_bytes (take (number + 1) world.units) ≡ sum_by most_bytes (take number world.units) + most_bytes (unit_in world.units number)
+most_more world number known = sum_by_more most_bytes world.units number _ known
+
+-- there is room for the next
+pub room_next : (world : World) (tables : List NewTable) (places : List Places) (number end : ℕ) → IsWorldOf world.image Narrow world → ArePlacedUpTo world tables places number end → number < length world.units → end + most_bytes (unit_in world.units number) < least_reserved
+room_next world tables places number end is up known =
+    let within = up.within in
+    let more = most_more world number known in
+    let front = sum_by-take-le most_bytes world.units (number + 1) in
+    let all = units_have_room world is in
+    omega (arith, within, more, front, all)
+
+pub placed_more : (world : World) (tables : List NewTable) (places : List Places) (number end : ℕ) (next : Places) → number < length world.units → ArePlacedUpTo world tables places number end → IsPlacedFrom world tables number end next → next.end ≤ end + most_bytes (unit_in world.units number) → ArePlacedUpTo world tables (places ++ next ∷ []) (number + 1) next.end
+placed_more world tables places number end next known up is most = record {
   count = let longer : length (places ++ next ∷ []) ≡ length places + 1 = length-append places (next ∷ []) in let c : length places ≡ number = up.count in omega arith;
   follow = follow_more places 0 end next up.follow is.begins;
   small = is.fits;
+  within = (let within = up.within in let more = most_more world number known in omega (arith, within, more, most));
   each = λ u below.
       let c : length places ≡ number = up.count in
       elim (cases_lt u number) [

@@ -1,5 +1,5 @@
--- A file that has its new sections is read, means what the old one means, is valid, has the codes that take the least bytes, and
--- holds nothing else.
+-- A file that has its new sections is read, means what the old one means, is valid, has the codes and the forms of columns that
+-- take the least bytes, and holds nothing else.
 use Rattle.std.proofs.Common.{◌≡◌, ◌<◌, ◌+◌, ◌∙◌, inl, ℕ, List, length, sym, ap, subst, refl}
 use Rattle.std.specs.Prelude.{map, slice_index}
 use Rattle.std.proofs.lemmas.List.{length-map}
@@ -22,7 +22,7 @@ use Rattle.value_links.specs.World.{World, head_and_forest, table_at, named_by, 
 use Rattle.rewriter.specs.declared.sections.NewSections.{NewSections}
 use Rattle.rewriter.specs.Tables.{TableAnew, AreUses, table_anew, new_table_at, IsTableWritten}
 use Rattle.rewriter.specs.Sections.{HasSections}
-use Rattle.rewriter.specs.Anew.{AreAnew, HasLeastCodes, HaveLeastCodes}
+use Rattle.rewriter.specs.Anew.{AreAnew, HasLeastCodes, HaveLeastCodes, HaveLeastColumns}
 use Rattle.rewriter.specs.Follows.{AreReadAnew}
 use Rattle.rewriter.specs.Tidy.{TablesStand, IsTidy}
 use Rattle.rewriter.specs.Rewritten.{IsRewritten}
@@ -31,6 +31,7 @@ use Rattle.rewriter.proofs.MovedEntries.{same_declared}
 use Rattle.rewriter.proofs.Following.{links_follow}
 use Rattle.rewriter.proofs.NoneUnread.{none_is_unread}
 use Rattle.rewriter.proofs.TidyUnits.{tables_stand, tidy_unit}
+use Rattle.rewriter.proofs.LeastColumns.{least_columns}
 use Rattle.rewriter.proofs.ValidImages.{image_in_order}
 
 -- a valid file has no value that waits for a later version
@@ -120,6 +121,10 @@ module _ (file written : List ℕ) (world : World) (r s : Reading) (new : NewSec
   pub codes_anew : HaveLeastCodes file written
   codes_anew = (r, s, read, reads_anew, least_codes)
 
+  -- the columns of each entry's declaration are in their least forms
+  pub columns_anew : HaveLeastColumns file written
+  columns_anew = (r, s, read, reads_anew, least_columns all_anew)
+
   -- the sections hold the tables and units, and nothing else
   pub tidy_anew : IsTidy file written
   tidy_anew =
@@ -155,6 +160,7 @@ rewritten file image world new written law known is anew least order has_image =
       least = subst (λ (z : List ℕ). LeastLines (debug_line file) z) (sym has.lines) least;
       order = subst (λ (z : List ℕ). OrderedLines (debug_line file) z) (sym has.lines) order;
       tidy = tidy_anew file written world known.r s new known.read known.holds all has;
+      columns = columns_anew file written world known.r s new known.read known.holds all has;
       codes = codes_anew file written world known.r s new known.read known.holds all has;
       placed = has.placed;
     }

@@ -1,14 +1,12 @@
 -- What is read of the new sections of a file.
-use Rattle.std.proofs.Common.{◌≡◌, ◌≤◌, ◌<◌, ◌+◌, ◌-◌, ◌^◌, ◌∙◌, ℕ, zero, suc, List, [], ◌∷◌, length, map, get_or, take, drop, sym, ap, refl, subst, arith, inl, inr}
-use Rattle.std.specs.Prelude.{slice_index, slice_range, Option, Some, None}
+use Rattle.std.proofs.Common.{◌≡◌, ◌≤◌, ◌<◌, ◌+◌, ◌-◌, ◌^◌, ◌∙◌, ℕ, suc, List, [], ◌∷◌, length, map, get_or, sym, ap, refl, subst, arith, inl, inr}
+use Rattle.std.specs.Prelude.{slice_index}
 use Rattle.std.specs.List.{All}
 use Rattle.std.proofs.lemmas.Bool.{cases_lt}
 use Rattle.std.proofs.lemmas.List.{get_or-map, length-map}
 use Rattle.std.proofs.lemmas.List.Elements.{All-nil, All-cons, All-head, All-tail, All-map, All-get_or, All-from_get_or}
 use Rattle.std.proofs.lemmas.Grind.{same_number_lists}
-use Rattle.dw_base.specs.declared.fault.Kind.TheVariants.{Limit as TooMuch}
 use Rattle.dw_base.specs.declared.fault.Reach.TheVariants.{Narrow}
-use Rattle.elf_sections.specs.Elf.{body_span}
 use Rattle.elf_sections.specs.Sections.{HasNone}
 use Rattle.line_machine.specs.declared.head.Head.{Head}
 use Rattle.line_write.specs.Meaning.{ProgramMeaning, HaveMeanings}
@@ -26,10 +24,9 @@ use Rattle.entry_read.specs.Units.{HeadAndForest}
 use Rattle.unit_write.specs.declared.places.Places.{Places}
 use Rattle.unit_write.specs.Placing.{ArePlaced}
 use Rattle.unit_write.specs.Sizes.{NumbersHaveSizes, ShortestHaveSizes}
-use Rattle.value_links.specs.Sections.{body_named, body_or_none, section_named, debug_info, debug_abbrev, debug_line, debug_aranges, info_name, abbrev_name, line_name, aranges_name}
+use Rattle.value_links.specs.Sections.{body_named, body_or_none, debug_info, debug_abbrev, debug_line, debug_aranges, info_name, abbrev_name, line_name, aranges_name}
 use Rattle.value_links.specs.Reading.{ProgramRead, UnitRead, Reading, no_program, no_unit, line_heads, unit_heads, unit_starts, program_at, IsReading}
 use Rattle.value_links.specs.Faults.{IsValid}
-use Rattle.value_links.specs.Faults.Pass.{OfFile}
 use Rattle.value_links.specs.World.{World, head_and_forest, Holds, IsWorldOf}
 use Rattle.value_links.proofs.SectionLaws.{sections_are_found}
 use Rattle.rewriter.specs.declared.tables.NewTable.{NewTable}
@@ -39,40 +36,10 @@ use Rattle.rewriter.specs.Placed.{PlacesAnew, places_anew, places_at, PlacesFoll
 use Rattle.rewriter.specs.Units.{AreUnitsWritten}
 use Rattle.rewriter.specs.Sections.{IsFor, AreFor}
 use Rattle.rewriter.specs.Anew.{AreProgramsAnew, AreAnew}
+use Rattle.rewriter.proofs.DebugSizes.{debug_short}
 use Rattle.rewriter.proofs.FewRows.{AreProgramsFew, programs_few, few_rows, programs_read}
-use Rattle.rewriter.proofs.KeptColumns.{kept_columns_are_writable}
+use Rattle.rewriter.proofs.ChosenColumns.{chosen_columns_are_writable}
 use Rattle.rewriter.proofs.UsedDeclarations.{unit_is}
-
--- SIZES
-
-take_small : (n : ℕ) (xs : List ℕ) → length (take n xs) ≤ length xs
-take_small zero xs = omega arith
-take_small (suc n) [] = omega arith
-take_small (suc n) (x ∷ xs) = let few : length (take n xs) ≤ length xs = take_small n xs in omega arith
-
-drop_small : (n : ℕ) (xs : List ℕ) → length (drop n xs) ≤ length xs
-drop_small zero xs = omega arith
-drop_small (suc n) [] = omega arith
-drop_small (suc n) (x ∷ xs) = let few : length (drop n xs) ≤ length xs = drop_small n xs in omega arith
-
-range_small : (xs : List ℕ) (from to : ℕ) → length (slice_range xs from to) ≤ length xs
-range_small xs from to =
-    let front : length (take (to - from) (drop from xs)) ≤ length (drop from xs) = take_small (to - from) (drop from xs) in
-    let rest : length (drop from xs) ≤ length xs = drop_small from xs in
-    omega arith
-
-body_small : (file : List ℕ) (found : Option ℕ) → length (body_or_none file found) ≤ length file
-body_small file (Some i) = range_small file (body_span file i).at ((body_span file i).at + (body_span file i).len)
-body_small file None = omega arith
-
--- no section of a valid file is longer than the file may be
-pub section_small : (file name : List ℕ) → IsValid file Narrow → length (body_named file name) ≤ 2 ^ 30
-section_small file name valid =
-    let part : length (body_named file name) ≤ length file = body_small file (section_named file name) in
-    elim (cases_lt (2 ^ 30) (length file)) [
-      | inl long ↦ absurd (valid OfFile TooMuch 0 (inl (refl, long)))
-      | inr few ↦ omega arith
-    ]
 
 -- SECTIONS THAT A FILE LACKS
 
@@ -257,7 +224,7 @@ module _ {file : List ℕ} {world : World} {r : Reading} {tables : List NewTable
 
   pub aranges_fit : length aranges < 2 ^ 32 - 1
   aranges_fit =
-      let small : length (debug_aranges file) ≤ 2 ^ 30 = section_small file aranges_name valid in
+      let small : length (debug_aranges file) ≤ 2 ^ 28 = debug_short file aranges_name refl valid in
       let size = parts.size in
       omega (arith, size, small)
 
@@ -276,7 +243,7 @@ module _ {file : List ℕ} {world : World} {r : Reading} {tables : List NewTable
 -- WHAT THE STEPS ASK FOR
 
 pub writable : NumbersHaveSizes → ShortestHaveSizes → DeclarationsStand → (world : World) → IsWorldOf world.image Narrow world → (abbrevs : List ℕ) (tables : List NewTable) → AreTablesWritten world abbrevs tables → AreWritable world tables
-writable numbers others stand world is abbrevs tables written = kept_columns_are_writable numbers others stand world.image Narrow world is.r abbrevs tables is.read is.valid is.holds written
+writable numbers others stand world is abbrevs tables written = chosen_columns_are_writable numbers others stand world.image Narrow world is.r abbrevs tables is.read is.valid is.holds written
 
 pub lines_read : (world : World) → IsWorldOf world.image Narrow world → (section : List ℕ) (heads : List Head) → section ≡ debug_line world.image → heads ≡ world.programs → AreRead section heads
 lines_read world is section heads e f =

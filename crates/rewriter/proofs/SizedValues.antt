@@ -1,50 +1,25 @@
--- Something can be written for each value of an entry in the columns that the entry has.
-use Rattle.std.proofs.Common.{◌≡◌, ◌≢◌, ◌+◌, ◌∙◌, ℕ, List, [], ◌∷◌, length, Bool, true, false, sym, ap, refl, subst, inl, inr}
-use Rattle.std.specs.Prelude.{◌-◌, ◌*◌, ◌^◌, ℤ, pos, nat_le, if◌then◌else◌}
+-- Something can be written for each value of an entry in columns that spell it.
+use Rattle.std.proofs.Common.{◌≡◌, ◌≢◌, ◌<◌, ◌+◌, ◌∙◌, ℕ, suc, List, [], ◌∷◌, length, true, sym, refl, subst, arith, inl, inr}
+use Rattle.std.specs.Prelude.{ℤ}
 use Rattle.std.specs.List.{All}
 use Rattle.std.proofs.lemmas.Bool.{cases_Bool}
 use Rattle.std.proofs.lemmas.List.Elements.{All-head, All-tail}
 use Rattle.form_codec.specs.declared.form.Form.{Form}
 use Rattle.form_codec.specs.declared.form.Form.TheVariants as form
-use Rattle.form_codec.specs.declared.form.Content.TheVariants as content
 use Rattle.form_codec.specs.declared.value.Value.{Value}
-use Rattle.form_codec.specs.declared.form.Role.{Role}
-use Rattle.form_codec.specs.declared.form.Role.TheVariants as role
-use Rattle.form_codec.specs.declared.form.Shape.{Shape}
-use Rattle.form_codec.specs.declared.form.Shape.TheVariants.{Constant, Present, Number, Uleb as ByUleb, Sleb as BySleb, Counted, UlebCounted, Sixteen, ZeroEnded}
-use Rattle.form_codec.specs.declared.form.Width.TheVariants.{Eight}
-use Rattle.form_codec.specs.Forms.{Meaning, SpellsShape, SpellsValue, code_of, shape_of, size_of, number, in_role}
-use Rattle.form_codec.specs.Forms.Meaning.{Bits, Whole}
-use Rattle.form_codec.specs.declared.form.Width.{Width}
+use Rattle.form_codec.specs.Forms.{Meaning, SpellsShape, SpellsValue, code_of, shape_of}
 use Rattle.form_codec.specs.Values.{meant_in}
 use Rattle.abbrev_tables.specs.declared.decl.Spec.{Spec}
+use Rattle.abbrev_tables.specs.Listings.{spec_at}
+use Rattle.entry_arena.specs.Arena.{value_at}
 use Rattle.entry_arena.specs.Trees.{ValuesBetween}
 use Rattle.unit_write.specs.Values.{is_moving, HasSize, HaveSize}
 use Rattle.unit_write.specs.Moved.{IsRoomy}
 use Rattle.unit_write.specs.Sizes.{HoldsNumber, NumbersHaveSizes, ShortestHaveSizes}
-use Rattle.unit_write.specs.Puts.{role_moves, shape_moves}
+use Rattle.unit_write.specs.Puts.{shape_moves}
+use Rattle.unit_write.proofs.ValueLaws.{shape_is}
 use Rattle.rewriter.proofs.ShortestBytes.{shortest_bytes}
-
-data_stays : (size n : ℕ) (test : Bool) → is_moving (if test then Bits size n else Whole (pos n)) ≡ false
-data_stays size n true = refl
-data_stays size n false = refl
-
-role_is : (r : Role) (w : Width) (n : ℕ) → is_moving (in_role r w n) ≡ role_moves r
-role_is role.Data w n = data_stays (size_of w) n (nat_le (2 ^ (8 * size_of w - 1)) n)
-role_is r w n = refl
-
--- whether a value moves is told by the shape of its bytes
-shape_is : (s : Shape) (m : Meaning) (bytes : List ℕ) → SpellsShape s m bytes → is_moving m ≡ shape_moves s
-shape_is (Constant v) m bytes p = ap is_moving p.2
-shape_is Present m bytes p = ap is_moving p.1
-shape_is (Number w r) m bytes p = ap is_moving p.1 ∙ role_is r w (number (size_of w) bytes)
-shape_is (ByUleb r) m bytes p = ap is_moving p.2 ∙ role_is r Eight p.0
-shape_is BySleb m bytes p = ap is_moving p.2
-shape_is (Counted w) m bytes p = ap is_moving p.holds
-shape_is (UlebCounted content.Data) m bytes p = ap is_moving p.holds
-shape_is (UlebCounted content.Expression) m bytes p = ap is_moving p.holds
-shape_is Sixteen m bytes p = ap is_moving p.1
-shape_is ZeroEnded m bytes p = ap is_moving p.holds
+use Rattle.rewriter.proofs.ColumnLaws.{IsSpelledBy}
 
 -- a reference or a section offset has a form that has room for it
 holds_number : (f : Form) (c : ℤ) (m : Meaning) (bytes : List ℕ) → shape_moves (shape_of f c) ≡ true → code_of f ≢ code_of form.Ref1 → code_of f ≢ code_of form.Ref2 → SpellsShape (shape_of f c) m bytes → HoldsNumber (code_of f) m
@@ -71,12 +46,15 @@ module _ (numbers : NumbersHaveSizes) (others : ShortestHaveSizes) where
             (length few.0, others column m few.0 bytes stays s few.1)
       ]
 
-  -- and so can those of an entry
-  pub values_sized : (section : List ℕ) (columns : List Spec) (values : List Value) (from to : ℕ) → All IsRoomy columns → ValuesBetween section columns values from to → (size : ℕ) × HaveSize section columns values size
-  values_sized section [] [] from to roomy e = (0, refl)
-  values_sized section [] (v ∷ vs) from to roomy e = absurd e
-  values_sized section (c ∷ cs) [] from to roomy e = absurd e
-  values_sized section (c ∷ cs) (v ∷ vs) from to roomy (next, s, placed, more) =
-      let one = value_sized c (meant_in section v) _ (All-head IsRoomy c cs roomy) s.spelled in
-      let rest = values_sized section cs vs next to (All-tail IsRoomy c cs roomy) more in
+  -- and so can those of an entry, in new columns that spell what the old ones do
+  pub values_sized : (section : List ℕ) (olds news : List Spec) (values : List Value) (from to : ℕ) → length news ≡ length olds → All IsRoomy news → ValuesBetween section olds values from to → ((j : ℕ) → j < length olds → j < length values → IsSpelledBy (spec_at olds j) (meant_in section (value_at values j)) → IsSpelledBy (spec_at news j) (meant_in section (value_at values j))) → (size : ℕ) × HaveSize section news values size
+  values_sized section [] [] [] from to same roomy e spelled = (0, refl)
+  values_sized section [] [] (v ∷ vs) from to same roomy e spelled = absurd e
+  values_sized section [] (n ∷ ns) values from to same roomy e spelled = absurd (omega arith)
+  values_sized section (c ∷ cs) [] values from to same roomy e spelled = absurd (omega arith)
+  values_sized section (c ∷ cs) (n ∷ ns) [] from to same roomy e spelled = absurd e
+  values_sized section (c ∷ cs) (n ∷ ns) (v ∷ vs) from to same roomy (next, s, placed, more) spelled =
+      let here : IsSpelledBy n (meant_in section v) = spelled 0 (omega arith) (omega arith) (_, s.spelled) in
+      let one = value_sized n (meant_in section v) here.0 (All-head IsRoomy n ns roomy) here.1 in
+      let rest = values_sized section cs ns vs next to (omega arith) (All-tail IsRoomy n ns roomy) more (λ j a b. spelled (suc j) (omega arith) (omega arith)) in
       (one.0 + rest.0, (one.0, rest.0, one.1, rest.1, refl))

@@ -41,4 +41,5 @@ tidy_unit file world r tables places lines size u new holds places_are inside mo
     let placed : IsPlacedAt (unit_in world.units u) old.table table.columns table.numbers stands.start stands.entries stands.ends stands.end = places_are.each u (subst (λ (z : ℕ). u < z) (sym count) inside) in
     let of_unit : IsPlacedAt (head_and_forest (unit_at r u)) old.table table.columns table.numbers stands.start stands.entries stands.ends stands.end = subst (λ (z : HeadAndForest). IsPlacedAt z old.table table.columns table.numbers stands.start stands.entries stands.ends stands.end) (unit_held file world r holds u) placed in
     let by_table : IsPlacedAt (head_and_forest (unit_at r u)) (unit_at r u).table table.columns table.numbers stands.start stands.entries stands.ends stands.end = subst (λ (z : NamedTable). IsPlacedAt (head_and_forest (unit_at r u)) z.table table.columns table.numbers stands.start stands.entries stands.ends stands.end) (holds.tables.each u inside) of_unit in
-    at_own_places (head_and_forest (unit_at r u)) (unit_at r u).table table stands new.head.at (map (λ (e : Entry). e.at) new.forest.entries) (map (λ (e : ChainEnd). e.at) new.forest.ends) (end_of new.head) moved.at moved.entry_places moved.end_places moved.ends by_table
+    let own : IsPlacedAt (head_and_forest (unit_at r u)) (unit_at r u).table table.columns table.numbers new.head.at (map (λ (e : Entry). e.at) new.forest.entries) (map (λ (e : ChainEnd). e.at) new.forest.ends) (end_of new.head) = at_own_places (head_and_forest (unit_at r u)) (unit_at r u).table table stands new.head.at (map (λ (e : Entry). e.at) new.forest.entries) (map (λ (e : ChainEnd). e.at) new.forest.ends) (end_of new.head) moved.at moved.entry_places moved.end_places moved.ends by_table in
+    record { entries = moved.entries; placed = own; short = moved.short }

@@ -1,27 +1,28 @@
 -- What a world says of the uses of its tables.
-use Rattle.std.proofs.Common.{◌≡◌, ◌<◌, ◌+◌, ℕ, List, [], ◌∷◌, length, map, get_or, sym, ap, ◌∙◌, refl, subst, arith}
+use Rattle.std.proofs.Common.{◌≡◌, ◌≢◌, ◌<◌, inl, inr, ℕ, List, [], ◌∷◌, length, get_or, sym, ap, ◌∙◌, subst, arith}
 use Rattle.std.specs.List.{All, sum_by}
+use Rattle.std.proofs.lemmas.Bool.{cases_lt}
 use Rattle.std.proofs.lemmas.List.{length-map}
 use Rattle.std.proofs.Math.ListN.{get_or-map}
-use Rattle.std.proofs.lemmas.List.Sums.{sum_by-cons}
 use Rattle.std.proofs.lemmas.List.Elements.{All-nil, All-push, All-get_or}
 use Rattle.dw_base.specs.declared.fault.Reach.{Reach}
 use Rattle.abbrev_tables.specs.Tables.{Declared}
-use Rattle.abbrev_tables.specs.Listings.{declared_in}
+use Rattle.abbrev_tables.specs.Listings.{Listing, declared_in}
 use Rattle.entry_arena.specs.declared.entry.Entry.{Entry}
 use Rattle.entry_arena.specs.ForestLaws.{TreesAreWalks}
 use Rattle.entry_arena.specs.Trees.{Listed}
 use Rattle.entry_arena.specs.Walks.{Item, Walks}
 use Rattle.entry_arena.specs.Walks.Item.{AnEntry, AnEnd}
-use Rattle.entry_read.specs.Units.{HeadAndForest, IsTable}
+use Rattle.entry_arena.proofs.TreeLaws.{trees_are_walks}
+use Rattle.entry_read.specs.Units.{HeadAndForest, declarations_of, IsTable, IsUnitHeld}
 use Rattle.value_links.specs.declared.units.NamedTable.{NamedTable}
 use Rattle.value_links.specs.Sections.{debug_info, debug_abbrev}
 use Rattle.value_links.specs.Reading.{UnitRead, Reading, declarations, unit_among, unit_at, no_unit, IsUnitRead}
 use Rattle.value_links.specs.World.{World, head_and_forest, table_at, named_by, Holds, IsWorldOf}
-use Rattle.rewriter.specs.declared.uses.Uses.{Uses}
 use Rattle.rewriter.specs.Placed.{unit_in}
-use Rattle.rewriter.specs.Counting.{AreCountable, AreCounted}
-use Rattle.rewriter.specs.Appended.{AreCountsOf}
+use Rattle.rewriter.specs.Counting.{AreCountable}
+use Rattle.rewriter.proofs.TermSums.{sum_by-map}
+use Rattle.rewriter.proofs.ColumnMeanings.{AreOfTable}
 
 abbrev Known : List Declared → Entry → Type 0
 Known ds e = e.decl < length ds
@@ -36,11 +37,6 @@ entries_known section ds old chains (AnEnd ∷ items) new left (id, outer, mid, 
 
 abbrev entries_in : HeadAndForest → ℕ
 entries_in unit = length unit.forest.entries
-
-sum_of_units : (units : List UnitRead) → sum_by entries_in (map head_and_forest units) ≡ sum_by (λ (u : UnitRead). length u.forest.entries) units
-sum_of_units [] = refl
-sum_of_units (u ∷ units) =
-    sum_by-cons entries_in (head_and_forest u) (map head_and_forest units) ∙ ap (λ (n : ℕ). length u.forest.entries + n) (sum_of_units units) ∙ sym (sum_by-cons (λ (u : UnitRead). length u.forest.entries) u units)
 
 -- a unit that is held is one that was read
 pub unit_held : (file : List ℕ) (world : World) (r : Reading) → Holds file world r → (u : ℕ) → unit_in world.units u ≡ head_and_forest (unit_at r u)
@@ -81,7 +77,7 @@ module _ (world : World) (reach : Reach) (is : IsWorldOf world.image reach world
         subst (λ (x : HeadAndForest). All (λ (e : Entry). e.decl < length (table_at world.tables (get_or world.table_of u 0)).table.decls) x.forest.entries) (sym (unit_is u)) known;
     rising = is.holds.tables.rising;
     few =
-        let all : sum_by entries_in world.units ≡ sum_by (λ (u : UnitRead). length u.forest.entries) units_read = ap (sum_by entries_in) is.holds.units ∙ sum_of_units units_read in
+        let all : sum_by entries_in world.units ≡ sum_by (λ (u : UnitRead). length u.forest.entries) units_read = ap (sum_by entries_in) is.holds.units ∙ sum_by-map entries_in head_and_forest units_read in
         let most = is.read.parts.units.within.entries in
         omega (arith, all, most);
   }
@@ -102,10 +98,25 @@ module _ (world : World) (reach : Reach) (is : IsWorldOf world.image reach world
       let stands : IsTable (unit_among units_read u).table = (debug_abbrev world.image, (unit_among units_read u).head.table, (read_at u named.1).table) in
       subst (λ (t : NamedTable). IsTable t.table) (sym same) stands
 
-  pub counts_known : (units : List HeadAndForest) (tables : List NamedTable) (all : List Uses) → tables ≡ world.tables → AreCounted units tables all → AreCountsOf tables all
-  counts_known units tables all same counted = record {
-    stand = subst (λ (ts : List NamedTable). (i : ℕ) → i < length ts → IsTable (table_at ts i).table) (sym same) table_known;
-    count = counted.count;
-    each = λ i below. (counted.each i below).count;
-    few = counted.few;
-  }
+  -- the units that have a table
+  pub of_table : (i : ℕ) → i < length world.tables → AreOfTable world.units (table_at world.tables i) (debug_info world.image) world.table_of i
+  of_table i below =
+      let all : AreCountable world.units world.tables world.table_of = countable trees_are_walks in
+      record {
+        stands = table_known i below;
+        named = λ u inside same. all.place u inside ∙ ap (λ (n : ℕ). (table_at world.tables n).place) same;
+        apart = λ u inside other same. elim (cases_lt (get_or world.table_of u 0) i) [
+          | inl less ↦ omega (arith, all.rising (get_or world.table_of u 0) i less below, all.place u inside, same)
+          | inr more ↦
+              let past : i < get_or world.table_of u 0 = (let o : get_or world.table_of u 0 ≢ i = other in omega arith) in
+              omega (arith, all.rising i (get_or world.table_of u 0) past (all.inside u inside), all.place u inside, same)
+        ];
+        lent = λ u inside same. ap (λ (x : HeadAndForest). x.forest.section) (unit_is u) ∙ (read_at u (omega (arith, inside, unit_count))).section;
+        held = λ u inside same.
+            let within : u < length units_read = omega (arith, inside, unit_count) in
+            let unit : UnitRead = unit_among units_read u in
+            let table : unit.table ≡ (table_at world.tables i).table = sym (ap (λ (t : NamedTable). t.table) (is.holds.tables.each u within)) ∙ ap (λ (n : ℕ). (table_at world.tables n).table) same in
+            let read : IsUnitHeld (debug_info world.image) unit.head (declarations_of (table_at world.tables i).table) unit.forest = subst (λ (t : Listing). IsUnitHeld (debug_info world.image) unit.head (declarations_of t) unit.forest) table (read_at u within).entries in
+            subst (λ (x : HeadAndForest). IsUnitHeld (debug_info world.image) x.head (declarations_of (table_at world.tables i).table) x.forest) (sym (unit_is u)) read;
+        few = all.few;
+      }

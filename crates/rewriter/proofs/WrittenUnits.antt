@@ -10,13 +10,14 @@ use Rattle.abbrev_tables.specs.Listings.{Listing, IsTableAt}
 use Rattle.abbrev_tables.proofs.ListingStands.{declarations_stand}
 use Rattle.entry_arena.specs.declared.entry.Entry.{Entry}
 use Rattle.entry_arena.specs.declared.entry.ChainEnd.{ChainEnd}
+use Rattle.entry_arena.specs.Arena.{entry_at}
 use Rattle.entry_arena.specs.Trees.{listed_to}
 use Rattle.entry_read.specs.declared.head.UnitHead.{UnitHead}
 use Rattle.entry_read.specs.Heads.{unit_end, IsHead, Follow}
 use Rattle.entry_read.specs.Units.{HeadAndForest, end_of, declarations_of, IsWithin}
 use Rattle.unit_write.specs.declared.places.Places.{Places}
 use Rattle.unit_write.specs.Placing.{IsRenumbered}
-use Rattle.unit_write.specs.Moved.{IsMovedEntry, IsMovedEnd, AreMovedValues, IsWrittenAnew}
+use Rattle.unit_write.specs.Moved.{IsMovedEntry, IsMovedEnd, AreMovedValues, StandsShort, IsWrittenAnew}
 use Rattle.value_links.specs.Reading.{UnitRead, Reading, no_unit, unit_heads, unit_among, unit_at, counts_of, AreWithin, declarations, IsUnitRead, AreUnitsIn}
 use Rattle.value_links.specs.Laws.{IsBuilt}
 use Rattle.value_links.specs.World.{World, head_and_forest, table_at, Holds, IsWorldOf}
@@ -27,7 +28,7 @@ use Rattle.rewriter.specs.Numbers.{AreNewNumbers}
 use Rattle.rewriter.specs.Units.{IsUnitMoved, AreUnitsWritten}
 use Rattle.rewriter.specs.Held.{table_for, IsUnitBehind, StandAnew}
 use Rattle.rewriter.proofs.HeadsStay.{head_stays}
-use Rattle.rewriter.proofs.UnitsStay.{moved_stay, written_read}
+use Rattle.rewriter.proofs.UnitsStay.{moved_stay, short_stays, written_read}
 use Rattle.rewriter.proofs.Standing.{held_count, held_unit}
 use Rattle.rewriter.proofs.Final.{table_known, unit_once}
 use Rattle.rewriter.proofs.BuiltTables.{built_anew}
@@ -149,6 +150,11 @@ module _ (world : World) (reach : Reach) (tables : List NewTable) (places : List
         let same : AreMovedValues (unit_at r u).forest behind.numbers.held.items info w.forest = subst (λ (h : HeadAndForest). AreMovedValues h.forest behind.numbers.held.items info w.forest) held_as here in
         record { count = same.count; each = same.each }
 
+    short_there : (id : ℕ) → id < length w.forest.entries → StandsShort info (declarations_of anew.listing) w.forest.values (entry_at w.forest.entries id)
+    short_there id inside =
+        let stays : StandsShort (take (places_at places u).end info ++ drop (places_at places u).end info) (declarations_of anew.listing) w.forest.values (entry_at w.forest.entries id) = short_stays (take (places_at places u).end info) (drop (places_at places u).end info) w.head (declarations_of anew.listing) w.forest w.is_unit (entry_at w.forest.entries id) (w.short id inside) in
+        subst (λ (z : List ℕ). StandsShort z (declarations_of anew.listing) w.forest.values (entry_at w.forest.entries id)) joined stays
+
     placed_there : (map (λ (e : Entry). e.at) w.forest.entries ≡ (places_at places u).entries) × (map (λ (e : ChainEnd). e.at) w.forest.ends ≡ (places_at places u).ends) × (length (take (places_at places u).end info) ≡ (places_at places u).end)
     placed_there = one_place (unit_in world.units u) (table_for world u) (new_table_at tables (slice_index world.table_of u)).columns (new_table_at tables (slice_index world.table_of u)).numbers (places_at places u).start (map (λ (e : Entry). e.at) w.forest.entries) (places_at places u).entries (map (λ (e : ChainEnd). e.at) w.forest.ends) (places_at places u).ends (length (take (places_at places u).end info)) (places_at places u).end (table_coded world reach u is known) w.placed (are.each u known)
 
@@ -166,6 +172,7 @@ module _ (world : World) (reach : Reach) (tables : List NewTable) (places : List
       entries = subst (λ (h : HeadAndForest). AllZip (IsMovedEntry (new_table_at tables (slice_index world.table_of u)).numbers) h.forest.entries w.forest.entries) held_as w.entries;
       values = values_there;
       chain_ends = subst (λ (h : HeadAndForest). AllZip IsMovedEnd h.forest.ends w.forest.ends) held_as w.ends;
+      short = short_there;
       entry_places = placed_there.0;
       end_places = placed_there.1;
     }

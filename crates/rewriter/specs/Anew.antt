@@ -1,6 +1,8 @@
 -- What the new sections of a file mean.
 use Rattle.std.specs.Prelude.{◌≡◌, ◌<◌, ℕ, List, length, map, slice_index}
 use Rattle.leb_codec.specs.Numbering.{IsLeastNumbering, RiseByFallingUses, AreFirstNumbers}
+use Rattle.abbrev_tables.specs.Listings.{spec_at}
+use Rattle.column_forms.specs.Columns.{IsChosen}
 use Rattle.line_write.specs.Meaning.{ProgramMeaning, HaveMeanings}
 use Rattle.companions.specs.Aranges.{IsOutside, SetsTile}
 use Rattle.unit_write.specs.declared.places.Places.{Places}
@@ -11,7 +13,7 @@ use Rattle.value_links.specs.Laws.{HaveFewRows}
 use Rattle.value_links.specs.World.{World, head_and_forest, named_by}
 use Rattle.rewriter.specs.declared.tables.NewTable.{NewTable}
 use Rattle.rewriter.specs.declared.sections.NewSections.{NewSections}
-use Rattle.rewriter.specs.Tables.{AreUses, AreTablesWritten}
+use Rattle.rewriter.specs.Tables.{column_meanings, AreUses, AreTablesWritten}
 use Rattle.rewriter.specs.Placed.{ArePlacesOf}
 use Rattle.rewriter.specs.Units.{AreUnitsWritten}
 
@@ -56,3 +58,15 @@ pub record HasLeastCodes (r s : Reading) (u : ℕ) : Type 0 where
 abbrev pub HaveLeastCodes : List ℕ → List ℕ → Type 0
 HaveLeastCodes file written =
     (r : Reading) × (s : Reading) × IsReading file r × IsReading written s × ((u : ℕ) → u < length r.units → HasLeastCodes r s u)
+
+-- Each column of the declaration of an entry is in its least form: by the values that it has in all entries with the declaration,
+-- over all units that name its table. A column of references to entries keeps its form. Both files' declarations have these
+-- columns in one order.
+pub record HasLeastColumns (r s : Reading) (u id : ℕ) : Type 0 where
+  pub count : length (declaration_of (unit_at s u) id).columns ≡ length (declaration_of (unit_at r u) id).columns
+  pub each : (j : ℕ) → j < length (declaration_of (unit_at r u) id).columns → IsChosen (spec_at (declaration_of (unit_at r u) id).columns j) (column_meanings (map head_and_forest r.units) (unit_at r u).head.table (entry_of (unit_at r u) id).decl j) (spec_at (declaration_of (unit_at s u) id).columns j)
+
+-- this holds of all entries of a file that is written anew
+abbrev pub HaveLeastColumns : List ℕ → List ℕ → Type 0
+HaveLeastColumns file written =
+    (r : Reading) × (s : Reading) × IsReading file r × IsReading written s × ((u id : ℕ) → u < length r.units → id < length (unit_at r u).forest.entries → HasLeastColumns r s u id)

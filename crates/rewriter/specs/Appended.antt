@@ -1,21 +1,21 @@
 -- A table that is written behind others.
-use Rattle.std.specs.Prelude.{◌≡◌, ◌<◌, ◌^◌, ℕ, List, ◌++◌, length}
+use Rattle.std.specs.Prelude.{◌≡◌, ◌<◌, ℕ, List, ◌++◌, length}
 use Rattle.leb_codec.specs.Numbering.{IsLeastNumbering, RiseByFallingUses, AreFirstNumbers, used_count}
 use Rattle.abbrev_tables.specs.Listings.{Listing, IsTableAt}
 use Rattle.abbrev_tables.specs.Written.{IsWritten}
 use Rattle.entry_arena.specs.Trees.{bytes_between}
-use Rattle.entry_read.specs.Units.{declarations_of, IsTable}
+use Rattle.entry_read.specs.Units.{HeadAndForest, declarations_of}
 use Rattle.unit_write.specs.Placing.{IsRenumbered}
 use Rattle.value_links.specs.declared.units.NamedTable.{NamedTable}
 use Rattle.value_links.specs.World.{table_at}
 use Rattle.rewriter.specs.declared.uses.Uses.{Uses}
 use Rattle.rewriter.specs.declared.tables.NewTable.{NewTable}
-use Rattle.rewriter.specs.Tables.{TableAnew, TablesFollow, new_table_at}
+use Rattle.rewriter.specs.Tables.{TableAnew, AreColumnsChosen, TablesFollow, new_table_at}
 use Rattle.rewriter.specs.Counting.{counts_in}
 
 -- The table stands in the section as these uses of its declarations ask.
 pub record StandsAnew (section : List ℕ) (old : Listing) (uses : List ℕ) (new : TableAnew) : Type 0 where
-  pub columns : new.columns ≡ old.specs
+  pub renewed : length new.columns ≡ length old.specs
   pub least : IsLeastNumbering uses new.numbers
   pub order : RiseByFallingUses uses new.numbers
   pub first : AreFirstNumbers uses new.numbers
@@ -34,15 +34,9 @@ pub record IsAppended (old : Listing) (uses : List ℕ) (before section : List �
   pub stands : StandsAnew section old uses new
   pub end : stands.listing.end ≡ length section
 
--- the tables, of which each stands somewhere, have these uses of their declarations
-pub record AreCountsOf (tables : List NamedTable) (all : List Uses) : Type 0 where
-  pub stand : (i : ℕ) → i < length tables → IsTable (table_at tables i).table
-  pub count : length all ≡ length tables
-  pub each : (i : ℕ) → i < length tables → length (counts_in all i) ≡ length (table_at tables i).table.decls
-  pub few : (i : ℕ) → i < length tables → length (counts_in all i) < 2 ^ 32
-
--- the first of the tables stand one after the other, and are all of the section
-pub record AreAppended (tables : List NamedTable) (all : List Uses) (n : ℕ) (section : List ℕ) (new : List NewTable) : Type 0 where
+-- The first of the tables stand one after the other, and are all of the section. Each has its columns in their least forms.
+pub record AreAppended (units : List HeadAndForest) (tables : List NamedTable) (all : List Uses) (n : ℕ) (section : List ℕ) (new : List NewTable) : Type 0 where
   pub count : length new ≡ n
   pub tiled : TablesFollow section new 0
   pub each : (i : ℕ) → i < n → StandsAnew section (table_at tables i).table (counts_in all i) (new_table_at new i)
+  pub chosen : (i : ℕ) → i < n → AreColumnsChosen units (table_at tables i) (counts_in all i) (new_table_at new i).columns

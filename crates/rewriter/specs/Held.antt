@@ -1,6 +1,8 @@
 -- What parts of the rewriter of units know of a file that is held, and of what they have made of it.
 use Rattle.std.specs.Prelude.{◌≡◌, ◌≢◌, ◌≤◌, ◌<◌, ◌+◌, ◌^◌, ℕ, List, length, slice_index, take}
+use Rattle.std.specs.List.{All}
 use Rattle.form_codec.specs.declared.value.Value.{Value}
+use Rattle.form_codec.specs.declared.value.Value.TheVariants as value
 use Rattle.form_codec.specs.Values.{meant_in}
 use Rattle.abbrev_tables.specs.Tables.{Declared}
 use Rattle.abbrev_tables.specs.Listings.{Listing, decl_at, spec_at}
@@ -45,23 +47,29 @@ pub record AllHavePlaces (world : World) (places : List Places) : Type 0 where
   pub count : length places ≡ length world.units
   pub each : (u : ℕ) → u < length world.units → HavePlaces (unit_in world.units u).forest (places_at places u)
 
--- each line number program has a place
+-- each line number program has a place, which fits 32 bits
 abbrev pub HaveLines : World → List ℕ → Type 0
-HaveLines world lines = length lines ≡ length world.programs
+HaveLines world lines = (length lines ≡ length world.programs) × All (λ (start : ℕ). start < 2 ^ 32) lines
+
+-- a section offset has the 4 bytes of the 32-bit format (DWARF 5 section 7.4)
+abbrev pub FitsOffset : Value → Type 0
+FitsOffset (value.Offset n) = n < 2 ^ 32
+FitsOffset other = Unit {0}
 
 -- something that is read of the file says what the value of an attribute means
-pub record MeansSomething (world : World) (u name : ℕ) (value : Value) : Type 0 where
+pub record MeansSomething (world : World) (u name : ℕ) (v : Value) : Type 0 where
   pub file : List ℕ
   pub r : Reading
   pub holds : Holds file world r
   pub id : ℕ
   pub resolved : Resolved
-  pub resolves : Resolves r u id name (meant_in (unit_at r u).forest.section value) resolved
+  pub resolves : Resolves r u id name (meant_in (unit_at r u).forest.section v) resolved
+  pub fits : FitsOffset v
 
 -- the new number of such a value
 abbrev pub IsNumberOf : World → List Places → List ℕ → ℕ → ℕ → Value → ℕ → Type 0
-IsNumberOf world places lines u name value new =
-    (file : List ℕ) (r : Reading) → Holds file world r → IsNewNumber r places lines u name (meant_in (unit_at r u).forest.section value) new
+IsNumberOf world places lines u name v new =
+    (file : List ℕ) (r : Reading) → Holds file world r → IsNewNumber r places lines u name (meant_in (unit_at r u).forest.section v) new
 
 -- the table of a unit, an entry, the name of one of its attributes, and its value
 abbrev pub table_for : World → ℕ → Listing

@@ -11,3 +11,4 @@ pub mod Rewritten
 pub mod Bodies
 pub mod Tidy
 pub mod Held
+pub mod Columns

@@ -6,16 +6,17 @@ use Rattle.value_links.specs.Sections.{debug_line}
 use Rattle.value_links.specs.Faults.{IsValid}
 use Rattle.value_links.specs.Same.{Same}
 use Rattle.rewriter.specs.Sections.{IsPlaced}
-use Rattle.rewriter.specs.Anew.{HaveLeastCodes}
+use Rattle.rewriter.specs.Anew.{HaveLeastCodes, HaveLeastColumns}
 use Rattle.rewriter.specs.Tidy.{IsTidy}
 
--- The written file means the same and is valid within the wide limits. Its line number programs and the codes of its entries
--- take the fewest bytes, its tables and units hold nothing else, and its parts stand where they are to stand.
+-- The written file means the same and is valid within the wide limits. Its line number programs, the forms of its columns other than
+-- references to entries, and the codes of its entries take the fewest bytes, its tables and units hold nothing else, and its parts stand where they are to stand.
 pub record IsRewritten (file written : List ℕ) : Type 0 where
   pub same : Same file written
   pub still_valid : IsValid written Wide
   pub least : LeastLines (debug_line file) (debug_line written)
   pub order : OrderedLines (debug_line file) (debug_line written)
+  pub columns : HaveLeastColumns file written
   pub codes : HaveLeastCodes file written
   pub tidy : IsTidy file written
   pub placed : IsPlaced file written

@@ -1,11 +1,16 @@
 -- The abbreviation tables of a file written anew: one for each place that units name.
-use Rattle.std.specs.Prelude.{◌≡◌, ◌<◌, ℕ, List, [], ◌∷◌, length, slice_index, slice_index_or, nat_eq, if◌then◌else◌, count_by, map}
+use Rattle.std.specs.Prelude.{◌≡◌, ◌≢◌, ◌<◌, ◌+◌, ℕ, List, [], ◌∷◌, length, slice_index, slice_index_or, nat_eq, if◌then◌else◌, count_by, map, filter, flat_map}
 use Rattle.std.specs.List.{sum_by}
 use Rattle.leb_codec.specs.Numbering.{IsLeastNumbering, RiseByFallingUses, AreFirstNumbers, used_count}
+use Rattle.form_codec.specs.declared.value.Value.{Value}
+use Rattle.form_codec.specs.Forms.{Meaning}
+use Rattle.form_codec.specs.Values.{meant_in}
 use Rattle.abbrev_tables.specs.declared.decl.Spec.{Spec}
-use Rattle.abbrev_tables.specs.Listings.{Listing, IsTableAt}
+use Rattle.abbrev_tables.specs.Listings.{Listing, decl_at, spec_at, IsTableAt}
 use Rattle.abbrev_tables.specs.Written.{IsWritten}
+use Rattle.column_forms.specs.Columns.{IsChosen}
 use Rattle.entry_arena.specs.declared.entry.Entry.{Entry}
+use Rattle.entry_arena.specs.Arena.{value_at}
 use Rattle.entry_arena.specs.Trees.{bytes_between}
 use Rattle.entry_read.specs.Units.{HeadAndForest, declarations_of}
 use Rattle.unit_write.specs.Placing.{IsRenumbered}
@@ -39,13 +44,31 @@ pub record AreUses (units : List HeadAndForest) (table : NamedTable) (uses : Lis
   pub count : length uses ≡ length table.table.decls
   pub each : (number : ℕ) → number < length table.table.decls → slice_index uses number ≡ uses_of units table.place number
 
--- The table stands in the new section: its used declarations and no others, by rising code, with the columns that they have and
--- each LEB128 number shortest. They are numbered so that the codes are those from 1 on and take the least bytes in the table and
+-- the values that the entries of a unit have in one column of the declaration with a number, by the place of the column among
+-- those of the declaration
+abbrev pub values_with : ℕ → ℕ → HeadAndForest → List Value
+values_with number column unit = map (λ (e : Entry). value_at unit.forest.values (e.first + column)) (filter (λ (e : Entry). nat_eq e.decl number) unit.forest.entries)
+
+-- what the values of the column mean: those of all entries that have the declaration, over all units that name the place of its
+-- table
+abbrev pub column_meanings : List HeadAndForest → ℕ → ℕ → ℕ → List Meaning
+column_meanings units place number column =
+    flat_map (λ (unit : HeadAndForest). if nat_eq unit.head.table place then map (meant_in unit.forest.section) (values_with number column unit) else []) units
+
+-- The columns of a used declaration are the old ones, each but those of references in its least form for the values of all its
+-- entries. Those of a declaration that no entry has are never written.
+pub record AreColumnsChosen (units : List HeadAndForest) (old : NamedTable) (uses : List ℕ) (columns : List Spec) : Type 0 where
+  pub count : length columns ≡ length old.table.specs
+  pub each : (number j : ℕ) → number < length old.table.decls → slice_index uses number ≢ 0 → j < (decl_at old.table.decls number).count → IsChosen (spec_at old.table.specs ((decl_at old.table.decls number).first + j)) (column_meanings units old.place number j) (spec_at columns ((decl_at old.table.decls number).first + j))
+  pub unused : (number j : ℕ) → number < length old.table.decls → slice_index uses number ≡ 0 → j < (decl_at old.table.decls number).count → spec_at columns ((decl_at old.table.decls number).first + j) ≡ spec_at old.table.specs ((decl_at old.table.decls number).first + j)
+
+-- The table stands in the new section: its used declarations and no others, by rising code, each column but those of references
+-- in its least form, and each LEB128 number shortest. They are numbered so that the codes are those from 1 on and take the least bytes in the table and
 -- in all entries, by falling uses and then by place.
 pub record IsTableWritten (units : List HeadAndForest) (section : List ℕ) (old : NamedTable) (new : TableAnew) : Type 0 where
   pub uses : List ℕ
   pub used : AreUses units old uses
-  pub columns : new.columns ≡ old.table.specs
+  pub columns : AreColumnsChosen units old uses new.columns
   pub least : IsLeastNumbering uses new.numbers
   pub order : RiseByFallingUses uses new.numbers
   pub first : AreFirstNumbers uses new.numbers

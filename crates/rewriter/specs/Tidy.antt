@@ -1,13 +1,15 @@
 -- What .debug_abbrev and .debug_info of a written file hold, and that they hold nothing else.
 use Rattle.std.specs.Prelude.{◌≡◌, ◌<◌, ℕ, List, [], ◌∷◌, length, map, slice_index, slice_index_or}
+use Rattle.std.specs.List.{AllZip}
 use Rattle.abbrev_tables.specs.Listings.{Listing, IsTableAt}
 use Rattle.entry_arena.specs.declared.entry.Entry.{Entry}
 use Rattle.entry_arena.specs.declared.entry.ChainEnd.{ChainEnd}
+use Rattle.entry_arena.specs.Arena.{entry_at}
 use Rattle.entry_read.specs.Units.{end_of}
-use Rattle.unit_write.specs.Moved.{IsPlacedAt}
+use Rattle.unit_write.specs.Moved.{IsMovedEntry, IsPlacedAt, StandsShort}
 use Rattle.value_links.specs.declared.units.NamedTable.{NamedTable}
 use Rattle.value_links.specs.Sections.{debug_abbrev}
-use Rattle.value_links.specs.Reading.{UnitRead, Reading, unit_at, IsReading}
+use Rattle.value_links.specs.Reading.{UnitRead, Reading, unit_at, declarations, IsReading}
 use Rattle.value_links.specs.World.{head_and_forest, table_at, AreTablesOf}
 use Rattle.rewriter.specs.Tables.{TableAnew, IsTableWritten}
 
@@ -20,11 +22,13 @@ TablesStand section (table ∷ tables) at = (table.at ≡ at) × ((listing : Lis
 abbrev pub anew_at : List TableAnew → ℕ → TableAnew
 anew_at tables i = slice_index_or tables i (record { at = 0; columns = []; numbers = [] })
 
--- The new unit is its header and the entries of the old one, each in as many bytes as its new code and its values take with
--- shortest numbers, but for references in DW_FORM_ref_udata, which have five, and each code 0 in one byte. Nothing follows.
-abbrev pub IsTidyUnit : UnitRead → TableAnew → UnitRead → Type 0
-IsTidyUnit old table new =
-    IsPlacedAt (head_and_forest old) old.table table.columns table.numbers new.head.at (map (λ (e : Entry). e.at) new.forest.entries) (map (λ (e : ChainEnd). e.at) new.forest.ends) (end_of new.head)
+-- The new unit is its header and the entries of the old one, each with the declaration that corresponds, in as many bytes as its new code and its values take with
+-- shortest numbers, but for references in DW_FORM_ref_udata, which have five, and each code 0 in one byte. Nothing follows. So
+-- each code and each value has no byte too many.
+pub record IsTidyUnit (old : UnitRead) (table : TableAnew) (new : UnitRead) : Type 0 where
+  pub entries : AllZip (IsMovedEntry table.numbers) old.forest.entries new.forest.entries
+  pub placed : IsPlacedAt (head_and_forest old) old.table table.columns table.numbers new.head.at (map (λ (e : Entry). e.at) new.forest.entries) (map (λ (e : ChainEnd). e.at) new.forest.ends) (end_of new.head)
+  pub short : (id : ℕ) → id < length new.forest.entries → StandsShort new.forest.section (declarations new) new.forest.values (entry_at new.forest.entries id)
 
 -- The tables of the written file are those that units of the old one name, each once, in the order of their old places, with
 -- nothing between and behind them; each has the used declarations of the old one and no others. And its units are tidy.

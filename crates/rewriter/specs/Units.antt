@@ -3,12 +3,13 @@ use Rattle.std.specs.Prelude.{◌≡◌, ◌<◌, ℕ, List, length, map, slice_
 use Rattle.std.specs.List.{AllZip}
 use Rattle.entry_arena.specs.declared.entry.Entry.{Entry}
 use Rattle.entry_arena.specs.declared.entry.ChainEnd.{ChainEnd}
+use Rattle.entry_arena.specs.Arena.{entry_at}
 use Rattle.entry_arena.specs.Trees.{listed_to}
 use Rattle.entry_read.specs.Units.{end_of}
 use Rattle.unit_write.specs.declared.places.Places.{Places}
 use Rattle.unit_write.specs.declared.write.NewNumbers.{NewNumbers}
 use Rattle.unit_write.specs.Placing.{IsRenumbered}
-use Rattle.unit_write.specs.Moved.{IsMovedEntry, IsMovedEnd, AreMovedValues}
+use Rattle.unit_write.specs.Moved.{IsMovedEntry, IsMovedEnd, AreMovedValues, StandsShort}
 use Rattle.value_links.specs.Reading.{UnitRead, Reading, declarations, unit_among, unit_at, AreUnitsIn}
 use Rattle.value_links.specs.Laws.{AreBuilt}
 use Rattle.value_links.specs.World.{World}
@@ -18,7 +19,7 @@ use Rattle.rewriter.specs.Placed.{places_at}
 use Rattle.rewriter.specs.Numbers.{AreNewNumbers}
 
 -- The new unit is the old one at its new places, up to its end: the same header but for its length and the places in it, and the
--- same entries, values and codes 0, with new numbers of declarations, references and section offsets.
+-- same entries, values and codes 0, with new numbers of declarations, references and section offsets. No byte is too many.
 pub record IsUnitMoved (world : World) (r : Reading) (tables : List NewTable) (places : List Places) (lines : List ℕ) (u : ℕ) (new : UnitRead) : Type 0 where
   pub numbers : NewNumbers
   pub numbered : AreNewNumbers world r tables places lines u numbers
@@ -32,6 +33,7 @@ pub record IsUnitMoved (world : World) (r : Reading) (tables : List NewTable) (p
   pub entries : AllZip (IsMovedEntry (new_table_at tables (slice_index world.table_of u)).numbers) (unit_at r u).forest.entries new.forest.entries
   pub values : AreMovedValues (unit_at r u).forest numbers.held.items new.forest.section (listed_to new.forest 0)
   pub chain_ends : AllZip IsMovedEnd (unit_at r u).forest.ends new.forest.ends
+  pub short : (id : ℕ) → id < length new.forest.entries → StandsShort new.forest.section (declarations new) new.forest.values (entry_at new.forest.entries id)
   pub entry_places : map (λ (e : Entry). e.at) new.forest.entries ≡ (places_at places u).entries
   pub end_places : map (λ (e : ChainEnd). e.at) new.forest.ends ≡ (places_at places u).ends
 

@@ -17,9 +17,6 @@ use std::alloc::Global;
 use unit_write::Places;
 use value_links::{World, sections_found};
 
-// The least length that a section of the 32-bit format can't have (DWARF 5 section 7.4).
-const LEAST_LONG: usize = 0xffff_ffff;
-
 // The body of the section with a name; none where no section has it.
 fn section_body<'i>(image: &'i Image<'_>, name: &[u8]) -> &'i [u8]
     ensures { result.now ≡ body_named image.now name.now }
@@ -32,24 +29,14 @@ fn section_body<'i>(image: &'i Image<'_>, name: &[u8]) -> &'i [u8]
     }
 }
 
-/// The body of a section, where it has fewer than the 2^32 - 1 bytes that one of the 32-bit format can't have (DWARF 5 section 7.4),
-/// or else NoMemory.
-pub fn fitting(body: Vec<u8>) -> Result<Vec<u8>, NoMemory>
-    ensures { IfOk result (λ same. (same.items ≡ body.items) × (length same.items < 2 ^ 32 - 1)) }
-{
-    if body.len() >= LEAST_LONG {
-        return Err(NoMemory);
-    }
-    Ok(body)
-}
-
-/// The line number programs of a file written anew. The only error is want of memory.
+/// The line number programs of a file written anew, in fewer than the 2^32 - 1 bytes that a section of the 32-bit format can't have
+/// (DWARF 5 section 7.4). The only error is want of memory.
 pub fn write_lines(alloc: Global, world: &World<'_>) -> Result<Lines, NoMemory>
     requires world { IsWorldOf world.now.image Narrow world.now }
     ensures stand { IfOk result (λ lines. StandAnew (debug_line world.now.image) world.now.programs lines.bytes.items lines.starts.items) }
     ensures least { IfOk result (λ lines. LeastLines (debug_line world.now.image) lines.bytes.items) }
     ensures order { IfOk result (λ lines. OrderedLines (debug_line world.now.image) lines.bytes.items) }
-    ensures fits { IfOk result (λ lines. length lines.bytes.items < 2 ^ 32) }
+    ensures fits { IfOk result (λ lines. length lines.bytes.items < 2 ^ 32 - 1) }
 {
     let section = section_body(world.image(), b".debug_line");
     shrink_lines(alloc, section, world.programs())

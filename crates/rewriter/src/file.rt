@@ -7,7 +7,7 @@ ghost use Rattle.value_links.specs.Faults.{IsValid, NamesFault};
 ghost use Rattle.value_links.specs.Same.{Same};
 ghost use Rattle.value_links.specs.World.{IsWorldOf};
 ghost use Rattle.rewriter.specs.Sections.{IsPlaced};
-ghost use Rattle.rewriter.specs.Anew.{HaveLeastCodes};
+ghost use Rattle.rewriter.specs.Anew.{HaveLeastCodes, HaveLeastColumns};
 ghost use Rattle.rewriter.specs.Tidy.{IsTidy};
 ghost use Rattle.rewriter.specs.Rewritten.{IsRewritten};
 
@@ -35,14 +35,22 @@ fn write_anew(alloc: Global, world: &World<'_>) -> Result<Vec<u8>, NoMemory>
 /// sections as they are. It is valid within the wide limits.
 ///
 /// Each line number program is the shortest that gives its rows (DWARF 5 section 6.2). Each abbreviation table that units name is
-/// written once, without unused declarations, with the codes that take the fewest bytes (DWARF 5 section 7.5.3). Every LEB128
-/// number has its fewest bytes, but a reference in DW_FORM_ref_udata, which has five. Bytes after a unit's entries are dropped.
+/// written once, without unused declarations, with the codes that take the fewest bytes (DWARF 5 section 7.5.3).
+///
+/// A column is what one attribute of a declaration has in all entries of the declaration, over all units that name its table. Each
+/// column of references to entries keeps its form. Every other column of a used declaration has the form in which its values and,
+/// for DW_FORM_implicit_const, the constant take the fewest bytes (DWARF 5 sections 7.5.5 and 7.5.6); among equals its own, else
+/// the one with the lowest code. So an entry may grow where its column as a whole shrinks.
+///
+/// Each number of a table, each code and each value in its form has its fewest bytes, but a reference in DW_FORM_ref_udata, which
+/// has five. An expression is kept byte for byte. Bytes after a unit's entries are dropped.
 pub fn rewrite(alloc: Global, file: &[u8]) -> Result<Vec<u8>, Refusal>
     ensures valid { IfOk result (λ _. IsValid file.now Narrow) }
     ensures same { IfOk result (λ written. Same file.now written.items) }
     ensures still_valid { IfOk result (λ written. IsValid written.items Wide) }
     ensures least { IfOk result (λ written. LeastLines (debug_line file.now) (debug_line written.items)) }
     ensures order { IfOk result (λ written. OrderedLines (debug_line file.now) (debug_line written.items)) }
+    ensures columns { IfOk result (λ written. HaveLeastColumns file.now written.items) }
     ensures codes { IfOk result (λ written. HaveLeastCodes file.now written.items) }
     ensures tidy { IfOk result (λ written. IsTidy file.now written.items) }
     ensures placed { IfOk result (λ written. IsPlaced file.now written.items) }

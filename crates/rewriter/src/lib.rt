@@ -5,11 +5,22 @@ mod anew;
 mod assemble;
 #[cfg(test)]
 mod assemble_tests;
+mod columns;
 mod file;
+#[cfg(test)]
+mod number_tests;
 mod numbers;
+#[cfg(test)]
+mod place_tests;
 mod places;
+#[cfg(test)]
+mod section_tests;
 mod sections;
 mod tables;
+#[cfg(test)]
+mod test_file;
+#[cfg(test)]
+mod unit_tests;
 mod units;
 mod uses;
 

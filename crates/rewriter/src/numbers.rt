@@ -1,6 +1,5 @@
 // The new numbers of references and section offsets.
-ghost use Rattle.std.specs.Prelude.{◌≡◌, ◌≤◌, ◌<◌, ◌+◌, ◌^◌, ◌++◌, ◌∷◌, [], ℕ, List, IfOk, OnOk, length};
-ghost use Rattle.std.specs.List.{All};
+ghost use Rattle.std.specs.Prelude.{◌≡◌, ◌≤◌, ◌<◌, ◌+◌, ◌^◌, ℕ, List, IfOk, OnOk, length};
 ghost use Rattle.dw_base.specs.declared.fault.Reach.{Reach};
 ghost use Rattle.form_codec.specs.Values.{meant_in};
 ghost use Rattle.entry_arena.specs.declared.entry.Target.{Target};
@@ -60,6 +59,7 @@ fn new_place(unit: &Unit<'_>, places: &Places, target: Target, old: u64) -> u64
     requires stands { IsTargetAt unit.now.forest target old }
     ensures moves { MovesTo unit.now.forest (places_anew places.now) old result }
     ensures after { places.now.start ≤ result }
+    ensures fits { result < 2 ^ 32 }
 {
     match target {
         Target::Entry(id) => u64::from(places.entries[id as usize]),
@@ -99,7 +99,8 @@ fn local_number(world: &World<'_>, places: &Vec<Places>, unit: u32, name: u64, o
     requires unit { unit < length world.now.units }
     requires placed { AllHavePlaces world.now places.now.items }
     requires means { MeansSomething world.now unit name (Value.LocalRef old) }
-    ensures { (lines : List ℕ) → IsNumberOf world.now places.now.items lines unit name (Value.LocalRef old) result }
+    ensures number { (lines : List ℕ) → IsNumberOf world.now places.now.items lines unit name (Value.LocalRef old) result }
+    ensures fits { result < 2 ^ 32 }
 {
     match link_of(world, unit, name, &Value::LocalRef(old)) {
         Link::Place(_, target) => {
@@ -117,7 +118,8 @@ fn section_number(world: &World<'_>, places: &Vec<Places>, unit: u32, name: u64,
     requires unit { unit < length world.now.units }
     requires placed { AllHavePlaces world.now places.now.items }
     requires means { MeansSomething world.now unit name (Value.SectionRef old) }
-    ensures { (lines : List ℕ) → IsNumberOf world.now places.now.items lines unit name (Value.SectionRef old) result }
+    ensures number { (lines : List ℕ) → IsNumberOf world.now places.now.items lines unit name (Value.SectionRef old) result }
+    ensures fits { result < 2 ^ 32 }
 {
     match link_of(world, unit, name, &Value::SectionRef(old)) {
         Link::Place(other, target) => {
@@ -134,7 +136,8 @@ fn offset_number(world: &World<'_>, lines: &Vec<u64>, unit: u32, name: u64, old:
     requires unit { unit < length world.now.units }
     requires lines { HaveLines world.now lines.now.items }
     requires means { MeansSomething world.now unit name (Value.Offset old) }
-    ensures { (places : List Places) → IsNumberOf world.now places lines.now.items unit name (Value.Offset old) result }
+    ensures number { (places : List Places) → IsNumberOf world.now places lines.now.items unit name (Value.Offset old) result }
+    ensures fits { result < 2 ^ 32 }
 {
     match link_of(world, unit, name, &Value::Offset(old)) {
         Link::Lines(program) => lines[program as usize],
@@ -157,7 +160,8 @@ fn new_number(
     requires placed { AllHavePlaces world.now places.now.items }
     requires lines { HaveLines world.now lines.now.items }
     requires means { MeansSomething world.now unit name value }
-    ensures { IsNumberOf world.now places.now.items lines.now.items unit name value result }
+    ensures number { IsNumberOf world.now places.now.items lines.now.items unit name value result }
+    ensures fits { result < 2 ^ 32 }
 {
     match value {
         Value::LocalRef(old) => local_number(world, places, unit, name, old),
@@ -165,18 +169,6 @@ fn new_number(
         Value::Offset(old) => offset_number(world, lines, unit, name, old),
         _ => 0,
     }
-}
-
-// Appends a number, which has to fit 32 bits.
-fn push_number(held: &mut Vec<u64>, number: u64) -> Result<(), NoMemory>
-    ensures pushed { OnOk result (held.new.items ≡ held.old.items ++ number ∷ []) }
-    ensures fits { OnOk result (number < 2 ^ 32) }
-{
-    if number > 0xffff_ffff {
-        return Err(NoMemory);
-    }
-    held.push(number)?;
-    Ok(())
 }
 
 // The name of an attribute of an entry.
@@ -221,7 +213,7 @@ fn push_numbers(
         let name = name_of(world, unit, id, column);
         let value = value_of(world, unit, id, column);
         let number = new_number(world, places, lines, unit, name, value);
-        push_number(held, number)?;
+        held.push(number)?;
     }
     Ok(())
 }
@@ -262,8 +254,7 @@ fn new_type_offset(unit: &Unit<'_>, places: &Places) -> u64
 }
 
 /// The new numbers of the unit with a number: the new places of all that its references and section offsets name. `lines` are the
-/// new places of the line number programs. The only error is want of memory, which also answers a number that doesn't fit the 32
-/// bits of an offset.
+/// new places of the line number programs. Each number fits the 32 bits of an offset. The only error is want of memory.
 pub fn new_numbers(
     alloc: Global,
     world: &World<'_>,
@@ -276,7 +267,7 @@ pub fn new_numbers(
     requires unit { unit < length world.now.units }
     requires tables { (abbrevs : List ℕ) × (length abbrevs < 2 ^ 32) × AreTablesWritten world.now abbrevs tables.now.items }
     requires places { (size : ℕ) × ArePlacesOf world.now tables.now.items places.now.items size }
-    requires lines { (length lines.now.items ≡ length world.now.programs) × All (λ start. start < 2 ^ 32) lines.now.items }
+    requires lines { HaveLines world.now lines.now.items }
     ensures numbers { IfOk result (λ new. (file : List ℕ) (r : Reading) → Holds file world.now r → AreNewNumbers world.now r tables.now.items places.now.items lines.now.items unit new) }
 {
     let held = new_held(alloc, world, places, lines, unit)?;

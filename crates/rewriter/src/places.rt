@@ -1,8 +1,10 @@
 // Where units stand in the new .debug_info.
-ghost use Rattle.std.specs.Prelude.{◌<◌, ◌^◌, ℕ, IfOk};
-ghost use Rattle.dw_base.specs.declared.fault.Reach.{Reach};
+ghost use Rattle.std.specs.Prelude.{◌≤◌, ◌<◌, ◌+◌, ℕ, IfOk};
+ghost use Rattle.dw_base.specs.declared.fault.Reach.TheVariants.{Narrow};
+ghost use Rattle.entry_read.specs.Heads.{least_reserved};
+ghost use Rattle.unit_write.specs.Most.{most_bytes};
 ghost use Rattle.value_links.specs.World.{IsWorldOf};
-ghost use Rattle.rewriter.specs.Placed.{AreWritable, ArePlacesOf};
+ghost use Rattle.rewriter.specs.Placed.{unit_in, AreWritable, ArePlacesOf};
 ghost use Rattle.rewriter.specs.Held.{HasTable, IsPlacedFrom};
 
 use crate::tables::NewTable;
@@ -11,7 +13,7 @@ use std::alloc::Global;
 use unit_write::{Places, place_unit};
 use value_links::World;
 
-// Where the unit with a number stands, from a place on.
+// Where the unit with a number stands, from a place on, which leaves room for it.
 fn place_numbered(
     alloc: Global,
     world: &World<'_>,
@@ -21,8 +23,9 @@ fn place_numbered(
 ) -> Result<Places, NoMemory>
     requires table { HasTable world.now tables.now.items number }
     requires writable { AreWritable world.now tables.now.items }
-    requires small { start < 2 ^ 32 }
-    ensures { IfOk result (IsPlacedFrom world.now tables.now.items number start) }
+    requires room { start + most_bytes (unit_in world.now.units number) < least_reserved }
+    ensures placed { IfOk result (IsPlacedFrom world.now tables.now.items number start) }
+    ensures most { IfOk result (λ places. places.end ≤ start + most_bytes (unit_in world.now.units number)) }
 {
     let table = world.table_numbers()[number] as usize;
     let unit = &world.units()[number];
@@ -32,13 +35,13 @@ fn place_numbered(
 }
 
 /// Where the units of a file stand in the new .debug_info, with their entries and the codes 0 that end chains, by the new columns
-/// and codes of their tables. The only error is want of memory.
+/// and codes of their tables. There is room for them: the file is within the narrow limits. The only error is want of memory.
 pub fn place_units(
     alloc: Global,
     world: &World<'_>,
     tables: &Vec<NewTable>,
 ) -> Result<Vec<Places>, NoMemory>
-    requires world { (reach : Reach) × IsWorldOf world.now.image reach world.now }
+    requires world { IsWorldOf world.now.image Narrow world.now }
     requires writable { AreWritable world.now tables.now.items }
     ensures placed { IfOk result (λ places. (size : ℕ) × ArePlacesOf world.now tables.now.items places.items size) }
 {

@@ -8,7 +8,7 @@ ghost use Rattle.value_links.specs.World.{Holds, IsWorldOf};
 ghost use Rattle.rewriter.specs.Sections.{AreFor};
 ghost use Rattle.rewriter.specs.Anew.{AreAnew};
 
-use crate::anew::{fitting, write_aranges, write_lines};
+use crate::anew::{write_aranges, write_lines};
 use crate::places::place_units;
 use crate::tables::write_tables;
 use crate::units::write_units;
@@ -32,8 +32,8 @@ pub struct NewSections {
 }
 
 /// Writes the debug sections of a file anew: its line number programs, then its abbreviation tables, then its units, and the sets
-/// of address ranges that name these. The only error is want of memory, which comes too where a section would have the 2^32 - 1
-/// bytes that one of the 32-bit format can't have (DWARF 5 section 7.4).
+/// of address ranges that name these. Each section has fewer than the 2^32 - 1 bytes that one of the 32-bit format can't have
+/// (DWARF 5 section 7.4). The only error is want of memory.
 pub fn write_sections(alloc: Global, world: &World<'_>) -> Result<NewSections, NoMemory>
     requires world { IsWorldOf world.now.image Narrow world.now }
     ensures anew { IfOk result (λ new. (r : Reading) → Holds world.now.image world.now r → (s : Reading) × AreAnew world.now.image world.now r s new) }
@@ -47,13 +47,12 @@ pub fn write_sections(alloc: Global, world: &World<'_>) -> Result<NewSections, N
     let lines = write_lines(alloc, world)?;
     let tables = write_tables(alloc, world)?;
     let places = place_units(alloc, world, &tables.tables)?;
-    let info = fitting(write_units(alloc, world, &tables, &places, &lines.starts)?)?;
+    let info = write_units(alloc, world, &tables, &places, &lines.starts)?;
     let aranges = write_aranges(alloc, world, &places)?;
-    let programs = fitting(lines.bytes)?;
     Ok(NewSections {
         info,
         abbrevs: tables.bytes,
-        lines: programs,
+        lines: lines.bytes,
         aranges,
     })
 }

@@ -1,6 +1,5 @@
 // Units written anew.
 ghost use Rattle.std.specs.Prelude.{◌≡◌, ◌<◌, ◌^◌, ℕ, List, IfOk, OnOk, length};
-ghost use Rattle.std.specs.List.{All};
 ghost use Rattle.dw_base.specs.declared.fault.Reach.{Reach};
 ghost use Rattle.leb_codec.specs.Digits.{Extends};
 ghost use Rattle.entry_read.specs.Heads.{least_reserved};
@@ -9,7 +8,7 @@ ghost use Rattle.value_links.specs.World.{IsWorldOf, Holds};
 ghost use Rattle.rewriter.specs.Tables.{AreTablesWritten};
 ghost use Rattle.rewriter.specs.Placed.{places_at, AreWritable, ArePlacesOf};
 ghost use Rattle.rewriter.specs.Units.{AreUnitsWritten};
-ghost use Rattle.rewriter.specs.Held.{IsUnitBehind};
+ghost use Rattle.rewriter.specs.Held.{HaveLines, IsUnitBehind};
 
 use crate::numbers::new_numbers;
 use crate::tables::Tables;
@@ -34,7 +33,7 @@ fn write_numbered(
     requires narrow { length tables.now.bytes.items < 2 ^ 32 }
     requires writable { AreWritable world.now tables.now.tables.items }
     requires places { (size : ℕ) × ArePlacesOf world.now tables.now.tables.items places.now.items size }
-    requires lines { (length lines.now.items ≡ length world.now.programs) × All (λ start. start < 2 ^ 32) lines.now.items }
+    requires lines { HaveLines world.now lines.now.items }
     requires behind { length info.old.items ≡ (places_at places.now.items number).start }
     ensures written { OnOk result (IsUnitBehind world.now tables.now.tables.items places.now.items lines.now.items number info.new.items) }
     ensures behind { OnOk result (Extends info.old.items info.new.items) }
@@ -62,15 +61,21 @@ pub fn write_units(
     requires narrow { length tables.now.bytes.items < 2 ^ 32 }
     requires writable { AreWritable world.now tables.now.tables.items }
     requires places { (size : ℕ) × ArePlacesOf world.now tables.now.tables.items places.now.items size }
-    requires lines { (length lines.now.items ≡ length world.now.programs) × All (λ start. start < 2 ^ 32) lines.now.items }
+    requires lines { HaveLines world.now lines.now.items }
     ensures written { IfOk result (λ info. (file : List ℕ) (r : Reading) → Holds file world.now r → (units : List UnitRead) × AreUnitsWritten world.now r tables.now.tables.items places.now.items lines.now.items info.items tables.now.bytes.items units) }
+    ensures fits { IfOk result (λ info. length info.items < least_reserved) }
 {
     let mut info: Vec<u8> = Vec::new(alloc);
     for number in 0..world.units().len() {
-        let Ok(number) = u32::try_from(number) else {
-            return Err(NoMemory);
-        };
-        write_numbered(alloc, &mut info, world, tables, places, lines, number)?;
+        write_numbered(
+            alloc,
+            &mut info,
+            world,
+            tables,
+            places,
+            lines,
+            number as u32,
+        )?;
     }
     Ok(info)
 }

@@ -14,3 +14,6 @@ returns-clause-order c = (rw c.in-Ok.ensures.world.holds.image at c.in_ok-write_
 
 pub returns-clause-tidy : goal.returns-clause-tidy
 returns-clause-tidy c = (rw c.in-Ok.ensures.world.holds.image at c.in_ok-write_anew.ensures.rewritten).tidy
+
+pub returns-clause-codes : goal.returns-clause-codes
+returns-clause-codes c = (rw c.in-Ok.ensures.world.holds.image at c.in_ok-write_anew.ensures.rewritten).codes

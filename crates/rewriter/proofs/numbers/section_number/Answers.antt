@@ -36,8 +36,8 @@ new_place-requires-clause-stands c =
     let there = own_is c.args.world.now c.in-Place.other c.units.result.now.items c.index-there.result.now is.0 c.units.ensures c.index-there.ensures in
     subst (λ (h : HeadAndForest). IsTargetAt h.forest c.in-Place.target c.args.old) (sym there) is.1
 
-pub returns : goal.returns
-returns c = λ lines file r holds.
+pub returns-clause-number : goal.returns-clause-number
+returns-clause-number c = λ lines file r holds.
     let m = c.requires.means in
     let is = section_held m.file c.args.world.now m.r c.args.old c.in-Place.other c.in-Place.target m.holds (refers_section m.r c.args.unit m.id c.args.name c.args.old c.in-Place.other c.in-Place.target (c.in-Place.ensures m.file m.r m.id m.holds)) in
     section_moved file c.args.world.now r c.args.places.now.items c.in-Place.other c.args.old c.new_place.result holds is.0 (moves_read c.args.world.now c.args.places.now.items c.in-Place.other c.units.result.now.items c.index-there.result.now c.index.result.now c.args.old c.new_place.result c.requires.placed is.0 c.units.ensures c.index-there.ensures c.index.ensures c.new_place.ensures.moves)

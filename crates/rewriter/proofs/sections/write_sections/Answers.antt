@@ -1,4 +1,4 @@
-use Rattle.std.proofs.Common.{◌<◌, ◌-◌, ◌^◌, ℕ, List, length, refl, subst, arith}
+use Rattle.std.proofs.Common.{refl, arith}
 use Rattle.rewriter.proofs.SectionsAnew.{parts_of, are_anew, are_for, writable, starts_fit, places_fit}
 use Rattle.rewriter.proofs.sections.write_sections.Goals as goal
 
@@ -15,7 +15,7 @@ write_units-requires-clause-writable c =
 
 pub write_units-requires-clause-lines : goal.write_units-requires-clause-lines
 write_units-requires-clause-lines c =
-    starts_fit _ c.args.world.now.programs c.in_ok-lines.lines.bytes.items c.in_ok-lines.lines.starts.items c.in_ok-lines.ensures.stand c.in_ok-lines.ensures.fits
+    starts_fit _ c.args.world.now.programs c.in_ok-lines.lines.bytes.items c.in_ok-lines.lines.starts.items c.in_ok-lines.ensures.stand (let fits = c.in_ok-lines.ensures.fits in omega (arith, fits))
 
 pub write_aranges-requires-clause-fit : goal.write_aranges-requires-clause-fit
 write_aranges-requires-clause-fit c =
@@ -24,13 +24,12 @@ write_aranges-requires-clause-fit c =
 pub returns-clause-anew : goal.returns-clause-anew
 returns-clause-anew c =
     λ r holds.
-    let parts = parts_of holds c.in_ok-lines.ensures.stand c.in_ok-tables.ensures.written c.in_ok-places.ensures.placed.1.count (c.in_ok-write_units.ensures.written c.args.world.now.image r holds) c.in_ok-aranges.ensures.tiled c.in_ok-aranges.ensures.others c.in_ok-aranges.ensures.size in
-    are_anew parts _ c.in_ok-info.ensures.0 refl c.in_ok-programs.ensures.0 refl c.in_ok-places.ensures.placed
+    let parts = parts_of holds c.in_ok-lines.ensures.stand c.in_ok-tables.ensures.written c.in_ok-places.ensures.placed.1.count (c.in_ok-info.ensures.written c.args.world.now.image r holds) c.in_ok-aranges.ensures.tiled c.in_ok-aranges.ensures.others c.in_ok-aranges.ensures.size in
+    are_anew parts _ refl refl refl refl c.in_ok-places.ensures.placed
 
 pub returns-clause-sections : goal.returns-clause-sections
 returns-clause-sections c =
     let w = c.requires.world in
-    let parts = parts_of w.holds c.in_ok-lines.ensures.stand c.in_ok-tables.ensures.written c.in_ok-places.ensures.placed.1.count (c.in_ok-write_units.ensures.written c.args.world.now.image w.r w.holds) c.in_ok-aranges.ensures.tiled c.in_ok-aranges.ensures.others c.in_ok-aranges.ensures.size in
-    let info = c.in_ok-info.ensures in
-    let lines = c.in_ok-programs.ensures in
-    are_for parts w.read w.valid _ info.0 refl lines.0 refl (subst (λ (z : List ℕ). length z < 2 ^ 32 - 1) info.0 info.1) c.in_ok-tables.ensures.fits (subst (λ (z : List ℕ). length z < 2 ^ 32 - 1) lines.0 lines.1)
+    let parts = parts_of w.holds c.in_ok-lines.ensures.stand c.in_ok-tables.ensures.written c.in_ok-places.ensures.placed.1.count (c.in_ok-info.ensures.written c.args.world.now.image w.r w.holds) c.in_ok-aranges.ensures.tiled c.in_ok-aranges.ensures.others c.in_ok-aranges.ensures.size in
+    let info = c.in_ok-info.ensures.fits in
+    are_for parts w.read w.valid _ refl refl refl refl (omega (arith, info)) c.in_ok-tables.ensures.fits c.in_ok-lines.ensures.fits

@@ -1,0 +1,57 @@
+-- A section offset that was read fits 32 bits.
+use Rattle.std.proofs.Common.{◌≡◌, ◌<◌, ◌^◌, inl, inr, ℕ, zero, suc, List, [], ◌∷◌, length, get_or, true, sym, subst, arith}
+use Rattle.std.specs.Prelude.{ℤ}
+use Rattle.std.proofs.lemmas.Bool.{cases_lt}
+use Rattle.std.proofs.lemmas.List.{get_or_past}
+use Rattle.byteorder.specs.Numbers.{little_from-lt}
+use Rattle.spelled.specs.Spelled.{AreBytes}
+use Rattle.form_codec.specs.declared.form.Form.{Form}
+use Rattle.form_codec.specs.declared.form.Form.TheVariants as form
+use Rattle.form_codec.specs.declared.value.Value.{Value}
+use Rattle.form_codec.specs.declared.value.Value.TheVariants as value
+use Rattle.form_codec.specs.Forms.{SpellsShape, SpellsValue, number, shape_of}
+use Rattle.form_codec.specs.Forms.Meaning.{SectionPlace}
+use Rattle.form_codec.specs.Values.{meant_in}
+use Rattle.abbrev_tables.specs.declared.decl.Spec.{Spec}
+use Rattle.entry_arena.specs.Arena.{value_at}
+use Rattle.entry_arena.specs.Trees.{ValuesBetween}
+use Rattle.unit_write.specs.Puts.{shape_moves}
+use Rattle.unit_write.proofs.ValueLaws.{shape_is}
+use Rattle.rewriter.specs.Held.{FitsOffset}
+
+-- the number in 4 bytes
+number_small : (bytes : List ℕ) → AreBytes bytes → number 4 bytes < 2 ^ 32
+unfolding number
+number_small bytes small =
+    let all : (k : ℕ) → get_or bytes k 0 < 256 = λ k. elim (cases_lt k (length bytes)) [
+      | inl inside ↦ small k inside
+      | inr past ↦ subst (λ (z : ℕ). z < 256) (sym (get_or_past bytes k 0 past)) (omega arith)
+    ] in
+    let low = little_from-lt 0 4 bytes all in
+    omega (arith, low)
+
+-- only DW_FORM_sec_offset spells a section offset
+place_small : (f : Form) (c : ℤ) (n : ℕ) (bytes : List ℕ) → AreBytes bytes → shape_moves (shape_of f c) ≡ true → SpellsShape (shape_of f c) (SectionPlace n) bytes → n < 2 ^ 32
+place_small form.Ref1 c n bytes small e p = absurd (cc (p.1))
+place_small form.Ref2 c n bytes small e p = absurd (cc (p.1))
+place_small form.Ref4 c n bytes small e p = absurd (cc (p.1))
+place_small form.Ref8 c n bytes small e p = absurd (cc (p.1))
+place_small form.RefUdata c n bytes small e p = absurd (cc (p.2))
+place_small form.RefAddr c n bytes small e p = absurd (cc (p.1))
+place_small form.SecOffset c n bytes small e p =
+    let same : n ≡ number 4 bytes = cc (p.1) in
+    subst (λ (z : ℕ). z < 2 ^ 32) (sym same) (number_small bytes small)
+place_small f c n bytes small e p = absurd (cc (e))
+
+offset_fits : (section : List ℕ) (v : Value) (code : ℕ) (c : ℤ) (bytes : List ℕ) → SpellsValue code c (meant_in section v) bytes → FitsOffset v
+offset_fits section (value.Offset n) code c bytes s =
+    place_small s.form c n bytes s.small (sym (shape_is (shape_of s.form c) (SectionPlace n) bytes s.spelled)) s.spelled
+offset_fits section v code c bytes s = tt
+
+-- those among the values of columns do
+pub offsets_fit : (section : List ℕ) (columns : List Spec) (values : List Value) (from to j : ℕ) → ValuesBetween section columns values from to → j < length values → FitsOffset (value_at values j)
+offsets_fit section [] [] from to j p below = absurd (omega (arith, below))
+offsets_fit section [] (v ∷ vs) from to j p below = absurd p
+offsets_fit section (c ∷ cs) [] from to j p below = absurd p
+offsets_fit section (c ∷ cs) (v ∷ vs) from to zero (next, s, placed, rest) below = offset_fits section v c.form c.constant _ s.spelled
+offsets_fit section (c ∷ cs) (v ∷ vs) from to (suc j) (next, s, placed, rest) below = offsets_fit section cs vs next to j rest (omega (arith, below))
