@@ -1,14 +1,24 @@
 //! Writes a linked file anew in fewer bytes.
 #![tactic(auto)]
 
+#[cfg(test)]
+mod column_tests;
 mod ending;
+#[cfg(test)]
+mod file_tests;
+#[cfg(test)]
+mod line_tests;
 mod reading;
 mod real_host;
 mod run;
+#[cfg(test)]
+mod sample_tests;
 mod saying;
 mod shrink;
 #[cfg(test)]
-mod tests;
+mod test_files;
+#[cfg(test)]
+mod unit_tests;
 mod words;
 mod writing;
 

@@ -4,7 +4,7 @@ ghost use Rattle.std.specs.Option.{ForSome};
 ghost use Rattle.dw_base.specs.Host.{Rose, AddsPart};
 ghost use Rattle.value_links.specs.Same.{Same};
 ghost use Rattle.rewriter.specs.Sections.{IsPlaced};
-ghost use Rattle.rewriter.specs.Anew.{HaveLeastCodes};
+ghost use Rattle.rewriter.specs.Anew.{HaveLeastCodes, HaveLeastColumns};
 ghost use Rattle.rewriter.specs.Tidy.{IsTidy};
 ghost use Rattle.shrink_app.specs.File.{IsValid, StaysValid, HasLeastLines, HasOrderedLines};
 ghost use Rattle.shrink_app.specs.Words.{asked};
@@ -18,7 +18,16 @@ use crate::words::names_of;
 use dw_base::Host;
 use std::alloc::Global;
 
-/// Does what the words ask for, and answers the program's status.
+/// Does what the words ask for, `shrink IN OUT`, and answers the program's status:
+///
+/// - 0: OUT was written. It means the same as IN and is least in the classes that docs/CLASSES.md tells.
+/// - 2: the words are others. `words` is said, and nothing else is done.
+/// - 3: IN isn't valid, and a fault of it is said: `refused KIND at PLACE`, where the place counts from the file's first byte.
+/// - 4: a call failed that reads IN.
+/// - 5: a call failed that writes OUT, or one that says a message.
+/// - 6: memory was wanting.
+///
+/// No file but OUT differs afterwards, and under 2, 3 and 4 none does. docs/PROMISES.md goes through the clauses.
 pub fn run<H: Host>(alloc: Global, words: &Vec<String>, host: &mut H) -> u8
     ensures known { (result ≤ 6) × (result ≢ 1) }
 
@@ -56,6 +65,7 @@ pub fn run<H: Host>(alloc: Global, words: &Vec<String>, host: &mut H) -> u8
     ensures still_valid { result ≡ 0 → IsSomeAnd (asked words.now.items) (λ n. Writes StaysValid (H.bytes host.old) (H.bytes host.new) n.0 n.1) }
     ensures least { result ≡ 0 → IsSomeAnd (asked words.now.items) (λ n. Writes HasLeastLines (H.bytes host.old) (H.bytes host.new) n.0 n.1) }
     ensures order { result ≡ 0 → IsSomeAnd (asked words.now.items) (λ n. Writes HasOrderedLines (H.bytes host.old) (H.bytes host.new) n.0 n.1) }
+    ensures columns { result ≡ 0 → IsSomeAnd (asked words.now.items) (λ n. Writes HaveLeastColumns (H.bytes host.old) (H.bytes host.new) n.0 n.1) }
     ensures codes { result ≡ 0 → IsSomeAnd (asked words.now.items) (λ n. Writes HaveLeastCodes (H.bytes host.old) (H.bytes host.new) n.0 n.1) }
     ensures tidy { result ≡ 0 → IsSomeAnd (asked words.now.items) (λ n. Writes IsTidy (H.bytes host.old) (H.bytes host.new) n.0 n.1) }
     ensures placed { result ≡ 0 → IsSomeAnd (asked words.now.items) (λ n. Writes IsPlaced (H.bytes host.old) (H.bytes host.new) n.0 n.1) }

@@ -1,0 +1,116 @@
+// Files in memory and on the disk: which are written, and what is answered where a file, a call or the words are at fault.
+use crate::line_tests::{LEAST_TWO_ROWS, TWO_ROWS};
+use crate::real_host::RealHost;
+use crate::run::run;
+use crate::test_files::{answer_to, elf_file, is_unwritten, is_written, shrunk, words_of};
+use dw_base::{Host, NamedFile, QuietHost};
+use std::test::Fail;
+
+#[test]
+fn files_that_are_written(rt: HostRuntime) -> Result<(), Fail> {
+    let alloc = rt.alloc();
+    // a file header, the names in 16 bytes, and two section headers
+    assert_eq!(rt; elf_file(alloc, &[])?.len(), 208);
+    let table: [(&[(&str, &[u8])], &[(&str, &[u8])]); 3] = [
+        (&[], &[]),
+        (&[(".debug_str", &[0])], &[(".debug_str", &[0])]),
+        (
+            &[(".debug_line", &TWO_ROWS), (".debug_str", &[0])],
+            &[(".debug_line", &LEAST_TWO_ROWS), (".debug_str", &[0])],
+        ),
+    ];
+    for (old, new) in table {
+        let answer = shrunk(alloc, old)?;
+        is_written(&rt, alloc, &answer, new)?;
+    }
+    Ok(())
+}
+
+#[test]
+fn files_that_are_no_elf_files(rt: HostRuntime) -> Result<(), Fail> {
+    let alloc = rt.alloc();
+    // the numbers of one whose byte 5 is 2 have the highest byte first
+    let mut other = elf_file(alloc, &[])?;
+    if let Some(byte) = other.get_mut(5) {
+        *byte = 2;
+    }
+    for input in [other, Vec::new(alloc)] {
+        let answer = answer_to(alloc, &["shrink", "a", "b"], Some(input), &[])?;
+        is_unwritten(&rt, &answer, 3, "refused NotElf64 at 0\n");
+    }
+    Ok(())
+}
+
+#[test]
+fn sections_that_are_refused(rt: HostRuntime) -> Result<(), Fail> {
+    let alloc = rt.alloc();
+    let table: [(&str, &[u8], &str); 2] = [
+        (".debug_macro", &[0; 4], "refused Companion at 64\n"),
+        (".debug_rnglists", &[0], "refused Unbuilt at 64\n"),
+    ];
+    for (name, body, said) in table {
+        let answer = shrunk(alloc, &[(name, body)])?;
+        is_unwritten(&rt, &answer, 3, said);
+    }
+    Ok(())
+}
+
+#[test]
+fn one_name_for_input_and_output(rt: HostRuntime) -> Result<(), Fail> {
+    let alloc = rt.alloc();
+    let input = elf_file(alloc, &[])?;
+    let answer = answer_to(alloc, &["shrink", "b", "b"], Some(input), &[])?;
+    is_unwritten(&rt, &answer, 2, "words\n");
+    Ok(())
+}
+
+#[test]
+fn an_input_that_is_missing(rt: HostRuntime) -> Result<(), Fail> {
+    let answer = answer_to(rt.alloc(), &["shrink", "a", "b"], None, &[])?;
+    is_unwritten(&rt, &answer, 4, "");
+    Ok(())
+}
+
+#[test]
+fn calls_that_fail(rt: HostRuntime) -> Result<(), Fail> {
+    let alloc = rt.alloc();
+    // the calls 0 and 1 read the input, and the next begins the output
+    let table = [(0u64, 4), (2, 5)];
+    for (failing, status) in table {
+        let input = elf_file(alloc, &[])?;
+        let answer = answer_to(alloc, &["shrink", "a", "b"], Some(input), &[failing])?;
+        is_unwritten(&rt, &answer, status, "");
+    }
+    Ok(())
+}
+
+#[test]
+fn quiet_files(rt: HostRuntime) -> Result<(), Fail> {
+    let alloc = rt.alloc();
+    let mut files = Vec::new(alloc);
+    files.push(NamedFile {
+        name: String::from_str(alloc, "a")?,
+        bytes: elf_file(alloc, &[])?,
+    })?;
+    let mut host = QuietHost::new(alloc, files);
+    let words = words_of(alloc, &["shrink", "a", "b"])?;
+    let output = elf_file(alloc, &[])?;
+    assert_eq!(rt; run(alloc, &words, &mut host), 0);
+    assert_eq!(rt; host.file("b").ok_or("no b")?.as_slice(), output.as_slice());
+    Ok(())
+}
+
+#[test]
+fn real_files(rt: HostRuntime) -> Result<(), Fail> {
+    let alloc = rt.alloc();
+    let mut host = RealHost::new(&rt, alloc);
+    let mut into = [0u8; 4];
+    assert_eq!(rt; host.begin("f").is_ok(), true);
+    assert_eq!(rt; host.append("f", b"ab").is_ok(), true);
+    assert_eq!(rt; host.append("f", b"c").is_ok(), true);
+    assert_eq!(rt; host.read_at("f", 1, &mut into), Ok(2));
+    assert_eq!(rt; into, [b'b', b'c', 0, 0]);
+    assert_eq!(rt; host.read_at("g", 0, &mut into).is_err(), true);
+    assert_eq!(rt; host.read_faults(), 1);
+    Ok(())
+}

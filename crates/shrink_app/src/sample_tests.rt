@@ -1,0 +1,198 @@
+// Two compiled files, in the manner of gcc and of clang. What their sections become was worked out by hand, byte for byte.
+use crate::line_tests::{LEAST_SAMPLE, NO_ROWS, SAMPLE};
+use crate::test_files::{is_unwritten, is_written, shrunk};
+use std::test::Fail;
+
+// In the manner of gcc, as it is compiled: a function `f` with a parameter `x`, whose places are in a location list with view
+// numbers.
+const GCC_INFO: [u8; 101] = [
+    0x61, 0, 0, 0, 5, 0, 1, 8, 0, 0, 0, 0, 1, 0, 0, 0, 0, 0x1d, 0, 0, 0, 0, 4, 0, 0, 0, 0, 0x10,
+    0x40, 0, 0, 0, 0, 0, 0x10, 0, 0, 0, 0, 0, 0, 0, 0, 0, 0, 0, 2, 0x66, 0, 1, 0x5d, 0, 0, 0, 0,
+    0x10, 0x40, 0, 0, 0, 0, 0, 0x10, 0, 0, 0, 0, 0, 0, 0, 1, 0x9c, 0x5d, 0, 0, 0, 3, 0x78, 0, 1,
+    0x5d, 0, 0, 0, 0x10, 0, 0, 0, 0x0c, 0, 0, 0, 0, 4, 4, 5, 0x69, 0x6e, 0x74, 0, 0,
+];
+
+const GCC_ABBREVS: [u8; 71] = [
+    1, 0x11, 1, 0x25, 0x0e, 0x13, 0x0b, 3, 0x1f, 0x1b, 0x1f, 0x11, 1, 0x12, 7, 0x10, 0x17, 0, 0, 2,
+    0x2e, 1, 0x3f, 0x19, 3, 8, 0x3a, 0x21, 1, 0x3b, 0x0b, 0x49, 0x13, 0x11, 1, 0x12, 7, 0x40, 0x18,
+    1, 0x13, 0, 0, 3, 5, 0, 3, 8, 0x3b, 0x0b, 0x49, 0x13, 2, 0x17, 0xb7, 0x42, 0x17, 0, 0, 4, 0x24,
+    0, 0x0b, 0x0b, 0x3e, 0x0b, 3, 8, 0, 0, 0,
+];
+
+const GCC_LOCATIONS: [u8; 30] = [
+    0x1a, 0, 0, 0, 5, 0, 8, 0, 0, 0, 0, 0, 0, 1, 1, 0, 4, 0, 4, 1, 0x55, 4, 4, 0x10, 4, 0xa3, 1,
+    0x55, 0x9f, 0,
+];
+
+// In the manner of clang, as it is compiled: strings, addresses and lists are told by their indexes.
+const CLANG_INFO: [u8; 77] = [
+    0x49, 0, 0, 0, 5, 0, 1, 8, 0, 0, 0, 0, 1, 0, 0x1d, 0, 1, 8, 0, 0, 0, 0, 0, 0, 0, 2, 0, 0, 0, 0,
+    0, 0, 0, 0, 0, 8, 0, 0, 0, 0x0c, 0, 0, 0, 0x0c, 0, 0, 0, 2, 0, 0x10, 0, 0, 0, 1, 0x57, 3, 0, 1,
+    0x48, 0, 0, 0, 3, 0, 4, 0, 1, 0x48, 0, 0, 0, 0, 4, 5, 5, 4, 0,
+];
+
+const CLANG_ABBREVS: [u8; 76] = [
+    1, 0x11, 1, 0x25, 0x25, 0x13, 5, 3, 0x25, 0x72, 0x17, 0x10, 0x17, 0x1b, 0x25, 0x11, 1, 0x55,
+    0x23, 0x73, 0x17, 0x74, 0x17, 0x8c, 1, 0x17, 0, 0, 2, 0x2e, 1, 0x11, 0x1b, 0x12, 6, 0x40, 0x18,
+    3, 0x25, 0x3a, 0x0b, 0x3b, 0x0b, 0x49, 0x13, 0x3f, 0x19, 0, 0, 3, 5, 0, 2, 0x22, 3, 0x25, 0x3a,
+    0x0b, 0x3b, 0x0b, 0x49, 0x13, 0, 0, 4, 0x24, 0, 3, 0x25, 0x3e, 0x0b, 0x0b, 0x0b, 0, 0, 0,
+];
+
+const CLANG_RANGES: [u8; 23] = [
+    0x13, 0, 0, 0, 5, 0, 8, 0, 1, 0, 0, 0, 4, 0, 0, 0, 3, 0, 0x10, 3, 1, 8, 0,
+];
+
+const CLANG_LOCATIONS: [u8; 32] = [
+    0x1c, 0, 0, 0, 5, 0, 8, 0, 1, 0, 0, 0, 4, 0, 0, 0, 1, 0, 4, 0, 4, 1, 0x55, 4, 4, 0x10, 4, 0xa3,
+    1, 0x55, 0x9f, 0,
+];
+
+const CLANG_ADDRESSES: [u8; 24] = [
+    0x14, 0, 0, 0, 5, 0, 8, 0, 0, 0x10, 0x40, 0, 0, 0, 0, 0, 0, 0x20, 0x40, 0, 0, 0, 0, 0,
+];
+
+// The sections stand from 64 on: .debug_info at 64, .debug_abbrev at 64 + 101, .debug_line at 165 + 71 and .debug_loclists at
+// 236 + 76.
+#[test]
+fn location_lists_of_gcc_are_refused(rt: HostRuntime) -> Result<(), Fail> {
+    let sections: [(&str, &[u8]); 4] = [
+        (".debug_info", &GCC_INFO),
+        (".debug_abbrev", &GCC_ABBREVS),
+        (".debug_line", &SAMPLE),
+        (".debug_loclists", &GCC_LOCATIONS),
+    ];
+    let answer = shrunk(rt.alloc(), &sections)?;
+    is_unwritten(&rt, &answer, 3, "refused Unbuilt at 312\n");
+    Ok(())
+}
+
+// .debug_info at 64, .debug_abbrev at 64 + 77, .debug_line at 141 + 76, and the first section of lists, .debug_rnglists, at
+// 217 + 34.
+#[test]
+fn lists_of_clang_are_refused(rt: HostRuntime) -> Result<(), Fail> {
+    let sections: [(&str, &[u8]); 6] = [
+        (".debug_info", &CLANG_INFO),
+        (".debug_abbrev", &CLANG_ABBREVS),
+        (".debug_line", &NO_ROWS),
+        (".debug_rnglists", &CLANG_RANGES),
+        (".debug_loclists", &CLANG_LOCATIONS),
+        (".debug_addr", &CLANG_ADDRESSES),
+    ];
+    let answer = shrunk(rt.alloc(), &sections)?;
+    is_unwritten(&rt, &answer, 3, "refused Unbuilt at 251\n");
+    Ok(())
+}
+
+// The unit of gcc without what names the location list: the parameter has no DW_AT_location (4 bytes) and no
+// DW_AT_GNU_locviews (4 bytes), so that the base type stands at 0x55. Line number programs stay in their own section, which has
+// to be there for DW_AT_stmt_list. The expression of DW_AT_frame_base is DW_OP_call_frame_cfa, which is kept.
+const GCC_INFO_WITHOUT_LISTS: [u8; 93] = [
+    0x59, 0, 0, 0, 5, 0, 1, 8, 0, 0, 0, 0, // the header
+    1, 0, 0, 0, 0, 0x1d, 0, 0, 0, 0, 4, 0, 0, 0, 0, 0x10, 0x40, 0, 0, 0, 0, 0, 0x10, 0, 0, 0, 0, 0,
+    0, 0, 0, 0, 0, 0, // the root at 0x0c
+    2, 0x66, 0, 1, 0x55, 0, 0, 0, 0, 0x10, 0x40, 0, 0, 0, 0, 0, 0x10, 0, 0, 0, 0, 0, 0, 0, 1, 0x9c,
+    0x55, 0, 0, 0, // the function at 0x2e
+    3, 0x78, 0, 1, 0x55, 0, 0, 0, 0, // the parameter at 0x4c
+    4, 4, 5, 0x69, 0x6e, 0x74, 0, 0, // the base type at 0x55
+];
+
+const GCC_ABBREVS_WITHOUT_LISTS: [u8; 66] = [
+    1, 0x11, 1, 0x25, 0x0e, 0x13, 0x0b, 3, 0x1f, 0x1b, 0x1f, 0x11, 1, 0x12, 7, 0x10, 0x17, 0, 0, 2,
+    0x2e, 1, 0x3f, 0x19, 3, 8, 0x3a, 0x21, 1, 0x3b, 0x0b, 0x49, 0x13, 0x11, 1, 0x12, 7, 0x40, 0x18,
+    1, 0x13, 0, 0, 3, 5, 0, 3, 8, 0x3b, 0x0b, 0x49, 0x13, 0, 0, 4, 0x24, 0, 0x0b, 0x0b, 0x3e, 0x0b,
+    3, 8, 0, 0, 0,
+];
+
+// The DW_AT_high_pc of the root and of the function, 16, has one byte in place of 8. So the unit is 14 bytes shorter (0x4b for
+// 0x59), and the base type stands at 0x47, where DW_AT_type (twice) and DW_AT_sibling name it. All else is as before: the codes,
+// since each declaration has one entry; the other numbers, which take one byte in any form, so that theirs stays; and
+// DW_AT_stmt_list, since the one program stands at 0.
+const LEAST_GCC_INFO: [u8; 79] = [
+    0x4b, 0, 0, 0, 5, 0, 1, 8, 0, 0, 0, 0, // the header
+    1, 0, 0, 0, 0, 0x1d, 0, 0, 0, 0, 4, 0, 0, 0, 0, 0x10, 0x40, 0, 0, 0, 0, 0, 0x10, 0, 0, 0, 0, // the root at 0x0c
+    2, 0x66, 0, 1, 0x47, 0, 0, 0, 0, 0x10, 0x40, 0, 0, 0, 0, 0, 0x10, 1, 0x9c, 0x47, 0, 0, 0, // the function at 0x27
+    3, 0x78, 0, 1, 0x47, 0, 0, 0, 0, // the parameter at 0x3e
+    4, 4, 5, 0x69, 0x6e, 0x74, 0, 0, // the base type at 0x47
+];
+
+// The two DW_AT_high_pc (0x12) are data1 (0x0b) in place of data8 (7): of data1, sdata, udata and implicit_const, with one byte
+// each, it has the lowest code.
+const LEAST_GCC_ABBREVS: [u8; 66] = [
+    1, 0x11, 1, 0x25, 0x0e, 0x13, 0x0b, 3, 0x1f, 0x1b, 0x1f, 0x11, 1, 0x12, 0x0b, 0x10, 0x17, 0, 0,
+    2, 0x2e, 1, 0x3f, 0x19, 3, 8, 0x3a, 0x21, 1, 0x3b, 0x0b, 0x49, 0x13, 0x11, 1, 0x12, 0x0b, 0x40,
+    0x18, 1, 0x13, 0, 0, 3, 5, 0, 3, 8, 0x3b, 0x0b, 0x49, 0x13, 0, 0, 4, 0x24, 0, 0x0b, 0x0b, 0x3e,
+    0x0b, 3, 8, 0, 0, 0,
+];
+
+#[test]
+fn a_unit_in_the_manner_of_gcc(rt: HostRuntime) -> Result<(), Fail> {
+    let old: [(&str, &[u8]); 3] = [
+        (".debug_info", &GCC_INFO_WITHOUT_LISTS),
+        (".debug_abbrev", &GCC_ABBREVS_WITHOUT_LISTS),
+        (".debug_line", &SAMPLE),
+    ];
+    let new: [(&str, &[u8]); 3] = [
+        (".debug_info", &LEAST_GCC_INFO),
+        (".debug_abbrev", &LEAST_GCC_ABBREVS),
+        (".debug_line", &LEAST_SAMPLE),
+    ];
+    let answer = shrunk(rt.alloc(), &old)?;
+    is_written(&rt, rt.alloc(), &answer, &new)
+}
+
+// The unit of clang without what names lists: the root has no DW_AT_ranges (1 byte), DW_AT_rnglists_base and
+// DW_AT_loclists_base (4 bytes each), and the parameter has no DW_AT_location (1 byte), so that the base type stands at 0x3e.
+// DW_AT_str_offsets_base and DW_AT_addr_base, 8, are numbers that are kept, and so are the indexes of strings and of the
+// function's address. The expression of DW_AT_frame_base is DW_OP_reg7, which is kept.
+const CLANG_INFO_WITHOUT_LISTS: [u8; 67] = [
+    0x3f, 0, 0, 0, 5, 0, 1, 8, 0, 0, 0, 0, // the header
+    1, 0, 0x1d, 0, 1, 8, 0, 0, 0, 0, 0, 0, 0, 2, 0, 0, 0, 0, 0, 0, 0, 0, 8, 0, 0, 0, // the root at 0x0c
+    2, 0, 0x10, 0, 0, 0, 1, 0x57, 3, 0, 1, 0x3e, 0, 0, 0, // the function at 0x26
+    3, 4, 0, 1, 0x3e, 0, 0, 0, 0, // the parameter at 0x35
+    4, 5, 5, 4, 0, // the base type at 0x3e
+];
+
+const CLANG_ABBREVS_WITHOUT_LISTS: [u8; 67] = [
+    1, 0x11, 1, 0x25, 0x25, 0x13, 5, 3, 0x25, 0x72, 0x17, 0x10, 0x17, 0x1b, 0x25, 0x11, 1, 0x73,
+    0x17, 0, 0, 2, 0x2e, 1, 0x11, 0x1b, 0x12, 6, 0x40, 0x18, 3, 0x25, 0x3a, 0x0b, 0x3b, 0x0b, 0x49,
+    0x13, 0x3f, 0x19, 0, 0, 3, 5, 0, 3, 0x25, 0x3a, 0x0b, 0x3b, 0x0b, 0x49, 0x13, 0, 0, 4, 0x24, 0,
+    3, 0x25, 0x3e, 0x0b, 0x0b, 0x0b, 0, 0, 0,
+];
+
+// The DW_AT_language of the root, 29, has one byte in place of 2, and the DW_AT_high_pc of the function, 16, one in place of 4.
+// So the unit is 4 bytes shorter (0x3b for 0x3f), and the base type stands at 0x3a, where DW_AT_type (twice) names it. All else
+// is as before: indexes take one byte also in the other forms, so that theirs stays.
+const LEAST_CLANG_INFO: [u8; 63] = [
+    0x3b, 0, 0, 0, 5, 0, 1, 8, 0, 0, 0, 0, // the header
+    1, 0, 0x1d, 1, 8, 0, 0, 0, 0, 0, 0, 0, 2, 0, 0, 0, 0, 0, 0, 0, 0, 8, 0, 0, 0, // the root at 0x0c
+    2, 0, 0x10, 1, 0x57, 3, 0, 1, 0x3a, 0, 0, 0, // the function at 0x25
+    3, 4, 0, 1, 0x3a, 0, 0, 0, 0, // the parameter at 0x31
+    4, 5, 5, 4, 0, // the base type at 0x3a
+];
+
+// DW_AT_language (0x13) is data1 (0x0b) in place of data2 (5), and DW_AT_high_pc (0x12) in place of data4 (6).
+const LEAST_CLANG_ABBREVS: [u8; 67] = [
+    1, 0x11, 1, 0x25, 0x25, 0x13, 0x0b, 3, 0x25, 0x72, 0x17, 0x10, 0x17, 0x1b, 0x25, 0x11, 1, 0x73,
+    0x17, 0, 0, 2, 0x2e, 1, 0x11, 0x1b, 0x12, 0x0b, 0x40, 0x18, 3, 0x25, 0x3a, 0x0b, 0x3b, 0x0b,
+    0x49, 0x13, 0x3f, 0x19, 0, 0, 3, 5, 0, 3, 0x25, 0x3a, 0x0b, 0x3b, 0x0b, 0x49, 0x13, 0, 0, 4,
+    0x24, 0, 3, 0x25, 0x3e, 0x0b, 0x0b, 0x0b, 0, 0, 0,
+];
+
+// The program without opcodes and .debug_addr stay as they are.
+#[test]
+fn a_unit_in_the_manner_of_clang(rt: HostRuntime) -> Result<(), Fail> {
+    let old: [(&str, &[u8]); 4] = [
+        (".debug_info", &CLANG_INFO_WITHOUT_LISTS),
+        (".debug_abbrev", &CLANG_ABBREVS_WITHOUT_LISTS),
+        (".debug_line", &NO_ROWS),
+        (".debug_addr", &CLANG_ADDRESSES),
+    ];
+    let new: [(&str, &[u8]); 4] = [
+        (".debug_info", &LEAST_CLANG_INFO),
+        (".debug_abbrev", &LEAST_CLANG_ABBREVS),
+        (".debug_line", &NO_ROWS),
+        (".debug_addr", &CLANG_ADDRESSES),
+    ];
+    let answer = shrunk(rt.alloc(), &old)?;
+    is_written(&rt, rt.alloc(), &answer, &new)
+}
