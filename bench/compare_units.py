@@ -1,6 +1,6 @@
 #!/usr/bin/env python3
 """Compiles C sources with gcc and clang, runs the program on the result, and compares what readelf shows of units, entries and
-sets of address ranges before and after, with every offset replaced by the number of what stands there.
+sets of address ranges before and after, with every offset replaced by the number of what stands there. Forms aren't compared.
 
   bench/compare_units.py [--program PROGRAM] [FILE ..]
 
@@ -75,11 +75,17 @@ ENTRY = re.compile(r"^ <([0-9a-f]+)><([0-9a-f]+)>: Abbrev Number: (\d+)(?: \((\w
 UNIT = re.compile(r"^  (?:Compilation|Type) Unit @ offset (?:0x)?([0-9a-f]+)")
 # a reference is the whole value; in an expression it may be the index of an address
 OF_INFO = re.compile(r"^<0x([0-9a-f]+)>")
+# a whole number, which is shown in hexadecimal where its form is data8
+WHOLE = re.compile(r"^(?:0x[0-9a-f]+|-?[0-9]+)(?=\s|$)")
 
 
 def dump(path, what):
     run = subprocess.run(["readelf", "--debug-dump=" + what, path], capture_output=True, text=True, errors="replace")
     return run.stdout.splitlines()
+
+
+def in_decimal(found):
+    return str(int(found[0], 16 if found[0].startswith("0x") else 10))
 
 
 def programs(path):
@@ -120,7 +126,7 @@ def described(path):
             out.append(f"{m[1]} {heads.get(int(m[2], 16), 'nothing')}")
             lost += int(m[2], 16) not in heads
         elif m := re.match(r"^\s+<[0-9a-f]+>\s+(DW_AT_\S+|Unknown \S+ \S+)\s*:\s*(.*)", line):
-            name, value = m[1], m[2]
+            name, value = m[1], WHOLE.sub(in_decimal, m[2])
 
             def number(found):
                 nonlocal lost

@@ -1,7 +1,8 @@
 #!/usr/bin/env python3
 """Times the proved cores beside plain Rust that does the same work, and compares what they print.
 
-  bench/measure.py [--program PROGRAM] [--megabytes N] [--steps N] [--pairs N] [--slots N] [--values N] [--runs N]
+  bench/measure.py [--program PROGRAM] [--megabytes N] [--steps N] [--pairs N] [--slots N] [--values N]
+                   [--columns N] [--runs N]
 
 The proved program is built by `rt run` in crates/measure, and the plain ones from bench/plain by rustc. Each run is
 timed whole, its start included; the least of the runs is taken, of wall time and of processor time each for itself.
@@ -73,13 +74,14 @@ def main():
     parser.add_argument("--pairs", type=int, default=1000, help="programs of 201 rows, whose least pairs are sought")
     parser.add_argument("--slots", type=int, default=1 << 22)
     parser.add_argument("--values", type=int, default=2_000_000, help="values drawn, each of which is read 64 times")
+    parser.add_argument("--columns", type=int, default=10_000_000, help="values of columns, summed in each form")
     parser.add_argument("--runs", type=int, default=3)
     options = parser.parse_args()
     if not os.path.exists(options.program):
         sys.exit(f"{options.program} is missing: run `rt run` in crates/measure")
     with tempfile.TemporaryDirectory(dir=os.environ.get("TMPDIR")) as scratch:
-        names = ("lines", "steps", "pairs", "layout", "values", "entries")
-        lines, steps, pairs, layout, values, entries = (build(name, scratch) for name in names)
+        names = ("lines", "steps", "pairs", "layout", "values", "columns", "entries")
+        lines, steps, pairs, layout, values, columns, entries = (build(name, scratch) for name in names)
         section = os.path.join(scratch, "section")
         units = os.path.join(scratch, "units")
         for script, file in (("make_lines.py", section), ("make_entries.py", units)):
@@ -90,6 +92,7 @@ def main():
         same &= measure(options.program, pairs, "pairs", str(options.pairs), ["pairs"], options.runs)
         same &= measure(options.program, layout, "layout", str(options.slots), ["slots"], options.runs)
         same &= measure(options.program, values, "values", str(options.values), ["values", "bytes"], options.runs)
+        same &= measure(options.program, columns, "columns", str(options.columns), ["values"], options.runs)
         same &= measure(options.program, entries, "entries", units, ["entries", "values"], options.runs)
     print(f"load average {os.getloadavg()[0]:.1f} on {os.cpu_count()} processors")
     return 0 if same else 1

@@ -1,6 +1,7 @@
 //! Runs the proved cores on large inputs, so that they can be timed beside plain programs.
 #![tactic(auto)]
 
+mod columns;
 mod draws;
 mod entries;
 mod layout;
@@ -10,6 +11,7 @@ mod steps;
 mod values;
 mod words;
 
+use columns::{WIDTH, least_columns};
 use entries::totals_of_entries;
 use layout::{SLOT_LIMIT, totals_of_layout};
 use lines::sums_of;
@@ -94,6 +96,18 @@ fn measure_entries(rt: &HostRuntime, file: &str) -> io::Result<()> {
     }
 }
 
+fn measure_columns(rt: &HostRuntime, count: u64) -> io::Result<()> {
+    let entries = count / WIDTH;
+    let Ok(columns) = least_columns(rt.alloc(), entries) else {
+        return Err(ErrorKind::OutOfMemory.into());
+    };
+    print!(rt; "{} values, forms", entries * WIDTH)?;
+    for column in &columns {
+        print!(rt; " {}", column.form)?;
+    }
+    println!(rt)
+}
+
 fn main(rt: HostRuntime) -> io::Result<ExitCode> {
     let words = arguments(&rt)?;
     match work_of(&words) {
@@ -102,10 +116,11 @@ fn main(rt: HostRuntime) -> io::Result<ExitCode> {
         Some(Work::Pairs(count)) => measure_pairs(&rt, count)?,
         Some(Work::Layout(count)) => measure_layout(&rt, count)?,
         Some(Work::Values(count)) => measure_values(&rt, count)?,
+        Some(Work::Columns(count)) => measure_columns(&rt, count)?,
         Some(Work::Entries(file)) => measure_entries(&rt, file)?,
         None => {
             eprintln!(rt;
-                "usage: measure lines FILE | measure steps COUNT | measure pairs COUNT | measure layout COUNT | measure values COUNT | measure entries FILE"
+                "usage: measure lines FILE | measure steps COUNT | measure pairs COUNT | measure layout COUNT | measure values COUNT | measure columns COUNT | measure entries FILE"
             )?;
             return Ok(ExitCode::from(2));
         }

@@ -147,7 +147,7 @@ pub fn drawn_entries(alloc: Global, count: u64) -> Result<Entries, NoMemory>
 /// The number of a value, or the length of its bytes.
 pub fn held(value: Value) -> u64 {
     match value {
-        Value::Int(number) => (number.cast_unsigned() & 0xffff_ffff_ffff_ffff) as u64,
+        Value::Int(number) => (number.get().cast_unsigned() & 0xffff_ffff_ffff_ffff) as u64,
         Value::Flag(is_set) => u64::from(is_set),
         Value::Wide16(span) | Value::Block(span) | Value::Expr(span) | Value::Text(span) => {
             span.len

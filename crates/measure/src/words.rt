@@ -13,6 +13,8 @@ pub enum Work<'a> {
     Layout(u32),
     /// So many values of attributes.
     Values(u64),
+    /// The columns of a table with so many values.
+    Columns(u64),
     /// The entries of this file, which holds the bytes of a .debug_info section. The table of all units stands in a file
     /// with the same name and `.abbrev` behind it.
     Entries(&'a str),
@@ -30,6 +32,7 @@ pub fn work_of(words: &[String]) -> Option<Work<'_>> {
         "pairs" => Some(Work::Pairs(operand.parse().ok()?)),
         "layout" => Some(Work::Layout(operand.parse().ok()?)),
         "values" => Some(Work::Values(operand.parse().ok()?)),
+        "columns" => Some(Work::Columns(operand.parse().ok()?)),
         "entries" => Some(Work::Entries(operand)),
         _ => None,
     }
