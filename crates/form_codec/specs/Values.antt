@@ -1,5 +1,5 @@
 -- Values with spans, which count from the first byte of their section.
-use Rattle.std.specs.Prelude.{◌≡◌, ◌≤◌, ◌+◌, ◌-◌, ℕ, ℤ, List, length, take, drop}
+use Rattle.std.specs.Prelude.{◌≡◌, ◌≢◌, ◌≤◌, ◌<◌, ◌+◌, ◌-◌, ℕ, ℤ, List, length, take, drop, slice_index}
 use Rattle.dw_base.specs.declared.fault.Span.{Span}
 use Rattle.spelled.specs.Spelled.{AreBytes}
 use Rattle.form_codec.specs.declared.value.Value.{Value}
@@ -70,8 +70,15 @@ pub record IsReadValue (code : ℕ) (constant : ℤ) (section : List ℕ) (at en
   pub spelled : SpellsValue code constant (meant_in section r.value) (take (r.end - at) (drop at section))
   pub placed : IsPlaced r.value at r.end
 
--- what readers of a shape give: what the front of the bytes spells, with spans that count from their first
-pub record IsReadShape (shape : Shape) (rest : List ℕ) (r : ReadValue) : Type 0 where
-  pub inside : r.end ≤ length rest
-  pub spelled : SpellsShape shape (meant_in rest r.value) (take r.end rest)
-  pub placed : IsPlaced r.value 0 r.end
+-- the first byte that is 0 stands at a place
+pub record IsFirstZero (place : ℕ) (bytes : List ℕ) : Type 0 where
+  pub inside : place < length bytes
+  pub zero_there : slice_index bytes place ≡ 0
+  pub clear : (k : ℕ) → k < place → slice_index bytes k ≢ 0
+
+-- what readers of a shape give: what the bytes from a place up to the answered end spell
+pub record IsReadShape (shape : Shape) (bytes : List ℕ) (at : ℕ) (r : ReadValue) : Type 0 where
+  pub starts : at ≤ r.end
+  pub inside : r.end ≤ length bytes
+  pub spelled : SpellsShape shape (meant_in bytes r.value) (take (r.end - at) (drop at bytes))
+  pub placed : IsPlaced r.value at r.end

@@ -1,11 +1,11 @@
 // Values of all forms, read.
-ghost use Rattle.std.specs.Prelude.{◌≡◌, ◌≤◌, ◌<◌, ◌+◌, ◌-◌, ◌*◌, ◌%◌, ◌^◌, ℕ, ℤ, List, ◌↔◌, length, take, drop, IfOk, IfErr, IsTrue};
+ghost use Rattle.std.specs.Prelude.{◌≡◌, ◌≤◌, ◌<◌, ◌+◌, ◌-◌, ◌*◌, ◌%◌, ◌^◌, ℕ, ℤ, List, ◌↔◌, length, take, drop, IfOk, IfErr, IsTrue, MatchOption};
 ghost use Rattle.form_codec.specs.declared.form.Shape.TheVariants as shape;
-ghost use Rattle.form_codec.specs.Forms.{IsKnown, size_of, number, data_of, in_role as meant_in_role, of_content as meant_content};
+ghost use Rattle.form_codec.specs.Forms.{IsKnown, size_of, shape_of, number, data_of, in_role as meant_in_role, of_content as meant_content, HasNoZero};
 ghost use Rattle.form_codec.specs.Faults.{FaultShape, FaultValue};
-ghost use Rattle.form_codec.specs.Values.{meant_in, bytes_in, LiesIn, IsPlaced, IsReadShape, IsReadValue, IsValueIn};
+ghost use Rattle.form_codec.specs.Values.{meant_in, bytes_in, IsPlaced, IsReadShape, IsReadValue, IsValueIn, IsFirstZero};
 
-use crate::form::{Content, Form, Role, Shape, Width};
+use crate::form::{Content, Form, Role, Width};
 use crate::value::{ReadValue, Value};
 use crate::whole::Whole;
 use byteorder::{ByteOrder, LittleEndian};
@@ -76,25 +76,30 @@ fn number_of(rest: &[u8], width: Width) -> u64
     }
 }
 
-fn read_number(rest: &[u8], width: Width, role: Role) -> Result<ReadValue, Kind>
-    ensures read { IfOk result (IsReadShape (shape.Number width role) rest.now) }
-    ensures fault { IfErr result (λ kind. FaultShape (shape.Number width role) kind rest.now) }
+// Reads a number of fixed size that begins at a place.
+fn read_number(bytes: &[u8], at: usize, width: Width, role: Role) -> Result<ReadValue, Kind>
+    requires { at ≤ length bytes.now }
+    ensures read { IfOk result (IsReadShape (shape.Number width role) bytes.now at) }
+    ensures fault { IfErr result (λ kind. FaultShape (shape.Number width role) kind (drop at bytes.now)) }
 {
-    let end = usize::from(width.size());
-    if rest.len() < end {
+    let rest = &bytes[at..];
+    let size = usize::from(width.size());
+    if rest.len() < size {
         return Err(Kind::Short);
     }
     Ok(ReadValue {
         value: in_role(role, width, number_of(rest, width)),
-        end,
+        end: at + size,
     })
 }
 
-fn read_uleb(rest: &[u8], role: Role) -> Result<ReadValue, Kind>
-    ensures read { IfOk result (IsReadShape (shape.Uleb role) rest.now) }
-    ensures fault { IfErr result (λ kind. FaultShape (shape.Uleb role) kind rest.now) }
+// Reads a number in unsigned LEB128.
+fn read_uleb(bytes: &[u8], at: usize, role: Role) -> Result<ReadValue, Kind>
+    requires { at ≤ length bytes.now }
+    ensures read { IfOk result (IsReadShape (shape.Uleb role) bytes.now at) }
+    ensures fault { IfErr result (λ kind. FaultShape (shape.Uleb role) kind (drop at bytes.now)) }
 {
-    match read_u(rest, 0) {
+    match read_u(bytes, at) {
         Ok(read) => Ok(ReadValue {
             value: in_role(role, Width::Eight, read.value),
             end: read.end,
@@ -104,11 +109,13 @@ fn read_uleb(rest: &[u8], role: Role) -> Result<ReadValue, Kind>
     }
 }
 
-fn read_sleb(rest: &[u8]) -> Result<ReadValue, Kind>
-    ensures read { IfOk result (IsReadShape shape.Sleb rest.now) }
-    ensures fault { IfErr result (λ kind. FaultShape shape.Sleb kind rest.now) }
+// Reads a constant in signed LEB128.
+fn read_sleb(bytes: &[u8], at: usize) -> Result<ReadValue, Kind>
+    requires { at ≤ length bytes.now }
+    ensures read { IfOk result (IsReadShape shape.Sleb bytes.now at) }
+    ensures fault { IfErr result (λ kind. FaultShape shape.Sleb kind (drop at bytes.now)) }
 {
-    match read_s(rest, 0) {
+    match read_s(bytes, at) {
         Ok(read) => Ok(ReadValue {
             value: Value::Int(Whole::signed(read.value)),
             end: read.end,
@@ -118,10 +125,13 @@ fn read_sleb(rest: &[u8]) -> Result<ReadValue, Kind>
     }
 }
 
-fn read_counted(rest: &[u8], width: Width) -> Result<ReadValue, Kind>
-    ensures read { IfOk result (IsReadShape (shape.Counted width) rest.now) }
-    ensures fault { IfErr result (λ kind. FaultShape (shape.Counted width) kind rest.now) }
+// Reads a count of fixed size and as many bytes.
+fn read_counted(bytes: &[u8], at: usize, width: Width) -> Result<ReadValue, Kind>
+    requires { at ≤ length bytes.now }
+    ensures read { IfOk result (IsReadShape (shape.Counted width) bytes.now at) }
+    ensures fault { IfErr result (λ kind. FaultShape (shape.Counted width) kind (drop at bytes.now)) }
 {
+    let rest = &bytes[at..];
     let size = usize::from(width.size());
     if rest.len() < size {
         return Err(Kind::Short);
@@ -132,20 +142,22 @@ fn read_counted(rest: &[u8], width: Width) -> Result<ReadValue, Kind>
     }
     Ok(ReadValue {
         value: Value::Block(Span {
-            at: size as u64,
+            at: (at + size) as u64,
             len: count,
         }),
-        end: size + count as usize,
+        end: at + size + count as usize,
     })
 }
 
-fn read_uleb_counted(rest: &[u8], content: Content) -> Result<ReadValue, Kind>
-    ensures read { IfOk result (IsReadShape (shape.UlebCounted content) rest.now) }
-    ensures fault { IfErr result (λ kind. FaultShape (shape.UlebCounted content) kind rest.now) }
+// Reads a count in unsigned LEB128 and as many bytes.
+fn read_uleb_counted(bytes: &[u8], at: usize, content: Content) -> Result<ReadValue, Kind>
+    requires { at ≤ length bytes.now }
+    ensures read { IfOk result (IsReadShape (shape.UlebCounted content) bytes.now at) }
+    ensures fault { IfErr result (λ kind. FaultShape (shape.UlebCounted content) kind (drop at bytes.now)) }
 {
-    match read_u(rest, 0) {
+    match read_u(bytes, at) {
         Ok(head) => {
-            if head.value > (rest.len() - head.end) as u64 {
+            if head.value > (bytes.len() - head.end) as u64 {
                 return Err(Kind::Short);
             }
             let span = Span {
@@ -162,85 +174,110 @@ fn read_uleb_counted(rest: &[u8], content: Content) -> Result<ReadValue, Kind>
     }
 }
 
-fn read_sixteen(rest: &[u8]) -> Result<ReadValue, Kind>
-    ensures read { IfOk result (IsReadShape shape.Sixteen rest.now) }
-    ensures fault { IfErr result (λ kind. FaultShape shape.Sixteen kind rest.now) }
+// Reads sixteen bytes.
+fn read_sixteen(bytes: &[u8], at: usize) -> Result<ReadValue, Kind>
+    requires { at ≤ length bytes.now }
+    ensures read { IfOk result (IsReadShape shape.Sixteen bytes.now at) }
+    ensures fault { IfErr result (λ kind. FaultShape shape.Sixteen kind (drop at bytes.now)) }
 {
-    if rest.len() < 16 {
+    if bytes.len() - at < 16 {
         return Err(Kind::Short);
     }
     Ok(ReadValue {
-        value: Value::Wide16(Span { at: 0, len: 16 }),
-        end: 16,
+        value: Value::Wide16(Span {
+            at: at as u64,
+            len: 16,
+        }),
+        end: at + 16,
     })
 }
 
-fn read_zero_ended(rest: &[u8]) -> Result<ReadValue, Kind>
-    ensures read { IfOk result (IsReadShape shape.ZeroEnded rest.now) }
-    ensures fault { IfErr result (λ kind. FaultShape shape.ZeroEnded kind rest.now) }
+// The place of the first zero byte.
+fn first_zero(bytes: &[u8]) -> Option<usize>
+    ensures { MatchOption result (HasNoZero bytes.now) (λ n. IsFirstZero n bytes.now) }
 {
-    for (place, byte) in rest.iter().enumerate() {
+    for (place, byte) in bytes.iter().enumerate() {
         if *byte == 0 {
-            return Ok(ReadValue {
-                value: Value::Text(Span {
-                    at: 0,
-                    len: place as u64,
-                }),
-                end: place + 1,
-            });
+            return Some(place);
         }
     }
-    Err(Kind::Text)
+    None
 }
 
-// Reads bytes of a shape at the front; spans count from there.
-fn read_shape(rest: &[u8], shape: Shape) -> Result<ReadValue, Kind>
-    ensures read { IfOk result (IsReadShape shape rest.now) }
-    ensures fault { IfErr result (λ kind. FaultShape shape kind rest.now) }
+// Reads a text up to a zero byte.
+fn read_zero_ended(bytes: &[u8], at: usize) -> Result<ReadValue, Kind>
+    requires { at ≤ length bytes.now }
+    ensures read { IfOk result (IsReadShape shape.ZeroEnded bytes.now at) }
+    ensures fault { IfErr result (λ kind. FaultShape shape.ZeroEnded kind (drop at bytes.now)) }
 {
-    match shape {
-        Shape::Constant(constant) => Ok(ReadValue {
+    let Some(len) = first_zero(&bytes[at..]) else {
+        return Err(Kind::Text);
+    };
+    Ok(ReadValue {
+        value: Value::Text(Span {
+            at: at as u64,
+            len: len as u64,
+        }),
+        end: at + len + 1,
+    })
+}
+
+// Reads a value in a form. Each form has an arm of its own, in which its shape is known, so that one jump finds the code.
+#[inline(always)]
+fn read_form(bytes: &[u8], at: usize, form: Form, constant: i64) -> Result<ReadValue, Kind>
+    requires { at ≤ length bytes.now }
+    ensures read { IfOk result (IsReadShape (shape_of form constant) bytes.now at) }
+    ensures fault { IfErr result (λ kind. FaultShape (shape_of form constant) kind (drop at bytes.now)) }
+{
+    match form {
+        Form::Addr => read_number(bytes, at, Width::Eight, Role::Address),
+        Form::Block2 => read_counted(bytes, at, Width::Two),
+        Form::Block4 => read_counted(bytes, at, Width::Four),
+        Form::Block1 => read_counted(bytes, at, Width::One),
+        Form::Block => read_uleb_counted(bytes, at, Content::Data),
+        Form::Data1 => read_number(bytes, at, Width::One, Role::Data),
+        Form::Data2 => read_number(bytes, at, Width::Two, Role::Data),
+        Form::Data4 => read_number(bytes, at, Width::Four, Role::Data),
+        Form::Data8 => read_number(bytes, at, Width::Eight, Role::Data),
+        Form::Data16 => read_sixteen(bytes, at),
+        Form::Sdata => read_sleb(bytes, at),
+        Form::Udata => read_uleb(bytes, at, Role::Unsigned),
+        Form::ImplicitConst => Ok(ReadValue {
             value: Value::Int(Whole::signed(constant)),
-            end: 0,
+            end: at,
         }),
-        Shape::Present => Ok(ReadValue {
+        Form::Flag => read_number(bytes, at, Width::One, Role::Truth),
+        Form::FlagPresent => Ok(ReadValue {
             value: Value::Flag(true),
-            end: 0,
+            end: at,
         }),
-        Shape::Number(width, role) => read_number(rest, width, role),
-        Shape::Uleb(role) => read_uleb(rest, role),
-        Shape::Sleb => read_sleb(rest),
-        Shape::Counted(width) => read_counted(rest, width),
-        Shape::UlebCounted(content) => read_uleb_counted(rest, content),
-        Shape::Sixteen => read_sixteen(rest),
-        Shape::ZeroEnded => read_zero_ended(rest),
-    }
-}
-
-// A span that counts from a place before.
-fn shifted(span: Span, at: usize) -> Span
-    requires { span.at + at < 2 ^ 64 }
-    ensures { (result.at ≡ at + span.at) × (result.len ≡ span.len) }
-{
-    Span {
-        at: at as u64 + span.at,
-        len: span.len,
-    }
-}
-
-// A value whose spans count from a place before.
-fn moved(value: Value, at: usize, size: usize) -> Value
-    requires lies { LiesIn size value }
-    requires fits { at + size < 2 ^ 64 }
-    ensures means { (bytes : List ℕ) → meant_in bytes result ≡ meant_in (drop at bytes) value }
-    ensures placed { (end : ℕ) → IsPlaced value 0 end → IsPlaced result at (at + end) }
-{
-    match value {
-        Value::Wide16(span) => Value::Wide16(shifted(span, at)),
-        Value::Block(span) => Value::Block(shifted(span, at)),
-        Value::Expr(span) => Value::Expr(shifted(span, at)),
-        Value::Text(span) => Value::Text(shifted(span, at)),
-        other => other,
+        Form::String => read_zero_ended(bytes, at),
+        Form::Strp => read_number(bytes, at, Width::Four, Role::StrOffset),
+        Form::LineStrp => read_number(bytes, at, Width::Four, Role::LineStrOffset),
+        Form::StrpSup => read_number(bytes, at, Width::Four, Role::SupStr),
+        Form::Strx => read_uleb(bytes, at, Role::StrIndex),
+        Form::Strx1 => read_number(bytes, at, Width::One, Role::StrIndex),
+        Form::Strx2 => read_number(bytes, at, Width::Two, Role::StrIndex),
+        Form::Strx3 => read_number(bytes, at, Width::Three, Role::StrIndex),
+        Form::Strx4 => read_number(bytes, at, Width::Four, Role::StrIndex),
+        Form::Addrx => read_uleb(bytes, at, Role::AddrIndex),
+        Form::Addrx1 => read_number(bytes, at, Width::One, Role::AddrIndex),
+        Form::Addrx2 => read_number(bytes, at, Width::Two, Role::AddrIndex),
+        Form::Addrx3 => read_number(bytes, at, Width::Three, Role::AddrIndex),
+        Form::Addrx4 => read_number(bytes, at, Width::Four, Role::AddrIndex),
+        Form::Ref1 => read_number(bytes, at, Width::One, Role::LocalRef),
+        Form::Ref2 => read_number(bytes, at, Width::Two, Role::LocalRef),
+        Form::Ref4 => read_number(bytes, at, Width::Four, Role::LocalRef),
+        Form::Ref8 => read_number(bytes, at, Width::Eight, Role::LocalRef),
+        Form::RefUdata => read_uleb(bytes, at, Role::LocalRef),
+        Form::RefAddr => read_number(bytes, at, Width::Four, Role::SectionRef),
+        Form::RefSig8 => read_number(bytes, at, Width::Eight, Role::Signature),
+        Form::RefSup4 => read_number(bytes, at, Width::Four, Role::SupRef),
+        Form::RefSup8 => read_number(bytes, at, Width::Eight, Role::SupRef),
+        Form::SecOffset => read_number(bytes, at, Width::Four, Role::Offset),
+        Form::Exprloc => read_uleb_counted(bytes, at, Content::Expression),
+        Form::Loclistx => read_uleb(bytes, at, Role::LocIndex),
+        Form::Rnglistx => read_uleb(bytes, at, Role::RangeIndex),
     }
 }
 
@@ -257,6 +294,8 @@ pub fn known(form: u64) -> bool
 ///
 /// The fault is Short where the bytes up to `end` end inside the value, LebWide where a LEB128 number in it doesn't fit
 /// 64 bits, and Text where a text has no zero byte before `end`. Its place is `origin + at`.
+// A call would cost more than most readings: its result is copied.
+#[inline(always)]
 pub fn read_value(
     section: &[u8],
     at: usize,
@@ -280,11 +319,8 @@ pub fn read_value(
             place,
         });
     };
-    match read_shape(&section[at..end], form.shape(constant)) {
-        Ok(read) => Ok(ReadValue {
-            value: moved(read.value, at, read.end),
-            end: at + read.end,
-        }),
+    match read_form(&section[..end], at, form, constant) {
+        Ok(read) => Ok(read),
         Err(kind) => Err(Fault { kind, place }),
     }
 }

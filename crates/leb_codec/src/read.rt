@@ -39,6 +39,7 @@ pub(crate) fn add_digit(sum: Option<u64>, place: usize, digit: u8) -> Option<u64
 }
 
 // Reads the number at the front.
+#[inline(never)]
 fn read_front(rest: &[u8]) -> Result<ReadU, LebFault>
     ensures within { IfOk result (λ r. r.end ≤ length rest.now) }
     ensures read { IfOk result (λ r. SpellsUnsigned (take r.end rest.now) r.value) }

@@ -1,7 +1,7 @@
 // Signed numbers read.
-ghost use Rattle.std.specs.Prelude.{◌≡◌, ◌≤◌, ◌<◌, ◌+◌, ◌-◌, ◌^◌, ◌↔◌, ℕ, Option, length, take, drop, IfOk, IfSome, IsErrOf, MatchOption, FitsSigned};
+ghost use Rattle.std.specs.Prelude.{◌≡◌, ◌≤◌, ◌<◌, ◌+◌, ◌-◌, ◌^◌, ◌↔◌, ◌∷◌, ℕ, Option, [], length, take, drop, IfOk, IfSome, IsErrOf, MatchOption, FitsSigned};
 ghost use Rattle.std.specs.Int.{w64};
-ghost use Rattle.leb_codec.specs.Leb.{SpellsSigned, IsShort, IsWideSigned, signed_of};
+ghost use Rattle.leb_codec.specs.Leb.{SpellsSigned, IsShort, IsWideSigned, signed_of, signed_weighed};
 ghost use Rattle.leb_codec.specs.Digits.{IsSum};
 
 use crate::read::{LebFault, add_digit};
@@ -29,7 +29,20 @@ fn signed(negative: bool, sum: Option<u64>, other: Option<u64>) -> Option<i64>
     Some(if negative { -1 - value } else { value })
 }
 
+// The number of one byte, whose bit 6 is the sign.
+fn signed_byte(byte: u8) -> i64
+    requires { byte < 128 }
+    ensures { result ≡ signed_weighed (byte ∷ []) }
+{
+    if byte < 64 {
+        i64::from(byte)
+    } else {
+        i64::from(byte) - 128
+    }
+}
+
 // Reads the signed number at the front.
+#[inline(never)]
 fn read_signed_front(rest: &[u8]) -> Result<ReadS, LebFault>
     ensures within { IfOk result (λ r. r.end ≤ length rest.now) }
     ensures read { IfOk result (λ r. SpellsSigned (take r.end rest.now) r.value) }
@@ -56,6 +69,23 @@ fn read_signed_front(rest: &[u8]) -> Result<ReadS, LebFault>
     Err(LebFault::Short)
 }
 
+// The same, with a short way for one byte, which most numbers have.
+fn read_signed(rest: &[u8]) -> Result<ReadS, LebFault>
+    ensures within { IfOk result (λ r. r.end ≤ length rest.now) }
+    ensures read { IfOk result (λ r. SpellsSigned (take r.end rest.now) r.value) }
+    ensures fits { IfOk result (λ r. FitsSigned w64 r.value) }
+    ensures short { IsErrOf result LebFault.Short ↔ IsShort rest.now }
+    ensures wide { IsErrOf result LebFault.Wide ↔ IsWideSigned rest.now }
+{
+    if !rest.is_empty() && rest[0] < 128 {
+        return Ok(ReadS {
+            value: signed_byte(rest[0]),
+            end: 1,
+        });
+    }
+    read_signed_front(rest)
+}
+
 /// Reads the signed LEB128 number that begins at `at`, counted from 0 (DWARF 5 section 7.6). Its sign is bit 6 of its
 /// last byte. Padding of any length is read.
 ///
@@ -68,7 +98,7 @@ pub fn read_s(bytes: &[u8], at: usize) -> Result<ReadS, LebFault>
     ensures short { IsErrOf result LebFault.Short ↔ IsShort (drop at bytes.now) }
     ensures wide { IsErrOf result LebFault.Wide ↔ IsWideSigned (drop at bytes.now) }
 {
-    match read_signed_front(&bytes[at..]) {
+    match read_signed(&bytes[at..]) {
         Ok(read) => Ok(ReadS {
             value: read.value,
             end: at + read.end,

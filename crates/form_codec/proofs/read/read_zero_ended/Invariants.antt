@@ -1,5 +1,0 @@
-use Rattle.std.proofs.Common.{◌≢◌, ◌<◌, ℕ, get_or}
-use Rattle.form_codec.proofs.read.read_zero_ended.Given as goal
-
-abbrev pub invariant-loop-place : goal.invariant-loop-place
-invariant-loop-place l = record { clear : (k : ℕ) → k < l.place → get_or l.rest k 0 ≢ 0 }
