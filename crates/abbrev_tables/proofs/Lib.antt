@@ -7,3 +7,11 @@ pub mod Puts
 pub mod Shortest
 pub mod ListingOnce
 pub mod ListingStands
+pub mod WholeParts
+pub mod Joined
+pub mod Pieces
+pub mod Gathers
+pub mod SharedLaws
+pub mod ShelfLaws
+pub mod PartLaws
+pub mod PartsOnce

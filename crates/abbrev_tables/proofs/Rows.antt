@@ -1,6 +1,6 @@
 -- Declarations that are read one after the other.
 use Rattle.std.proofs.Common.{◌≡◌, ◌≤◌, ◌<◌, ◌+◌, ◌-◌, ℕ, zero, suc, List, [], ◌∷◌, ◌++◌, length, take, drop, get_or, ◌∙◌, sym, ap, refl, subst, arith, inl, inr}
-use Rattle.std.specs.Prelude.{Bool, true, Option, Some, None}
+use Rattle.std.specs.Prelude.{Bool, true, Option, Some}
 use Rattle.std.proofs.lemmas.List.{length-drop, length-take-le, length-append, length-map, append-nil, append_assoc, take-append-drop, take-append-le, drop-append-le, drop_at, take_all}
 use Rattle.spelled.specs.Spelled.{Joined, FaultThen, FaultUntilEnd}
 use Rattle.dw_base.specs.declared.fault.Kind.{Kind}
@@ -10,29 +10,29 @@ use Rattle.abbrev_tables.specs.declared.decl.Decl.{Decl}
 use Rattle.abbrev_tables.specs.declared.decl.Spec.{Spec}
 use Rattle.abbrev_tables.specs.Tables.{SpellsName, Declared, SpellsDeclared, codes_of, AreDistinct}
 use Rattle.abbrev_tables.specs.Faults.{FaultName, FaultCode, FaultColumn, FaultFlagged, FaultWithin, FaultDeclared, FaultTable}
-use Rattle.abbrev_tables.specs.Listings.{Listing, decl_at, declared_in, declarations_in, AreAdjacent, ArePlaced, IsTableAt}
+use Rattle.abbrev_tables.specs.Listings.{decl_at, declared_in, declarations_in, AreAdjacent, ArePlaced}
 use Rattle.std.specs.BTreeMap.{BTreeMap}
 use Rattle.abbrev_tables.specs.declared.read.Head.{Head}
 use Rattle.abbrev_tables.specs.declared.read.ReadDecl.{ReadDecl}
 use Rattle.abbrev_tables.specs.Readings.{IsDeclOrEnd, IsReadDecl}
-use Rattle.abbrev_tables.specs.Index.{HasCode, HaveOwnCodes, IsAdded, IsFront, IsReadFrom}
+use Rattle.abbrev_tables.specs.Index.{HasCode, HaveOwnCodes, IsAdded, IsFront}
 use Rattle.abbrev_tables.proofs.Indexes.{own_more}
 
 pub adjacent_more : (from : ℕ) (ds : List Decl) (to : ℕ) (d : Decl) → AreAdjacent from ds to → d.first ≡ to → AreAdjacent from (ds ++ d ∷ []) (to + d.count)
 adjacent_more from [] to d e f = (f ∙ sym e, ap (λ n. n + d.count) e)
 adjacent_more from (x ∷ ds) to d (e, a) f = (e, adjacent_more (from + x.count) ds to d a f)
 
-adjacent_rises : (from : ℕ) (ds : List Decl) (to : ℕ) → AreAdjacent from ds to → from ≤ to
+pub adjacent_rises : (from : ℕ) (ds : List Decl) (to : ℕ) → AreAdjacent from ds to → from ≤ to
 adjacent_rises from [] to e = omega arith
 adjacent_rises from (x ∷ ds) to (e, a) = let r : from + x.count ≤ to = adjacent_rises (from + x.count) ds to a in omega arith
 
 -- columns that come later change no declaration
-columns_stay : (columns more : List Spec) (n k : ℕ) → n + k ≤ length columns → take k (drop n (columns ++ more)) ≡ take k (drop n columns)
+pub columns_stay : (columns more : List Spec) (n k : ℕ) → n + k ≤ length columns → take k (drop n (columns ++ more)) ≡ take k (drop n columns)
 columns_stay columns more n k fits =
     let size : length (drop n columns) ≡ length columns - n = length-drop n columns in
     ap (λ z. take k z) (drop-append-le n columns more (omega arith)) ∙ take-append-le k (drop n columns) more (omega arith)
 
-declared_stays : (columns more : List Spec) (d : Decl) → d.first + d.count ≤ length columns → declared_in (columns ++ more) d ≡ declared_in columns d
+pub declared_stays : (columns more : List Spec) (d : Decl) → d.first + d.count ≤ length columns → declared_in (columns ++ more) d ≡ declared_in columns d
 declared_stays columns more d fits = ap (λ z. record { code = d.code; tag = d.tag; children = d.children; columns = z }) (columns_stay columns more d.first d.count fits)
 
 placed_stay : (columns more : List Spec) (from place : ℕ) (ds : List Decl) (bytes : List ℕ) → AreAdjacent from ds (length columns) → ArePlaced columns place ds bytes → ArePlaced (columns ++ more) place ds bytes
@@ -50,12 +50,12 @@ placed_push columns place (x ∷ ds) d a b (first, rest, h, t, p, w) at s =
     let size : length a ≡ length first + length rest = ap length w ∙ length-append first rest in
     (first, rest ++ b, h, t, placed_push columns (place + length first) ds d rest b p (omega arith) s, ap (λ z. z ++ b) w ∙ append_assoc first rest b)
 
-placed_joined : (columns : List Spec) (place : ℕ) (ds : List Decl) (bytes : List ℕ) → ArePlaced columns place ds bytes → Joined SpellsDeclared (declarations_in columns ds) bytes
+pub placed_joined : (columns : List Spec) (place : ℕ) (ds : List Decl) (bytes : List ℕ) → ArePlaced columns place ds bytes → Joined SpellsDeclared (declarations_in columns ds) bytes
 placed_joined columns place [] bytes p = p
 placed_joined columns place (d ∷ ds) bytes (first, rest, at, s, p, w) = (first, rest, s, placed_joined columns (place + length first) ds rest p, w)
 
 -- the columns of the last declaration
-last_columns : (columns more : List Spec) (d : Decl) → d.first ≡ length columns → d.count ≡ length more → take d.count (drop d.first (columns ++ more)) ≡ more
+pub last_columns : (columns more : List Spec) (d : Decl) → d.first ≡ length columns → d.count ≡ length more → take d.count (drop d.first (columns ++ more)) ≡ more
 last_columns columns more d f n =
     ap (λ k. take k (drop d.first (columns ++ more))) n ∙ ap (λ k. take (length more) (drop k (columns ++ more))) f ∙ ap (λ z. take (length more) z) (drop_at columns more (length columns) refl) ∙ take_all (length more) more (omega arith)
 
@@ -138,7 +138,7 @@ front_short rest start at decls columns f over =
     (inside, subst (λ (n : ℕ). FaultTable Short n rest) e (front_fails rest start at 0 Short decls columns f (omega arith) fault).1)
 
 -- the code of a declaration among the codes
-code_of : (columns : List Spec) (decls : List Decl) (i : ℕ) → i < length decls → get_or (codes_of (declarations_in columns decls)) i 0 ≡ (decl_at decls i).code
+pub code_of : (columns : List Spec) (decls : List Decl) (i : ℕ) → i < length decls → get_or (codes_of (declarations_in columns decls)) i 0 ≡ (decl_at decls i).code
 code_of columns [] i inside = absurd (omega arith)
 code_of columns (d ∷ ds) zero inside = refl
 code_of columns (d ∷ ds) (suc i) inside = code_of columns ds i (omega arith)
@@ -169,7 +169,7 @@ front_twice rest start at end decls old code tag children more f fits s (i, insi
       },
     )
 
-codes_long : (columns : List Spec) (decls : List Decl) → length (codes_of (declarations_in columns decls)) ≡ length decls
+pub codes_long : (columns : List Spec) (decls : List Decl) → length (codes_of (declarations_in columns decls)) ≡ length decls
 codes_long columns [] = refl
 codes_long columns (d ∷ ds) = ap suc (codes_long columns ds)
 
@@ -179,30 +179,6 @@ own_distinct columns decls own i j li lj e =
     let a : i < length decls = omega arith in
     let b : j < length decls = omega arith in
     own i j a b (sym (code_of columns decls i a) ∙ e ∙ code_of columns decls j b)
-
--- the table at a place of a section
-pub table_at : (section : List ℕ) (at : ℕ) (t : Listing) → at < length section → IsReadFrom (drop at section) at t → IsTableAt section at t
-table_at section at t before r =
-    let rest : List ℕ = drop at section in
-    let size : length (drop at section) ≡ length section - at = length-drop at section in
-    let inside : r.at + r.end ≤ length (drop at section) = r.inside in
-    let place : t.end ≡ at + (r.at + r.end) = r.place in
-    let e : r.at + r.end ≡ t.end - at = omega arith in
-    let whole : take (t.end - at) rest ≡ take r.at rest ++ take r.end (drop r.at rest) = ap (λ n. take n rest) (sym e) ∙ take_sum r.at r.end rest in
-    record {
-      starts = omega arith;
-      inside = omega arith;
-      table = record {
-        spelled = (take r.at rest, take r.end (drop r.at rest), placed_joined t.specs at t.decls (take r.at rest) r.front.placed, r.ended, whole);
-        distinct = own_distinct t.specs t.decls r.front.own;
-      };
-      front = take r.at rest;
-      end = take r.end (drop r.at rest);
-      placed = r.front.placed;
-      ended = r.ended;
-      whole = whole;
-      adjacent = r.front.adjacent;
-    }
 
 -- what a reader of one declaration gives
 decl_or_end : (head other : Option Head) (old new : List Spec) (bytes : List ℕ) → head ≡ other → IsDeclOrEnd head old new bytes → IsDeclOrEnd other old new bytes
@@ -220,21 +196,6 @@ front_step rest start at decls after old new others r h d place first last f rea
 -- an answer that a declaration was added, or not
 pub is_added : (decls after : List Decl) (d : Decl) (others : BTreeMap ℕ ℕ) (b c : Bool) → b ≡ c → IsAdded decls d after others b → IsAdded decls d after others c
 is_added decls after d others b c e h = subst (λ (z : Bool). IsAdded decls d after others z) e h
-
-pub front_end : (rest : List ℕ) (start at : ℕ) (decls : List Decl) (old new : List Spec) (r : ReadDecl) → IsFront rest start at decls old → IsReadDecl (drop at rest) old new r → r.head ≡ None → IsReadFrom rest start (record { decls = decls; specs = new; end = start + (at + r.end) })
-front_end rest start at decls old new r f read is =
-    let ends = decl_or_end r.head None old new (take r.end (drop at rest)) is read.2 in
-    let size : length (drop at rest) ≡ length rest - at = length-drop at rest in
-    let inside : at ≤ length rest = f.inside in
-    let fits : r.end ≤ length (drop at rest) = read.0 in
-    record {
-      at = at;
-      end = r.end;
-      front = subst (λ (z : List Spec). IsFront rest start at decls z) (sym ends.0) f;
-      inside = omega arith;
-      ended = ends.1;
-      place = refl;
-    }
 
 pub front_again : (rest : List ℕ) (start at : ℕ) (decls : List Decl) (old new : List Spec) (r : ReadDecl) (h : Head) → IsFront rest start at decls old → IsReadDecl (drop at rest) old new r → r.head ≡ Some h → HasCode decls h.code → (at ≤ length rest) × FaultTable CodeTwice at rest
 front_again rest start at decls old new r h f read is has =

@@ -1,11 +1,10 @@
 -- How declarations are found by their codes.
-use Rattle.std.specs.Prelude.{◌≡◌, ◌≢◌, ◌≤◌, ◌<◌, ◌+◌, ◌^◌, ℕ, List, [], ◌∷◌, ◌++◌, length, take, drop, Some, Bool, true, false}
+use Rattle.std.specs.Prelude.{◌≡◌, ◌≢◌, ◌≤◌, ◌<◌, ◌+◌, ◌^◌, ℕ, List, [], ◌∷◌, ◌++◌, length, take, Some, Bool, true, false}
 use Rattle.std.specs.Ordering.{nat_cmp}
 use Rattle.std.specs.BTreeMap.{BTreeMap, get}
 use Rattle.abbrev_tables.specs.declared.decl.Decl.{Decl}
 use Rattle.abbrev_tables.specs.declared.decl.Spec.{Spec}
-use Rattle.abbrev_tables.specs.Tables.{IsTableEnd}
-use Rattle.abbrev_tables.specs.Listings.{Listing, decl_at, ArePlaced, AreAdjacent}
+use Rattle.abbrev_tables.specs.Listings.{decl_at, ArePlaced, AreAdjacent}
 
 -- The numbers of the declarations by their codes. A code that is 1 more than the number stands in no map.
 pub record IsIndex (decls : List Decl) (others : BTreeMap ℕ ℕ) : Type 0 where
@@ -32,18 +31,10 @@ pub record IsFront (rest : List ℕ) (start at : ℕ) (decls : List Decl) (colum
   pub adjacent : AreAdjacent 0 decls (length columns)
   pub own : HaveOwnCodes decls
 
--- the table that the front of the bytes spells
-pub record IsReadFrom (rest : List ℕ) (start : ℕ) (t : Listing) : Type 0 where
-  pub at : ℕ
-  pub end : ℕ
-  pub front : IsFront rest start at t.decls t.specs
-  pub inside : at + end ≤ length rest
-  pub ended : IsTableEnd (take end (drop at rest))
-  pub place : t.end ≡ start + (at + end)
-
--- what is held, with numbers that fit 32 bits
+-- what is held: no two have the same code, and the numbers fit 32 bits
 pub record IsHeld (decls : List Decl) (columns : List Spec) (others : BTreeMap ℕ ℕ) : Type 0 where
   pub adjacent : AreAdjacent 0 decls (length columns)
   pub index : IsIndex decls others
+  pub own : HaveOwnCodes decls
   pub few : length decls < 2 ^ 32
   pub narrow : length columns < 2 ^ 32

@@ -5,3 +5,8 @@ pub mod ListingLaws
 pub mod Index
 pub mod Readings
 pub mod Written
+pub mod Parts
+pub mod Shared
+pub mod Stretches
+pub mod Pieces
+pub mod Shelves

@@ -1,4 +1,5 @@
 // Declarations and their columns.
+ghost use Rattle.std.specs.Prelude.{◌≡◌, ◌≤◌, ◌+◌, length, take, drop};
 
 /// A declaration of an abbreviation table (DWARF 5 section 7.5.3).
 #[derive(Clone, Copy, Debug, PartialEq, Eq)]
@@ -26,4 +27,13 @@ pub struct Spec {
     pub form: u64,
     /// The value in all entries where the form is DW_FORM_implicit_const, else 0.
     pub constant: i64,
+}
+
+/// The columns of a declaration, among those of all.
+pub(crate) fn columns_of(columns: &[Spec], decl: Decl) -> &[Spec]
+    requires { decl.first + decl.count ≤ length columns.now }
+    ensures { result.now ≡ take decl.count (drop decl.first columns.now) }
+{
+    let first = decl.first as usize;
+    &columns[first..first + decl.count as usize]
 }

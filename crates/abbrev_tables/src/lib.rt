@@ -3,7 +3,10 @@
 
 mod decl;
 mod laws;
+mod piece;
 mod read;
+mod shared;
+mod stretch;
 mod table;
 #[cfg(test)]
 mod tests;
@@ -11,5 +14,6 @@ mod write;
 
 pub use decl::{Decl, Spec};
 pub use laws::{listings, tables_end, tables_whole, tables_written};
+pub use shared::{TableRead, read_tables};
 pub use table::Table;
 pub use write::write_table;

@@ -1,8 +1,11 @@
-// Tables of the two samples, codes out of order, and tables that are cut off.
-use crate::{Table, write_table};
+// Tables of the two samples, codes out of order, tables that are cut off, and tables that overlap.
+use crate::stretch::{Stretch, read_stretch};
+use crate::{Table, TableRead, read_tables, write_table};
 use dw_base::{Fault, Kind, Refusal};
 use std::alloc::Global;
+use std::collections::BTreeMap;
 use std::process::Abort;
+use std::rc::Rc;
 use std::test::Fail;
 
 // As gcc and clang write them.
@@ -34,12 +37,12 @@ fn read_and_write(
     let table = Table::read(alloc, bytes, 0, 0).ok().ok_or("refused")?;
     assert_eq!(rt; table.end() as usize, bytes.len());
     assert_eq!(rt; table.len(), 4);
-    assert_eq!(rt; table.specs().len(), columns);
+    assert_eq!(rt; table.specs(alloc)?.len(), columns);
     assert_eq!(rt; table.by_code(1), Some(0));
     assert_eq!(rt; table.by_code(4), Some(3));
     assert_eq!(rt; table.by_code(5), None);
     let numbers = vec![in alloc; 1u32, 2, 3, 4]?;
-    let columns = table.specs().to_vec(alloc)?;
+    let columns = table.specs(alloc)?;
     let written = write_table(alloc, &table, &numbers, &columns)
         .ok()
         .ok_or("no memory")?;
@@ -87,7 +90,7 @@ fn codes_out_of_order(rt: HostRuntime) -> Result<(), Fail> {
         (second.at, second.tag, second.first, second.count),
         (9, 0x24, 1, 0)
     );
-    let columns = table.specs().to_vec(alloc)?;
+    let columns = table.specs(alloc)?;
     assert_eq!(rt; columns.len(), 1);
     assert_eq!(rt; columns[0].constant, -1);
     let numbers = vec![in alloc; 130u32, 1, 0]?;
@@ -100,6 +103,60 @@ fn codes_out_of_order(rt: HostRuntime) -> Result<(), Fail> {
             1u8, 0x24, 1, 0, 0, 0x82, 1, 0x11, 0, 0x49, 0x21, 0x7f, 0, 0, 0
         ][..]
     );
+    Ok(())
+}
+
+fn stretch_of(alloc: Global, bytes: &[u8]) -> Option<Rc<Stretch>> {
+    if bytes.is_empty() {
+        return None;
+    }
+    let read = read_stretch(alloc, bytes, 0, &BTreeMap::new(alloc)).ok()?;
+    Rc::new(alloc, read.stretch).ok()
+}
+
+#[test]
+fn pieces_of_stretches(rt: HostRuntime) -> Result<(), Fail> {
+    let alloc = rt.alloc();
+    let gcc = stretch_of(alloc, &GCC).ok_or("refused")?;
+    let nine = stretch_of(alloc, &[9u8, 0x24, 0, 3, 8, 0, 0, 0]).ok_or("refused")?;
+    assert_eq!(rt; (gcc.len(), nine.len()), (4, 1));
+    let rest = Table::behind(alloc, &gcc, 1, &Table::ended(alloc, 71))
+        .ok()
+        .ok_or("no memory")?;
+    assert_eq!(rt; (rest.len(), rest.end()), (3, 71));
+    assert_eq!(rt; (rest.by_code(1), rest.by_code(2)), (None, Some(0)));
+    let first = rest.decl(0);
+    assert_eq!(rt;
+        (first.at, first.code, first.first, first.count),
+        (19, 2, 0, 9)
+    );
+    let table = Table::behind(alloc, &nine, 0, &rest)
+        .ok()
+        .ok_or("no memory")?;
+    assert_eq!(rt; (table.len(), table.is_empty()), (4, false));
+    assert_eq!(rt; (table.by_code(9), table.by_code(4)), (Some(0), Some(3)));
+    let second = table.decl(1);
+    assert_eq!(rt; (second.code, second.first, second.count), (2, 1, 9));
+    assert_eq!(rt; table.columns(3).len(), 3);
+    assert_eq!(rt; table.specs(alloc)?.len(), 18);
+    assert_eq!(rt; (table.spec(0).name, table.spec(1).name), (0x03, 0x3f));
+    Ok(())
+}
+
+#[test]
+fn parts_of_tables(rt: HostRuntime) -> Result<(), Fail> {
+    let alloc = rt.alloc();
+    let table = Table::read(alloc, &GCC, 0, 0).ok().ok_or("refused")?;
+    assert_eq!(rt; table.len(), 4);
+    let part = table.part(alloc, &[0u32, 2]).ok().ok_or("no memory")?;
+    assert_eq!(rt; (part.len(), part.end()), (2, 71));
+    assert_eq!(rt; (part.by_code(3), part.by_code(2)), (Some(1), None));
+    let second = part.decl(1);
+    assert_eq!(rt; (second.at, second.first, second.count), (43, 7, 5));
+    let column = part.columns(1).first().ok_or("no column")?;
+    assert_eq!(rt; column.name, 0x03);
+    let none = table.part(alloc, &[]).ok().ok_or("no memory")?;
+    assert_eq!(rt; (none.len(), none.end()), (0, 71));
     Ok(())
 }
 
@@ -123,6 +180,82 @@ fn refused_tables(rt: HostRuntime) -> Result<(), Fail> {
     for (bytes, kind, place) in rows {
         let fault = fault_of(alloc, &bytes, 64).ok_or("not refused")?;
         assert_eq!(rt; fault, Fault { kind, place });
+    }
+    Ok(())
+}
+
+// Three declarations and the code 0 behind them. From the form of the first column of the second, at 11, another declaration
+// begins, which ends where the second does: the code 8, the tag 0x11, and one column.
+const OVERLAP: [u8; 26] = [
+    0x01, 0x11, 0x01, 0x25, 0x0e, 0x00, 0x00, 0x02, 0x24, 0x00, 0x03, 0x08, 0x11, 0x01, 0x0b, 0x0b,
+    0x00, 0x00, 0x03, 0x05, 0x00, 0x49, 0x13, 0x00, 0x00, 0x00,
+];
+
+fn has(
+    rt: &impl Abort,
+    all: &[TableRead],
+    number: usize,
+    fresh: u32,
+    rows: &[(u64, u64, u64, u64, u64)],
+) -> Result<(), Fail> {
+    let read = all.get(number).ok_or("no table")?;
+    assert_eq!(rt; (read.fresh, read.table.end()), (fresh, 26));
+    assert_eq!(rt; read.table.len() as usize, rows.len());
+    for i in 0..read.table.len() {
+        let decl = read.table.decl(i);
+        let column = read.table.columns(i).first().ok_or("no column")?;
+        let row = *rows.get(i as usize).ok_or("no row")?;
+        assert_eq!(rt;
+            (decl.at, decl.code, decl.tag, column.name, column.form),
+            row
+        );
+        assert_eq!(rt; read.table.by_code(decl.code), Some(i));
+    }
+    Ok(())
+}
+
+#[test]
+fn tables_that_overlap(rt: HostRuntime) -> Result<(), Fail> {
+    let alloc = rt.alloc();
+    let all = read_tables(alloc, &OVERLAP, &[0, 7, 11, 7, 25], 0)
+        .ok()
+        .ok_or("refused")?;
+    assert_eq!(rt; all.len(), 5);
+    let first = (0, 1, 0x11, 0x25, 0x0e);
+    let second = (7, 2, 0x24, 3, 8);
+    let third = (18, 3, 5, 0x49, 0x13);
+    has(&rt, &all, 0, 3, &[first, second, third])?;
+    has(&rt, &all, 1, 0, &[second, third])?;
+    has(&rt, &all, 2, 1, &[(11, 8, 0x11, 0x0b, 0x0b), third])?;
+    has(&rt, &all, 3, 0, &[second, third])?;
+    has(&rt, &all, 4, 0, &[])?;
+    let back = read_tables(alloc, &OVERLAP, &[18, 0], 0)
+        .ok()
+        .ok_or("refused")?;
+    has(&rt, &back, 0, 1, &[third])?;
+    has(&rt, &back, 1, 2, &[first, second, third])?;
+    Ok(())
+}
+
+// With the form 3 at 11 the declaration that begins there has the code of the last one.
+#[test]
+fn a_code_twice_across_a_join(rt: HostRuntime) -> Result<(), Fail> {
+    let alloc = rt.alloc();
+    let mut bytes = OVERLAP;
+    bytes[11] = 3;
+    for place in [0u64, 7] {
+        match read_tables(alloc, &bytes, &[place, 11], 64) {
+            Err(Refusal::Refused(fault)) => {
+                assert_eq!(rt;
+                    fault,
+                    Fault {
+                        kind: Kind::CodeTwice,
+                        place: 82
+                    }
+                );
+            }
+            _ => return Err("not refused")?,
+        }
     }
     Ok(())
 }

@@ -1,10 +1,9 @@
 // Tables written.
-ghost use Rattle.std.specs.Prelude.{◌≡◌, ◌≢◌, ◌≤◌, ◌<◌, ◌+◌, ◌^◌, ◌++◌, ◌∷◌, [], ℕ, length, map, take, drop, OnOk, IfOk};
+ghost use Rattle.std.specs.Prelude.{◌≡◌, ◌≢◌, ◌≤◌, ◌<◌, ◌+◌, ◌^◌, ◌++◌, ◌∷◌, [], ℕ, length, map, OnOk, IfOk};
 ghost use Rattle.spelled.specs.Spelled.{Appends, Joined};
-ghost use Rattle.abbrev_tables.specs.Written.{ShortestConstant, ShortestColumn, ShortestColumns, ShortestDeclared, used_among, renumbered, numbered_as, IsInOrder, AreUsed, IsWritten, IsWrittenOf};
-ghost use Rattle.abbrev_tables.specs.Listings.{AreAdjacent};
+ghost use Rattle.abbrev_tables.specs.Written.{ShortestConstant, ShortestColumn, ShortestColumns, ShortestDeclared, used_among, renumbered, numbered_as, IsInOrder, AreUsed, IsWritten};
 
-use crate::decl::{Decl, Spec};
+use crate::decl::{Decl, Spec, columns_of};
 use crate::read::IMPLICIT_CONST;
 use crate::table::Table;
 use dw_base::NoMemory;
@@ -65,15 +64,6 @@ fn put_declared(
     Ok(())
 }
 
-// The columns of a declaration.
-fn columns_of(columns: &[Spec], decl: Decl) -> &[Spec]
-    requires { decl.first + decl.count ≤ length columns.now }
-    ensures { result.now ≡ take decl.count (drop decl.first columns.now) }
-{
-    let first = decl.first as usize;
-    &columns[first..first + decl.count as usize]
-}
-
 // The used declarations in the order of the table: the new number and the place of each.
 fn used(alloc: Global, numbers: &[u32]) -> Result<Vec<(u32, u32)>, NoMemory>
     requires { length numbers.now < 2 ^ 32 }
@@ -101,17 +91,17 @@ fn in_order(alloc: Global, numbers: &[u32]) -> Result<Vec<(u32, u32)>, NoMemory>
 // Appends declarations in this order.
 fn put_order(
     out: &mut Vec<u8>,
-    decls: &[Decl],
+    table: &Table,
     columns: &[Spec],
     order: &[(u32, u32)],
 ) -> Result<(), NoMemory>
-    requires adjacent { AreAdjacent 0 decls.now (length columns.now) }
-    requires used { AreUsed (length decls.now) order.now }
-    ensures { OnOk result (Appends (Joined ShortestDeclared) (map (renumbered decls.now columns.now) order.now) out.old.items out.new.items) }
+    requires columns { length columns.now ≡ length table.now.specs }
+    requires used { AreUsed (length table.now.decls) order.now }
+    ensures { OnOk result (Appends (Joined ShortestDeclared) (map (renumbered table.now.decls columns.now) order.now) out.old.items out.new.items) }
 {
     for entry in order.iter() {
         let (number, place) = *entry;
-        let decl = decls[place as usize];
+        let decl = table.placed(place);
         put_declared(out, number, decl, columns_of(columns, decl))?;
     }
     Ok(())
@@ -120,18 +110,19 @@ fn put_order(
 // The bytes of a table.
 fn write_parts(
     alloc: Global,
-    decls: &[Decl],
+    table: &Table,
     numbers: &[u32],
     columns: &[Spec],
 ) -> Result<Vec<u8>, NoMemory>
-    requires few { length decls.now < 2 ^ 32 }
-    requires numbers { length numbers.now ≡ length decls.now }
-    requires adjacent { AreAdjacent 0 decls.now (length columns.now) }
-    ensures { IfOk result (λ bytes. IsWrittenOf decls.now numbers.now columns.now bytes.items) }
+    requires numbers { length numbers.now ≡ length table.now.decls }
+    requires columns { length columns.now ≡ length table.now.specs }
+    ensures { IfOk result (λ bytes. IsWritten table.now numbers.now columns.now bytes.items) }
 {
+    // Numbers of 32 bits name the declarations.
+    let _count = table.len();
     let order = in_order(alloc, numbers)?;
     let mut out = Vec::new(alloc);
-    put_order(&mut out, decls, columns, &order)?;
+    put_order(&mut out, table, columns, &order)?;
     out.push(0)?;
     Ok(out)
 }
@@ -152,5 +143,5 @@ pub fn write_table(
     requires columns { length columns.now.items ≡ length table.now.specs }
     ensures { IfOk result (λ bytes. IsWritten table.now numbers.now.items columns.now.items bytes.items) }
 {
-    write_parts(alloc, &table.decls, numbers, columns)
+    write_parts(alloc, table, numbers, columns)
 }

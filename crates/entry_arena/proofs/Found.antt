@@ -1,12 +1,13 @@
 -- What is found by its place.
 use Rattle.std.proofs.Common.{◌≡◌, ◌≢◌, ◌≤◌, ◌<◌, ℕ, List, length, get_or, sym, ap, subst, ◌∙◌, arith, inl, inr, Less, Equal, Greater}
-use Rattle.std.specs.Prelude.{Option, Some, None, ◌↔◌}
+use Rattle.std.specs.Prelude.{Option, Some, None, ◌↔◌, ltb, true, false}
 use Rattle.std.specs.Ordering.{nat_cmp, ordering_index}
-use Rattle.std.specs.List.{HoldsAt}
-use Rattle.std.specs.List.Sorted.{IsNonDecreasingBy, IsPartitionPoint}
+use Rattle.std.specs.List.{Contains, HoldsAt}
+use Rattle.std.specs.List.Sorted.{IsNonDecreasing, IsNonDecreasingBy, IsPartitionPoint}
 use Rattle.std.proofs.lemmas.Cmp.{ranked}
 use Rattle.std.proofs.lemmas.List.Sorted.{IsNonDecreasingBy-from_default}
-use Rattle.std.proofs.lemmas.Bool.{cases_lt}
+use Rattle.std.proofs.lemmas.Bool.{cases_lt, ltb-true, ltb-false}
+use Rattle.std.proofs.lemmas.Grind.{get_or_default_zero}
 use Rattle.std.proofs.lemmas.Bool.Decides.{nat_tests}
 use Rattle.entry_arena.specs.declared.entry.Target.{Target}
 use Rattle.entry_arena.specs.declared.entry.Target.TheVariants.{Entry as TheEntry, ChainEnd as TheEnd}
@@ -57,3 +58,28 @@ module _ (f : Arena) (order : IsInOrder f) where
   -- the answer names the entry of the one that stands there
   pub end_target : (id place : ℕ) → IsChainEndAt f id place → (other : ℕ) → (Some (TheEnd id) ≡ Some (TheEnd other)) ↔ IsChainEndAt f other place
   end_target id place here other = (λ e. subst (λ n. IsChainEndAt f n place) (same_end id other e) here, λ there. ap (λ n. Some (TheEnd n)) (one_end id other place here there))
+
+-- NUMBERS THAT RISE
+
+module _ (xs : List ℕ) (rising : (i j : ℕ) → i < j → j < length xs → get_or xs i 0 < get_or xs j 0) where
+  pub never_falls : IsNonDecreasing xs
+  never_falls =
+      IsNonDecreasingBy-from_default (λ (x : ℕ). x) xs 0 (λ i j le inside. elim (cases_lt i j) [
+        | inl less ↦ let h : get_or xs i 0 < get_or xs j 0 = rising i j less inside in omega arith
+        | inr more ↦ let same : i ≡ j = omega arith in let h : get_or xs i 0 ≡ get_or xs j 0 = ap (λ k. get_or xs k 0) same in omega arith
+      ])
+
+  -- the first number that isn't below one of them is that one
+  pub place_found : (x n : ℕ) → Contains xs x → IsPartitionPoint (λ y. ltb y x ≡ true) (λ y. ltb y x ≡ false) xs n → (n < length xs) × (get_or xs n 0 ≡ x)
+  place_found x n (k, inside, is) (below, above) =
+      let here : get_or xs k 0 ≡ x = sym (get_or_default_zero xs k x inside) ∙ is in
+      elim (cases_lt k n) [
+        | inl less ↦ let low : get_or xs k 0 < x = ltb-true (get_or xs k 0) x (below k 0 (omega arith) less) in absurd (omega arith)
+        | inr more ↦ elim (cases_lt n k) [
+          | inl less ↦
+              let high : x ≤ get_or xs n 0 = ltb-false (get_or xs n 0) x (above n 0 (omega arith) (omega arith)) in
+              let rise : get_or xs n 0 < get_or xs k 0 = rising n k less inside in
+              absurd (omega arith)
+          | inr rest ↦ let same : n ≡ k = omega arith in (omega arith, ap (λ z. get_or xs z 0) same ∙ here)
+        ]
+      ]

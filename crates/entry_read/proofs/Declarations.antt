@@ -1,5 +1,5 @@
 -- The declarations of a table that was read.
-use Rattle.std.proofs.Common.{◌≡◌, ◌≢◌, ◌≤◌, ◌<◌, ◌+◌, ◌-◌, ◌∙◌, ℕ, zero, suc, List, [], ◌∷◌, length, take, drop, sym, ap, arith}
+use Rattle.std.proofs.Common.{◌≡◌, ◌≢◌, ◌≤◌, ◌<◌, ◌+◌, ◌∙◌, ℕ, zero, suc, List, [], ◌∷◌, length, sym, ap, subst, arith}
 use Rattle.std.specs.Prelude.{false}
 use Rattle.std.proofs.lemmas.List.{get_or-map, length-map}
 use Rattle.std.proofs.lemmas.List.Elements.{All-nil, All-cons}
@@ -8,30 +8,19 @@ use Rattle.form_codec.specs.Forms.{IsKnown}
 use Rattle.abbrev_tables.specs.declared.decl.Decl.{Decl}
 use Rattle.abbrev_tables.specs.declared.decl.Spec.{Spec}
 use Rattle.abbrev_tables.specs.Tables.{Declared, SpellsDeclared, SpellsColumn}
-use Rattle.abbrev_tables.specs.Listings.{Listing, decl_at, declared_in, AreAdjacent}
+use Rattle.abbrev_tables.specs.Listings.{Listing, decl_at, declared_in}
 use Rattle.abbrev_tables.specs.Index.{HasCode}
+use Rattle.abbrev_tables.proofs.Puts.{columns_inside as inside_all}
+use Rattle.abbrev_tables.proofs.PartLaws.{IsOneOf, one_of_whole, part_codes}
 use Rattle.entry_arena.specs.Trees.{declared_at}
 use Rattle.entry_arena.specs.ForestLaws.{HaveCodes}
 use Rattle.entry_arena.proofs.WalkLaws.{table_codes}
 use Rattle.entry_read.specs.Units.{declarations_of, IsTable}
 use Rattle.entry_read.specs.Readings.{AreKnown}
 
-adjacent_end : (from : ℕ) (decls : List Decl) (to : ℕ) → AreAdjacent from decls to → from ≤ to
-adjacent_end from [] to e = let same : from ≡ to = e in omega arith
-adjacent_end from (d ∷ decls) to (e, a) = let rest : from + d.count ≤ to = adjacent_end (from + d.count) decls to a in omega arith
-
-adjacent_at : (from : ℕ) (decls : List Decl) (to i : ℕ) → AreAdjacent from decls to → i < length decls → (decl_at decls i).first + (decl_at decls i).count ≤ to
-adjacent_at from [] to i a l = absurd (omega arith)
-adjacent_at from (d ∷ decls) to zero (e, a) l =
-    let rest : from + d.count ≤ to = adjacent_end (from + d.count) decls to a in
-    let first : d.first ≡ from = e in
-    let sum : d.first + d.count ≤ to = omega arith in
-    sum
-adjacent_at from (d ∷ decls) to (suc i) (e, a) l = adjacent_at (from + d.count) decls to i a (omega arith)
-
 -- the columns of a declaration are among those of the table
 pub columns_inside : (t : Listing) (i : ℕ) → IsTable t → i < length t.decls → (decl_at t.decls i).first + (decl_at t.decls i).count ≤ length t.specs
-columns_inside t i (section, at, h) l = adjacent_at 0 t.decls (length t.specs) i h.adjacent l
+columns_inside t i (section, at, h) l = inside_all 0 t.decls (length t.specs) i h.is.adjacent l
 
 pub count_same : (t : Listing) → length (declarations_of t) ≡ length t.decls
 count_same t = length-map t.decls (declared_in t.specs)
@@ -40,13 +29,11 @@ count_same t = length-map t.decls (declared_in t.specs)
 pub declared_is : (t : Listing) (i : ℕ) → i < length t.decls → declared_at (declarations_of t) i ≡ declared_in t.specs (decl_at t.decls i)
 declared_is t i l = get_or-map (declared_in t.specs) t.decls i (record { at = 0; code = 0; tag = 0; children = false; first = 0; count = 0 }) (record { code = 0; tag = 0; children = false; columns = [] }) l
 
--- the columns of a declaration, as they are read
-pub columns_read : (t : Listing) (i : ℕ) (d : Decl) (specs : List Spec) → i < length (declarations_of t) → d ≡ decl_at t.decls i → specs ≡ t.specs → take (d.first + d.count - d.first) (drop d.first specs) ≡ (declared_at (declarations_of t) i).columns
-columns_read t i d specs l e s =
+-- its columns
+pub columns_are : (t : Listing) (i : ℕ) → i < length (declarations_of t) → (declared_in t.specs (decl_at t.decls i)).columns ≡ (declared_at (declarations_of t) i).columns
+columns_are t i l =
     let size : length (declarations_of t) ≡ length t.decls = count_same t in
-    let count : d.first + d.count - d.first ≡ d.count = omega arith in
-    ap (λ z. take z (drop d.first specs)) count ∙ ap (λ z. take z.count (drop z.first specs)) e ∙ ap (λ z. take (decl_at t.decls i).count (drop (decl_at t.decls i).first z)) s
-    ∙ sym (ap (λ z. z.columns) (declared_is t i (omega arith)))
+    sym (ap (λ z. z.columns) (declared_is t i (omega arith)))
 
 columns_known : (columns : List Spec) (bytes : List ℕ) → Joined SpellsColumn columns bytes → AreKnown columns
 columns_known [] bytes j = All-nil (λ (c : Spec). IsKnown c.form)
@@ -57,13 +44,30 @@ declared_known [] bytes i j l = absurd (omega arith)
 declared_known (d ∷ ds) bytes zero (first, rest, s, j, e) l = let columns = s.parts.3.3.3 in columns_known d.columns columns.0 columns.2
 declared_known (d ∷ ds) bytes (suc i) (first, rest, s, j, e) l = declared_known ds rest i j (omega arith)
 
+-- a declaration of a part is one of the whole table
+one_known : (whole t : Listing) (i : ℕ) → IsOneOf whole t i → i < length (declarations_of t) → (number : ℕ) × (number < length (declarations_of whole)) × (declared_at (declarations_of t) i ≡ declared_at (declarations_of whole) number)
+one_known whole t i one inside =
+    let size : length (declarations_of whole) ≡ length whole.decls = count_same whole in
+    let there : one.number < length whole.decls = one.inside in
+    (one.number, omega arith, one.same)
+
 -- the columns of a declaration have forms that are known
 pub known_columns : (t : Listing) (i : ℕ) → IsTable t → i < length (declarations_of t) → AreKnown ((declared_at (declarations_of t) i).columns)
-known_columns t i (section, at, h) l = let ds = h.table.spelled in declared_known (declarations_of t) ds.0 i ds.2 l
+known_columns t i (section, at, h) l =
+    let ds = h.stands.table.spelled in
+    let size : length (declarations_of t) ≡ length t.decls = count_same t in
+    let (number, inside, same) = one_known h.whole t i (one_of_whole section at t h i (omega arith)) l in
+    subst (λ (d : Declared). AreKnown d.columns) (sym same) (declared_known (declarations_of h.whole) ds.0 number ds.2 inside)
 
 -- its codes differ, and none is 0
 pub have_codes : (t : Listing) → IsTable t → HaveCodes (declarations_of t)
-have_codes t (section, at, h) = table_codes (declarations_of t) _ h.table
+have_codes t (section, at, h) = record {
+  distinct = part_codes section at t h;
+  some = λ i l none.
+      let size : length (declarations_of t) ≡ length t.decls = count_same t in
+      let (number, inside, same) = one_known h.whole t i (one_of_whole section at t h i (omega arith)) l in
+      (table_codes (declarations_of h.whole) _ h.stands.table).some number inside (sym (ap (λ (d : Declared). d.code) same) ∙ none);
+}
 
 -- a code that is found is that of the declaration
 pub found_code : (t : Listing) (code number : ℕ) → number < length t.decls → (decl_at t.decls number).code ≡ code → (number < length (declarations_of t)) × ((declared_at (declarations_of t) number).code ≡ code)

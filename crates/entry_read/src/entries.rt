@@ -95,9 +95,7 @@ pub fn columns_of(table: &Table, number: u32) -> &[Spec]
     ensures columns { result.now ≡ (declared_at (declarations_of table.now) number).columns }
     ensures known { AreKnown result.now }
 {
-    let declared = table.decl(number);
-    let first = declared.first as usize;
-    &table.specs()[first..first + declared.count as usize]
+    table.columns(number)
 }
 
 // Appends the values of columns, and gives the place after them.

@@ -1,5 +1,9 @@
 // Units.
 ghost use Rattle.std.specs.Prelude.{◌≡◌, ◌≤◌, ◌<◌, ◌+◌, ◌^◌, ◌↔◌, ℕ, [], length, slice_index, IfOk, IfErr, IsTrue};
+ghost use Rattle.std.specs.List.{All, Contains};
+ghost use Rattle.std.specs.List.Sorted.{IsStrictlyIncreasing};
+ghost use Rattle.entry_arena.specs.declared.entry.Entry.{Entry as AnyEntry};
+ghost use Rattle.entry_arena.specs.Renumbering.{AreRenumberedBy, with_entries};
 ghost use Rattle.entry_arena.specs.Trees.{listed_to};
 ghost use Rattle.entry_read.specs.Heads.{IsHead};
 ghost use Rattle.entry_read.specs.Units.{declarations_of, IsTable, IsUnitHeld, IsWithin};
@@ -51,6 +55,18 @@ impl<'a> Unit<'a> {
         ensures { result.now ≡ self.now.forest }
     {
         &self.forest
+    }
+
+    /// Numbers the declarations of the entries anew, each by its place among `used`, counted from 0. These numbers rise, and that of
+    /// each entry's declaration is one of them.
+    pub fn renumber(&mut self, used: &[u32])
+        requires rising { IsStrictlyIncreasing used.now }
+        requires known { All (λ (e : AnyEntry). Contains used.now e.decl) self.old.forest.entries }
+        ensures head { self.new.head ≡ self.old.head }
+        ensures entries { AreRenumberedBy used.now self.old.forest.entries self.new.forest.entries }
+        ensures others { self.new.forest ≡ with_entries self.old.forest self.new.forest.entries }
+    {
+        self.forest.renumber(used);
     }
 }
 

@@ -21,7 +21,7 @@ use Rattle.rewriter.specs.Tables.{TableAnew, AreColumnsChosen, TablesFollow, tab
 use Rattle.rewriter.specs.Counting.{counts_in}
 use Rattle.rewriter.specs.Appended.{StandsAnew, IsAppended, AreAppended}
 use Rattle.rewriter.proofs.Renumbers.{AreNumbersOf, seat, count_used}
-use Rattle.rewriter.proofs.Writables.{writable, distinct}
+use Rattle.rewriter.proofs.Writables.{tags_narrow, writable, distinct}
 
 same_between : (section more : List ℕ) (at end : ℕ) → at ≤ end → end ≤ length section → take (end - at) (drop at (section ++ more)) ≡ take (end - at) (drop at section)
 same_between section more at end order inside =
@@ -128,8 +128,8 @@ module _ (old : Listing) (known : IsTable old) (uses numbers : List ℕ) (are : 
 
   spelled : WrittenAreRead → SpellsTable declared bytes
   spelled law =
-      let table = known.2.table in
-      law declared bytes (writable old.decls old.specs _ table columns fine uses numbers are fits same written.order written.ordered) (distinct old.decls old.specs _ table columns fine uses numbers are fits same written.order written.ordered) written.spelled
+      let tags = tags_narrow old known in
+      law declared bytes (writable old.decls tags columns fine uses numbers are fits same written.order written.ordered) (distinct old.decls tags columns fine uses numbers are fits same written.order written.ordered) written.spelled
 
   filled : 0 < length bytes
   filled =

@@ -3,7 +3,7 @@ use Rattle.std.proofs.Common.{◌≡◌, ◌<◌, ◌+◌, ◌∙◌, ℕ, zero,
 use Rattle.std.specs.Prelude.{slice_index}
 use Rattle.std.specs.List.{All, Contains}
 use Rattle.std.proofs.lemmas.List.{get_or-map, length-map}
-use Rattle.std.proofs.lemmas.List.Elements.{All-get_or, All-take, All-drop}
+use Rattle.std.proofs.lemmas.List.Elements.{All-take, All-drop}
 use Rattle.dw_base.specs.declared.fault.Reach.{Reach}
 use Rattle.leb_codec.specs.Leb.{least_unsigned_len}
 use Rattle.form_codec.specs.Forms.{Meaning}
@@ -26,13 +26,12 @@ use Rattle.value_links.specs.declared.units.NamedTable.{NamedTable}
 use Rattle.value_links.specs.Sections.{debug_info}
 use Rattle.value_links.specs.Reading.{UnitRead, Reading, no_unit, unit_heads, unit_at, declarations, IsReading}
 use Rattle.value_links.specs.Faults.{IsValid}
-use Rattle.value_links.specs.Laws.{IsBuilt}
 use Rattle.value_links.specs.World.{World, head_and_forest, named_by, table_at, Holds}
 use Rattle.rewriter.specs.declared.tables.NewTable.{NewTable}
 use Rattle.rewriter.specs.Tables.{TableAnew, new_table_at, column_meanings, AreTablesWritten}
 use Rattle.rewriter.specs.Placed.{unit_in, AreWritable}
 use Rattle.rewriter.proofs.UsedDeclarations.{unit_is, table_written, decl_known, decl_used}
-use Rattle.rewriter.proofs.BuiltUnits.{old_built}
+use Rattle.rewriter.proofs.BuiltUnits.{unit_built}
 use Rattle.rewriter.proofs.ColumnLaws.{IsSpelledBy, column_here, columns_count, column_spelled, new_columns_roomy}
 use Rattle.rewriter.proofs.MeaningsAmong.{meaning_among}
 use Rattle.rewriter.proofs.MovedEntries.{entry_stands}
@@ -61,17 +60,13 @@ module _ (numbers_sized : NumbersHaveSizes) (others_sized : ShortestHaveSizes) (
   unit_same : (u : ℕ) → u < length r.units → unit_in world.units u ≡ head_and_forest (unit_at r u)
   unit_same u inside = ap (λ (z : List HeadAndForest). unit_in z u) holds.units ∙ get_or-map head_and_forest r.units u no_unit (head_and_forest no_unit) inside
 
-  -- all declarations of a unit can be written
-  unit_built : (u : ℕ) → u < length r.units → All IsBuilt (declarations (unit_at r u))
-  unit_built u inside = All-get_or (λ (x : UnitRead). All IsBuilt (declarations x)) r.units u no_unit inside (old_built stand file reach r valid read)
-
   -- no new column is DW_FORM_ref1 or DW_FORM_ref2
   columns_roomy : (u : ℕ) → u < length r.units → All IsRoomy (new_table u).columns
   columns_roomy u inside =
       let unit : UnitRead = unit_at r u in
       let w = table_written read holds written u inside in
       let is = unit_is read holds written u inside in
-      new_columns_roomy world.units (named_by unit) w.uses (new_table u).columns w.columns is.table.adjacent (unit_built u inside)
+      new_columns_roomy world.units (named_by unit) w.uses (new_table u).columns w.columns is.table.is.adjacent (unit_built stand file reach r valid read u inside)
 
   -- what a value of an entry means is one of the meanings of its column
   meaning_here : (u id j : ℕ) → u < length r.units → id < length (unit_at r u).forest.entries → Contains (column_meanings world.units (unit_at r u).head.table (decl_of u id) j) (meant_in (unit_at r u).forest.section (value_at (unit_at r u).forest.values ((entry_at (unit_at r u).forest.entries id).first + j)))

@@ -130,7 +130,7 @@ module _ (units : List HeadAndForest) (table : NamedTable) (section table_of : L
     unit_means u below is =
         let unit : HeadAndForest = unit_in units u in
         let all : List Meaning = map (meant_in unit.forest.section) (values_with number j unit) in
-        ap (map (meant_in section)) (values_are table.table.decls (length table.table.specs) of.stands.2.adjacent unit.forest.values number j known inside unit.forest.entries (declared_here u below is))
+        ap (map (meant_in section)) (values_are table.table.decls (length table.table.specs) of.stands.2.is.adjacent unit.forest.values number j known inside unit.forest.entries (declared_here u below is))
         ∙ ap (λ (z : List ℕ). map (meant_in z) (values_with number j unit)) (sym (of.lent u below is))
         ∙ sym (cond-true {A = List Meaning} (eqb unit.head.table table.place) all [] (eq-eqb unit.head.table table.place (of.named u below is)))
 

@@ -81,11 +81,10 @@ module _ (units : List HeadAndForest) (table : NamedTable) (stands : IsTable tab
 
   pub columns_writable : All IsWritableColumn columns
   columns_writable =
-      let (section, at, listed) = stands in
-      let writable : All IsWritableColumn table.table.specs = table_writable section at table.table listed in
+      let writable : All IsWritableColumn table.table.specs = table_writable table.table stands in
       All-from_get_or IsWritableColumn columns (spec_at [] 0) (λ k below.
       let within : k < length table.table.specs = omega (arith, chosen.count, below) in
-      let has : HasOwner table.table.decls k = owner 0 table.table.decls (length table.table.specs) k stands.2.adjacent (omega arith) within in
+      let has : HasOwner table.table.decls k = owner 0 table.table.decls (length table.table.specs) k stands.2.is.adjacent (omega arith) within in
       let old : IsWritableColumn (spec_at table.table.specs k) = All-get_or IsWritableColumn table.table.specs k (spec_at [] 0) within writable in
       let own : IsWritableColumn (spec_at table.table.specs ((decl_at table.table.decls has.number).first + has.j)) = subst (λ (n : ℕ). IsWritableColumn (spec_at table.table.specs n)) (sym has.is) old in
       subst (λ (n : ℕ). IsWritableColumn (spec_at columns n)) has.is (writable_here has.number has.j has.known has.inside own))

@@ -1,6 +1,6 @@
 -- The new numbers of a unit, from those of its values.
-use Rattle.std.proofs.Common.{◌≡◌, ◌<◌, ◌+◌, ◌^◌, ◌++◌, ℕ, List, [], ◌∷◌, length, slice_index, get_or, ◌∙◌, sym, ap, refl, subst, arith}
-use Rattle.std.proofs.lemmas.List.{get_or_read, get_or-map, length-append}
+use Rattle.std.proofs.Common.{◌≡◌, ◌<◌, ◌+◌, ◌^◌, ◌++◌, ℕ, List, [], ◌∷◌, length, take, drop, slice_index, get_or, ◌∙◌, sym, ap, refl, subst, arith}
+use Rattle.std.proofs.lemmas.List.{get_or_read, get_or-map, get_or-take, get_or-drop, length-append, length-drop, length-take-le}
 use Rattle.std.proofs.lemmas.List.Elements.{All-from_get_or}
 use Rattle.std.proofs.Math.Seq.{get_or-append_seam}
 use Rattle.dw_base.specs.declared.fault.Reach.{Reach}
@@ -10,7 +10,7 @@ use Rattle.form_codec.specs.Forms.{Meaning}
 use Rattle.form_codec.specs.Values.{meant_in}
 use Rattle.abbrev_tables.specs.declared.decl.Decl.{Decl}
 use Rattle.abbrev_tables.specs.declared.decl.Spec.{Spec}
-use Rattle.abbrev_tables.specs.Listings.{Listing, decl_at, spec_at}
+use Rattle.abbrev_tables.specs.Listings.{Listing, decl_at, spec_at, declared_in}
 use Rattle.entry_arena.specs.declared.entry.Entry.{Entry}
 use Rattle.entry_arena.specs.Arena.{entry_at, value_at}
 use Rattle.entry_read.proofs.OwnerLaws.{values_counted}
@@ -26,7 +26,7 @@ use Rattle.rewriter.specs.declared.tables.NewTable.{NewTable}
 use Rattle.rewriter.specs.Tables.{table_anew, new_table_at, AreTablesWritten}
 use Rattle.rewriter.specs.Placed.{PlacesAnew, places_anew, places_at, unit_in}
 use Rattle.rewriter.specs.Numbers.{IsNewNumber, IsNewType, AreNewNumbers}
-use Rattle.rewriter.specs.Held.{HasTable, table_for, entry_in, name_in, value_in, AreNumbered, IsTypeMoved}
+use Rattle.rewriter.specs.Held.{HasTable, table_for, entry_in, name_in, value_in, EntryMeans, AreNumbered, IsTypeMoved}
 use Rattle.rewriter.proofs.Standing.{held_unit, held_count, has_table}
 use Rattle.rewriter.proofs.Meant.{read_unit_at, column_same, value_same, values_size}
 
@@ -37,12 +37,37 @@ named_is world u tables table_of i named inside old same_tables same_numbers is 
     let at : i ≡ slice_index world.table_of u = get_or_read world.table_of u i inside (subst (λ (z : List ℕ). i ≡ get_or z u i) same_numbers is) 0 in
     get_or_read world.tables (slice_index world.table_of u) named old (subst (λ (z : List NamedTable). named ≡ get_or z (slice_index world.table_of u) named) same_tables (subst (λ (j : ℕ). named ≡ get_or tables j named) at there)) (record { place = 0; table = record { decls = []; specs = []; end = 0 } })
 
-pub name_same : (world : World) (u id column : ℕ) (own : HeadAndForest) (named : NamedTable) (entry : Entry) (decl : Decl) (specs : List Spec) → own ≡ unit_in world.units u → named ≡ table_at world.tables (slice_index world.table_of u) → entry ≡ entry_at own.forest.entries id → decl ≡ decl_at named.table.decls entry.decl → specs ≡ named.table.specs → (spec_at specs (decl.first + column)).name ≡ name_in world u id column
-name_same world u id column own named entry decl specs own_is named_is entry_is decl_is specs_is =
-    let e : entry ≡ entry_in world u id = entry_is ∙ ap (λ (h : HeadAndForest). entry_at h.forest.entries id) own_is in
-    let t : named.table ≡ table_for world u = ap (λ (n : NamedTable). n.table) named_is in
-    let d : decl ≡ decl_at (table_for world u).decls (entry_in world u id).decl = decl_is ∙ ap (λ (l : Listing). decl_at l.decls entry.decl) t ∙ ap (λ (x : Entry). decl_at (table_for world u).decls x.decl) e in
-    ap (λ (s : List Spec). (spec_at s (decl.first + column)).name) (specs_is ∙ ap (λ (l : Listing). l.specs) t) ∙ ap (λ (x : Decl). (spec_at (table_for world u).specs (x.first + column)).name) d
+module _ (world : World) (u id column : ℕ) (own : HeadAndForest) (named : NamedTable) (entry : Entry) (known : EntryMeans world u id) (own_is : own ≡ unit_in world.units u) (named_is : named ≡ table_at world.tables (slice_index world.table_of u)) (entry_is : entry ≡ entry_at own.forest.entries id) where
+  entry_there : entry ≡ entry_in world u id
+  entry_there = entry_is ∙ ap (λ (h : HeadAndForest). entry_at h.forest.entries id) own_is
+
+  table_there : named.table ≡ table_for world u
+  table_there = ap (λ (n : NamedTable). n.table) named_is
+
+  -- its declaration is one of the table
+  pub decl_there : entry.decl < length named.table.decls
+  decl_there = subst (λ (e : Entry). e.decl < length named.table.decls) (sym entry_there) (subst (λ (t : Listing). (entry_in world u id).decl < length t.decls) (sym table_there) known.declared)
+
+  module _ (columns : List Spec) (columns_are : columns ≡ (declared_in named.table.specs (decl_at named.table.decls entry.decl)).columns) where
+    abbrev table : Listing
+    table = table_for world u
+
+    abbrev decl : Decl
+    decl = decl_at (table_for world u).decls (entry_in world u id).decl
+
+    columns_there : columns ≡ take (decl_at (table_for world u).decls (entry_in world u id).decl).count (drop (decl_at (table_for world u).decls (entry_in world u id).decl).first (table_for world u).specs)
+    columns_there = columns_are ∙ ap (λ (t : Listing). (declared_in t.specs (decl_at t.decls entry.decl)).columns) table_there ∙ ap (λ (e : Entry). (declared_in table.specs (decl_at table.decls e.decl)).columns) entry_there
+
+    -- there is a column for each value of the entry
+    pub column_there : column < (entry_in world u id).count → column < length columns
+    column_there below =
+        let wide : length (take decl.count (drop decl.first table.specs)) ≡ decl.count = length-take-le decl.count (drop decl.first table.specs) (omega (arith, length-drop decl.first table.specs, known.columns, known.counted)) in
+        omega (arith, ap length columns_there, wide, known.counted, below)
+
+    pub name_same : column < (entry_in world u id).count → (spec_at columns column).name ≡ name_in world u id column
+    name_same below =
+        let within : column < decl.count = omega (arith, known.counted, below) in
+        ap (λ (cs : List Spec). (spec_at cs column).name) columns_there ∙ ap (λ (c : Spec). c.name) (get_or-take decl.count (drop decl.first table.specs) column (spec_at [] 0) within ∙ get_or-drop decl.first table.specs column (spec_at [] 0))
 
 pub value_there : (world : World) (u id column : ℕ) (own : HeadAndForest) (entry : Entry) (values : List Value) → own ≡ unit_in world.units u → entry ≡ entry_at own.forest.entries id → values ≡ own.forest.values → value_at values (entry.first + column) ≡ value_in world u id column
 value_there world u id column own entry values own_is entry_is values_are =

@@ -53,3 +53,5 @@ pub mod TableSteps
 pub mod TermSums
 pub mod TableSizes
 pub mod SectionSizes
+pub mod PartDeclarations
+pub mod UsedAgain

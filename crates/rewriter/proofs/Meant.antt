@@ -162,6 +162,7 @@ attribute_means info abbrevs r u id j unit is means inside below =
 record EntryIn (world : World) (u id : ℕ) (h : HeadAndForest) (t : Listing) : Type 0 where
   pub entry : id < length h.forest.entries
   pub declared : (entry_at h.forest.entries id).decl < length t.decls
+  pub counted : (entry_at h.forest.entries id).count ≡ (decl_at t.decls (entry_at h.forest.entries id).decl).count
   pub columns : (decl_at t.decls (entry_at h.forest.entries id).decl).first + (entry_at h.forest.entries id).count ≤ length t.specs
   pub values : (entry_at h.forest.entries id).first + (entry_at h.forest.entries id).count ≤ length h.forest.values
   pub means : (column : ℕ) → column < (entry_at h.forest.entries id).count → MeansSomething world u (spec_at t.specs ((decl_at t.decls (entry_at h.forest.entries id).decl).first + column)).name (value_at h.forest.values ((entry_at h.forest.entries id).first + column))
@@ -189,6 +190,7 @@ module _ (world : World) (u : ℕ) (reach : Reach) (is : IsWorldOf world.image r
   entry_read id inside = record {
     entry = inside;
     declared = entry_declared (debug_info world.image) (debug_abbrev world.image) (unit_at is.r u) unit_is id inside;
+    counted = counted (debug_info world.image) (debug_abbrev world.image) (unit_at is.r u) unit_is id inside;
     columns = columns_within (debug_info world.image) (debug_abbrev world.image) (unit_at is.r u) unit_is id inside;
     values = (owners (debug_info world.image) (debug_abbrev world.image) (unit_at is.r u) unit_is).inside id inside;
     means = λ column below.
@@ -212,6 +214,7 @@ module _ (world : World) (u : ℕ) (reach : Reach) (is : IsWorldOf world.image r
           table = is.holds.tables.inside u there;
           entry = inside;
           declared = e.declared;
+          counted = e.counted;
           columns = e.columns;
           values = e.values;
           means = e.means;

@@ -16,7 +16,7 @@ use Rattle.value_links.specs.Reading.{Reading, line_heads, unit_starts, unit_at,
 use Rattle.value_links.specs.Debug.{Debug, set_meaning, MeansDebug}
 use Rattle.value_links.specs.Faults.{IsValid}
 use Rattle.value_links.specs.Faults.Pass.{OfLinks}
-use Rattle.value_links.specs.Laws.{HasNoUnread, IsImageInOrder, AreUnitsInOrder, MeaningFilesAreValid}
+use Rattle.value_links.specs.Laws.{AreBuilt, HasNoUnread, IsImageInOrder, AreUnitsInOrder, MeaningFilesAreValid}
 use Rattle.value_links.specs.Same.{Same}
 use Rattle.value_links.specs.World.{World, head_and_forest, table_at, named_by, Holds, IsWorldOf}
 use Rattle.rewriter.specs.declared.sections.NewSections.{NewSections}
@@ -95,7 +95,7 @@ module _ (file written : List ℕ) (world : World) (r s : Reading) (new : NewSec
   units_in_order = record {
     before = record { before = has.order; programs = reads_anew.parts.programs; few = anew.programs.few };
     units = reads_anew.parts.units;
-    built = anew.units.built;
+    built = subst (λ (z : List ℕ). AreBuilt z s.units) (sym has.abbrevs) anew.units.built;
   }
 
   -- and it is valid

@@ -24,7 +24,7 @@ use Rattle.rewriter.specs.Tables.{TableAnew}
 use Rattle.rewriter.specs.Appended.{IsAppended}
 use Rattle.rewriter.proofs.TermSums.{sum_by-map}
 use Rattle.rewriter.proofs.Renumbers.{AreNumbersOf}
-use Rattle.rewriter.proofs.Writables.{writable}
+use Rattle.rewriter.proofs.Writables.{tags_narrow, writable}
 use Rattle.rewriter.proofs.Appends.{numbers_fit}
 
 -- NUMBERS
@@ -146,7 +146,7 @@ module _ (old : Listing) (known : IsTable old) (uses : List ℕ) (count : length
       let order : List (ℕ × ℕ) = written.order in
       let most : ℕ × ℕ → ℕ = λ (used : ℕ × ℕ). declared_most (decl_at old.decls used.1).count in
       let renewed : List Declared = map (renumbered old.decls new.columns) order in
-      let can = writable old.decls old.specs _ known.2.table new.columns fine uses new.numbers numbers_of (numbers_fit uses new.numbers appended.stands.least numbers_of) same order written.ordered in
+      let can = writable old.decls (tags_narrow old known) new.columns fine uses new.numbers numbers_of (numbers_fit uses new.numbers appended.stands.least numbers_of) same order written.ordered in
       let spelled : length bytes ≤ 1 + sum_by (λ (d : Declared). declared_most (length d.columns)) renewed = spelled_most renewed bytes can written.spelled in
       let mapped = sum_by-map (λ (d : Declared). declared_most (length d.columns)) (renumbered old.decls new.columns) order in
       let narrower = sum_by-le-sum_by (λ (used : ℕ × ℕ). declared_most (length (renumbered old.decls new.columns used).columns)) most order (renumbered_most old.decls new.columns) in

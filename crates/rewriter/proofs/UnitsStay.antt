@@ -11,6 +11,8 @@ use Rattle.form_codec.specs.Values.{meant_in, LiesIn}
 use Rattle.abbrev_tables.specs.declared.decl.Spec.{Spec}
 use Rattle.abbrev_tables.specs.Tables.{Declared}
 use Rattle.abbrev_tables.specs.Listings.{Listing, IsTableAt}
+use Rattle.abbrev_tables.specs.Parts.{IsPartAt}
+use Rattle.abbrev_tables.proofs.WholeParts.{whole_part}
 use Rattle.entry_arena.specs.declared.entry.Entry.{Entry}
 use Rattle.entry_arena.specs.Arena.{Arena, value_at}
 use Rattle.entry_arena.specs.Trees.{Listed, SpellsBetween, declared_at}
@@ -83,7 +85,7 @@ written_read unit table listing columns numbers new_table type_offset held start
     let ends : end_of w.head ≡ w.forest.place = omega arith in
     record {
       named = subst (λ (n : ℕ). n < length abbrevs) (sym w.fields.table) inside;
-      table = subst (λ (n : ℕ). IsTableAt abbrevs n listing) (sym w.fields.table) stands;
+      table = subst (λ (n : ℕ). IsPartAt abbrevs n listing) (sym w.fields.table) (whole_part abbrevs new_table listing stands);
       section = refl;
       entries = (w.forest.place, unit_stays section more w.head (declarations_of listing) w.forest w.is_unit ends);
     }

@@ -1,16 +1,20 @@
 -- The used declarations of a table that was read can be written, each with its new number and new columns.
-use Rattle.std.proofs.Common.{◌≡◌, ◌≢◌, ◌<◌, ◌+◌, ◌^◌, ◌⊎◌, inl, inr, ℕ, List, [], ◌∷◌, length, map, take, drop, get_or, sym, ap, ◌∙◌, subst, arith}
+use Rattle.std.proofs.Common.{◌≡◌, ◌≢◌, ◌<◌, ◌^◌, ◌⊎◌, inl, inr, ℕ, List, [], ◌∷◌, length, map, drop, get_or, ap, ◌∙◌, subst, arith}
 use Rattle.std.specs.Prelude.{ℤ, pos, FitsSigned}
 use Rattle.std.specs.Int.{w64}
 use Rattle.std.specs.List.{All}
-use Rattle.std.proofs.lemmas.List.{get_or-map, length-map, take-append-drop, drop-drop, drop_all}
-use Rattle.std.proofs.lemmas.List.Elements.{All-nil, All-cons, All-map, All-append, All-take, All-drop, All-get_or, All-from_get_or}
+use Rattle.std.proofs.lemmas.List.{get_or-map, length-map}
+use Rattle.std.proofs.lemmas.List.Elements.{All-nil, All-cons, All-map, All-take, All-drop, All-get_or, All-from_get_or}
 use Rattle.spelled.specs.Spelled.{Joined}
 use Rattle.abbrev_tables.specs.declared.decl.Decl.{Decl}
 use Rattle.abbrev_tables.specs.declared.decl.Spec.{Spec}
-use Rattle.abbrev_tables.specs.Tables.{implicit_const, SpellsConstant, SpellsColumn, SpellsDeclared, SpellsTable, Declared, codes_of, AreDistinct}
-use Rattle.abbrev_tables.specs.Listings.{Listing, decl_at, declared_in, declarations_in, AreAdjacent, IsTableAt}
+use Rattle.abbrev_tables.specs.Tables.{implicit_const, SpellsConstant, SpellsColumn, SpellsDeclared, Declared, codes_of, AreDistinct}
+use Rattle.abbrev_tables.specs.Listings.{Listing, decl_at}
 use Rattle.abbrev_tables.specs.Written.{IsWritableColumn, IsWritable, IsInOrder, renumbered, used_at}
+use Rattle.entry_arena.specs.Trees.{declared_at}
+use Rattle.entry_read.specs.Units.{declarations_of, IsTable}
+use Rattle.entry_read.proofs.Declarations.{declared_is, count_same}
+use Rattle.rewriter.proofs.PartDeclarations.{part_all, columns_all}
 use Rattle.rewriter.proofs.Renumbers.{AreNumbersOf, entry, number_at}
 
 -- what holds of each thing that is spelled
@@ -32,35 +36,33 @@ column_writable c b s =
       constant = constant_writable c.form c.constant rest.1 rest.3;
     }
 
--- the columns of a table that was read can be written
-all_writable : (specs : List Spec) (from : ℕ) (decls : List Decl) (bytes : List ℕ) → AreAdjacent from decls (length specs) → Joined SpellsDeclared (declarations_in specs decls) bytes → All IsWritableColumn (drop from specs)
-all_writable specs from [] bytes same joined =
-    let end : from ≡ length specs = same in
-    subst (λ (cs : List Spec). All IsWritableColumn cs) (sym (drop_all from specs (omega (arith, end)))) (All-nil IsWritableColumn)
-all_writable specs from (d ∷ decls) bytes (e, rest) (first, more, s, others, whole) =
-    let flagged = s.parts.3.3.3 in
-    let own : All IsWritableColumn (take d.count (drop d.first specs)) = joined_each SpellsColumn IsWritableColumn column_writable (take d.count (drop d.first specs)) flagged.0 flagged.2 in
-    let here : All IsWritableColumn (take d.count (drop from specs)) = subst (λ (n : ℕ). All IsWritableColumn (take d.count (drop n specs))) e own in
-    let later : All IsWritableColumn (drop (from + d.count) specs) = all_writable specs (from + d.count) decls more rest others in
-    let moved : drop d.count (drop from specs) ≡ drop (from + d.count) specs = drop-drop d.count from specs in
-    let there : All IsWritableColumn (drop d.count (drop from specs)) = subst (λ (cs : List Spec). All IsWritableColumn cs) (sym moved) later in
-    subst (λ (cs : List Spec). All IsWritableColumn cs) (take-append-drop d.count (drop from specs)) (All-append IsWritableColumn (take d.count (drop from specs)) (drop d.count (drop from specs)) here there)
-
-pub table_writable : (section : List ℕ) (at : ℕ) (t : Listing) → IsTableAt section at t → All IsWritableColumn t.specs
-table_writable section at t stands = all_writable t.specs 0 t.decls stands.table.spelled.0 stands.adjacent stands.table.spelled.2
-
--- the tag of a declaration doesn't change with its code
+-- what is spelled of a declaration can be written
 declared_narrow : (d : Declared) (b : List ℕ) → SpellsDeclared d b → d.tag < 2 ^ 32
 declared_narrow d b s = s.parts.3.2.1
 
-module _ (decls : List Decl) (specs : List Spec) (table : List ℕ) (spelled : SpellsTable (declarations_in specs decls) table) (columns : List Spec) (fine : All IsWritableColumn columns) (uses numbers : List ℕ) (are : AreNumbersOf uses numbers) (fits : (i : ℕ) → i < length numbers → get_or numbers i 0 < 2 ^ 64) (same : length numbers ≡ length decls) (order : List (ℕ × ℕ)) (ordered : IsInOrder numbers order) where
-  tag_narrow : (p : ℕ) → p < length decls → (decl_at decls p).tag < 2 ^ 32
-  tag_narrow p inside =
-      let all = joined_each SpellsDeclared (λ (d : Declared). d.tag < 2 ^ 32) declared_narrow (declarations_in specs decls) spelled.spelled.0 spelled.spelled.2 in
-      let none : Decl = decl_at [] 0 in
-      let at = All-get_or (λ (d : Declared). d.tag < 2 ^ 32) (declarations_in specs decls) p (declared_in specs none) (omega (arith, inside, length-map decls (declared_in specs))) all in
-      subst (λ (d : Declared). d.tag < 2 ^ 32) (get_or-map (declared_in specs) decls p none (declared_in specs none) inside) at
+declared_writable : (d : Declared) (b : List ℕ) → SpellsDeclared d b → All IsWritableColumn d.columns
+declared_writable d b s =
+    let flagged = s.parts.3.3.3 in
+    joined_each SpellsColumn IsWritableColumn column_writable d.columns flagged.0 flagged.2
 
+-- what holds of each declaration that is spelled holds of those of a table that was read
+spelled_all : (P : Declared → Type 0) → ((d : Declared) (b : List ℕ) → SpellsDeclared d b → P d) → (t : Listing) → IsTable t → All P (declarations_of t)
+spelled_all P gives t (section, at, part) =
+    let spelled = part.stands.table.spelled in
+    part_all P part.whole part.picks t part.is (joined_each SpellsDeclared P gives (declarations_of part.whole) spelled.0 spelled.2)
+
+-- the columns of a table that was read can be written
+pub table_writable : (t : Listing) → IsTable t → All IsWritableColumn t.specs
+table_writable t known = columns_all IsWritableColumn t.specs 0 t.decls known.2.is.adjacent (spelled_all (λ (d : Declared). All IsWritableColumn d.columns) declared_writable t known)
+
+-- and so can its tags
+pub tags_narrow : (t : Listing) → IsTable t → (p : ℕ) → p < length t.decls → (decl_at t.decls p).tag < 2 ^ 32
+tags_narrow t known p inside =
+    let all = spelled_all (λ (d : Declared). d.tag < 2 ^ 32) declared_narrow t known in
+    let at = All-get_or (λ (d : Declared). d.tag < 2 ^ 32) (declarations_of t) p (declared_at [] 0) (omega (arith, inside, count_same t)) all in
+    subst (λ (d : Declared). d.tag < 2 ^ 32) (declared_is t p inside) at
+
+module _ (decls : List Decl) (tags : (p : ℕ) → p < length decls → (decl_at decls p).tag < 2 ^ 32) (columns : List Spec) (fine : All IsWritableColumn columns) (uses numbers : List ℕ) (are : AreNumbersOf uses numbers) (fits : (i : ℕ) → i < length numbers → get_or numbers i 0 < 2 ^ 64) (same : length numbers ≡ length decls) (order : List (ℕ × ℕ)) (ordered : IsInOrder numbers order) where
   pub writable : All IsWritable (map (renumbered decls columns) order)
   writable =
       All-map IsWritable (renumbered decls columns) order
@@ -71,7 +73,7 @@ module _ (decls : List Decl) (specs : List Spec) (table : List ℕ) (spelled : S
       record {
         coded = λ none. absurd (omega (arith, here.some, none));
         fits = omega (arith, here.number, fits p here.below);
-        narrow = tag_narrow p (omega (arith, here.below, same));
+        narrow = tags p (omega (arith, here.below, same));
         columns = All-take IsWritableColumn d.count (drop d.first columns) (All-drop IsWritableColumn d.first columns fine);
       }))
 

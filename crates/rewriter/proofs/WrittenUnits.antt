@@ -1,12 +1,14 @@
 -- Units that stand anew, each at its place, are read of the new section, and are the old ones moved.
-use Rattle.std.proofs.Common.{◌≡◌, ◌≤◌, ◌<◌, ◌+◌, ◌-◌, ◌++◌, ℕ, zero, suc, List, [], ◌∷◌, length, slice_index, take, drop, ◌∙◌, sym, ap, refl, subst, arith}
+use Rattle.std.proofs.Common.{◌≡◌, ◌≤◌, ◌<◌, ◌+◌, ◌-◌, ◌++◌, ℕ, zero, suc, List, [], ◌∷◌, length, slice_index, take, drop, ◌∙◌, sym, ap, refl, subst, arith, inl, inr}
 use Rattle.std.specs.Prelude.{map}
 use Rattle.std.specs.List.{All, AllZip, sum_by}
+use Rattle.std.proofs.lemmas.Bool.{cases_eq}
 use Rattle.std.proofs.lemmas.List.{take-append-drop, length-take-le}
-use Rattle.std.proofs.lemmas.List.Elements.{All-get_or, All-from_get_or, length_all_zip}
+use Rattle.std.proofs.lemmas.List.Elements.{All-from_get_or, AllZip-get_or, length_all_zip}
 use Rattle.std.proofs.lemmas.List.Sums.{sum_by-cons}
 use Rattle.dw_base.specs.declared.fault.Reach.{Reach}
 use Rattle.abbrev_tables.specs.Listings.{Listing, IsTableAt}
+use Rattle.abbrev_tables.proofs.ListingOnce.{listing_once}
 use Rattle.abbrev_tables.proofs.ListingStands.{declarations_stand}
 use Rattle.entry_arena.specs.declared.entry.Entry.{Entry}
 use Rattle.entry_arena.specs.declared.entry.ChainEnd.{ChainEnd}
@@ -18,11 +20,11 @@ use Rattle.entry_read.specs.Units.{HeadAndForest, end_of, declarations_of, IsWit
 use Rattle.unit_write.specs.declared.places.Places.{Places}
 use Rattle.unit_write.specs.Placing.{IsRenumbered}
 use Rattle.unit_write.specs.Moved.{IsMovedEntry, IsMovedEnd, AreMovedValues, StandsShort, IsWrittenAnew}
-use Rattle.value_links.specs.Reading.{UnitRead, Reading, no_unit, unit_heads, unit_among, unit_at, counts_of, AreWithin, declarations, IsUnitRead, AreUnitsIn}
-use Rattle.value_links.specs.Laws.{IsBuilt}
+use Rattle.value_links.specs.Reading.{UnitRead, Reading, no_unit, unit_heads, unit_among, unit_at, counts_of, AreWithin, declarations, IsUnitRead, HasEntryWith, HaveUsedTables, AreUnitsIn}
+use Rattle.value_links.specs.Laws.{IsBuilt, AreBuilt}
 use Rattle.value_links.specs.World.{World, head_and_forest, table_at, Holds, IsWorldOf}
 use Rattle.rewriter.specs.declared.tables.NewTable.{NewTable}
-use Rattle.rewriter.specs.Tables.{new_table_at, IsTableWritten, AreTablesWritten}
+use Rattle.rewriter.specs.Tables.{TableAnew, new_table_at, IsTableWritten, AreTablesWritten}
 use Rattle.rewriter.specs.Placed.{PlacesAnew, places_anew, places_at, unit_in, PlacesFollow, ArePlacesOf}
 use Rattle.rewriter.specs.Numbers.{AreNewNumbers}
 use Rattle.rewriter.specs.Units.{IsUnitMoved, AreUnitsWritten}
@@ -32,7 +34,9 @@ use Rattle.rewriter.proofs.UnitsStay.{moved_stay, short_stays, written_read}
 use Rattle.rewriter.proofs.Standing.{held_count, held_unit}
 use Rattle.rewriter.proofs.Final.{table_known, unit_once}
 use Rattle.rewriter.proofs.BuiltTables.{built_anew}
-use Rattle.rewriter.proofs.BuiltUnits.{old_built}
+use Rattle.rewriter.proofs.BuiltUnits.{unit_built}
+use Rattle.rewriter.proofs.UsedAgain.{IsUsedAgain, used_again}
+use Rattle.rewriter.proofs.WorldFacts.{of_table}
 use Rattle.rewriter.proofs.Written.{one_place, table_coded}
 
 -- LISTS OF UNITS
@@ -88,6 +92,7 @@ module _ (world : World) (reach : Reach) (tables : List NewTable) (places : List
   record IsUnitAnew (u : ℕ) (new : UnitRead) : Type 0 where
     pub read : IsUnitRead info abbrevs new
     pub head : IsHead info new.head
+    pub stands : IsTableAt abbrevs new.head.table new.table
     pub built : All IsBuilt (declarations new)
     pub moved : IsUnitMoved world r tables places lines u new
 
@@ -125,6 +130,9 @@ module _ (world : World) (reach : Reach) (tables : List NewTable) (places : List
         let first = written_read (unit_in world.units u) (table_for world u) anew.listing (new_table_at tables (slice_index world.table_of u)).columns (new_table_at tables (slice_index world.table_of u)).numbers behind.numbers.table behind.numbers.type_offset behind.numbers.held.items (places_at places u).start (take (places_at places u).end info) (drop (places_at places u).end info) abbrevs w inside stands in
         subst (λ (z : List ℕ). IsUnitRead z abbrevs (read_in z)) joined first
 
+    table_there : IsTableAt abbrevs w.head.table anew.listing
+    table_there = subst (λ (n : ℕ). IsTableAt abbrevs n anew.listing) (sym (w.fields.table ∙ numbered.table_at)) anew.stands
+
     head_there : IsHead info w.head
     head_there = subst (λ (z : List ℕ). IsHead z w.head) joined (head_stays (take (places_at places u).end info) (drop (places_at places u).end info) w.head w.is_head)
 
@@ -139,7 +147,7 @@ module _ (world : World) (reach : Reach) (tables : List NewTable) (places : List
 
     built_there : All IsBuilt (declarations_of anew.listing)
     built_there =
-        let old : All IsBuilt (declarations (unit_at is.r u)) = All-get_or (λ (x : UnitRead). All IsBuilt (declarations x)) is.r.units u no_unit valid_known (old_built declarations_stand world.image reach is.r is.valid is.read) in
+        let old : All IsBuilt (declarations (unit_at is.r u)) = unit_built declarations_stand world.image reach is.r is.valid is.read u valid_known in
         let same : table_for world u ≡ (unit_at is.r u).table = table_known world.image world is.r u is.holds valid_known in
         built_anew world.units abbrevs (table_at world.tables (slice_index world.table_of u)) (new_table_at tables (slice_index world.table_of u)) anew (subst (λ (t : Listing). All IsBuilt (declarations_of t)) (sym same) old)
 
@@ -178,7 +186,7 @@ module _ (world : World) (reach : Reach) (tables : List NewTable) (places : List
     }
 
     unit_anew : (new : UnitRead) × IsUnitAnew u new
-    unit_anew = (read_in info, record { read = unit_read; head = head_there; built = built_there; moved = moved_there })
+    unit_anew = (read_in info, record { read = unit_read; head = head_there; stands = table_there; built = built_there; moved = moved_there })
 
   -- ALL UNITS
 
@@ -202,12 +210,101 @@ module _ (world : World) (reach : Reach) (tables : List NewTable) (places : List
         let values : (counts_of g.units).values ≡ (counts_of is.r.units).values = sums_same (λ (x : UnitRead). length x.forest.values) g.units is.r.units size values_kept in
         subst (λ (n : ℕ). IsWithin (counts_of []) n (counts_of g.units).values) (sym entries) (subst (IsWithin (counts_of []) (counts_of is.r.units).entries) (sym values) is.read.parts.units.within)
 
+    -- TABLES
+
+    abbrev new_at : ℕ → TableAnew
+    new_at i = new_table_at tables i
+
+    abbrev new_unit : ℕ → UnitRead
+    new_unit u = unit_among g.units u
+
+    unit_there : (u : ℕ) → u < length g.units → IsUnitAnew u (new_unit u)
+    unit_there u inside = g.each u (subst (λ (n : ℕ). u < n) g.count inside)
+
+    table_once : (u : ℕ) → u < length g.units → (t : Listing) → IsTableAt abbrevs (new_unit u).head.table t → (new_unit u).table ≡ t
+    table_once u inside t stands = listing_once abbrevs (new_unit u).head.table (new_unit u).table t (unit_there u inside).stands stands
+
+    -- units that name one place have one table
+    tables_alike : (u v : ℕ) → u < length g.units → v < length g.units → (new_unit u).head.table ≡ (new_unit v).head.table → (new_unit u).table ≡ (new_unit v).table
+    tables_alike u v one two same = table_once u one (new_unit v).table (subst (λ (n : ℕ). IsTableAt abbrevs n (new_unit v).table) (sym same) (unit_there v two).stands)
+
+    module _ (i : ℕ) (inside : i < length world.tables) (number : ℕ) (again : IsUsedAgain world.units abbrevs (table_at world.tables i) (new_at i) (written.each i inside) number) where
+      abbrev v : ℕ
+      v = again.used.u
+
+      user_known : again.used.u < length g.units
+      user_known = subst (λ (n : ℕ). v < n) (sym g.count) again.used.inside
+
+      -- a unit that names the place of a table has it
+      user_table : slice_index world.table_of again.used.u ≡ i
+      user_table = elim (cases_eq (slice_index world.table_of v) i) [
+        | inl same ↦ same
+        | inr other ↦ absurd ((of_table world reach is i inside).apart v again.used.inside other again.used.named)
+      ]
+
+      user_named : (new_unit again.used.u).head.table ≡ (new_at i).at
+      user_named = (unit_there v user_known).moved.table_at ∙ ap (λ (n : ℕ). (new_at n).at) user_table
+
+      old_entries : (unit_in world.units again.used.u).forest.entries ≡ (unit_at r again.used.u).forest.entries
+      old_entries = ap (λ (h : HeadAndForest). h.forest.entries) (held_unit file world r v holds)
+
+      old_there : again.used.id < length (unit_at r again.used.u).forest.entries
+      old_there = subst (λ (es : List Entry). again.used.id < length es) old_entries again.used.there
+
+      -- the new number of the entry's declaration
+      new_number : slice_index (new_at (slice_index world.table_of again.used.u)).numbers (entry_at (unit_at r again.used.u).forest.entries again.used.id).decl ≡ number + 1
+      new_number =
+          ap (λ (n : ℕ). slice_index (new_at n).numbers (entry_at (unit_at r v).forest.entries again.used.id).decl) user_table
+          ∙ ap (λ (es : List Entry). slice_index (new_at i).numbers (entry_at es again.used.id).decl) (sym old_entries)
+          ∙ ap (λ (n : ℕ). slice_index (new_at i).numbers n) again.used.is
+          ∙ again.is
+
+      -- so the new entry has the new declaration
+      entry_again : HasEntryWith g.units (new_at i).at number
+      entry_again =
+          let numbers : List ℕ = (new_at (slice_index world.table_of v)).numbers in
+          let none : Entry = entry_at [] 0 in
+          let entries = (unit_there v user_known).moved.entries in
+          let count : length (unit_at r v).forest.entries ≡ length (new_unit v).forest.entries = length_all_zip (IsMovedEntry numbers) (unit_at r v).forest.entries (new_unit v).forest.entries entries in
+          let moved : IsMovedEntry numbers (entry_at (unit_at r v).forest.entries again.used.id) (entry_at (new_unit v).forest.entries again.used.id) = AllZip-get_or (IsMovedEntry numbers) (unit_at r v).forest.entries (new_unit v).forest.entries again.used.id none none entries old_there in
+          record {
+            u = v;
+            inside = user_known;
+            named = user_named;
+            id = again.used.id;
+            there = subst (λ (n : ℕ). again.used.id < n) count old_there;
+            is = omega (arith, moved.decl, new_number);
+          }
+
+    -- each declaration of a table is that of an entry
+    table_used : (u number : ℕ) → u < length g.units → number < length (new_unit u).table.decls → HasEntryWith g.units (new_unit u).head.table number
+    table_used u number inside below =
+        let i : ℕ = slice_index world.table_of u in
+        let size : length g.units ≡ length is.r.units = g.count ∙ held_count world.image world is.r is.holds in
+        let known : i < length world.tables = is.holds.tables.inside u (subst (λ (n : ℕ). u < n) size inside) in
+        let table : IsTableWritten world.units abbrevs (table_at world.tables i) (new_at i) = written.each i known in
+        let place : (new_unit u).head.table ≡ (new_at i).at = (unit_there u inside).moved.table_at in
+        let same : (new_unit u).table ≡ table.listing = table_once u inside table.listing (subst (λ (n : ℕ). IsTableAt abbrevs n table.listing) (sym place) table.stands) in
+        let again = used_again world.units abbrevs (table_at world.tables i) (new_at i) table number (subst (λ (t : Listing). number < length t.decls) same below) in
+        subst (λ (n : ℕ). HasEntryWith g.units n number) (sym place) (entry_again i known number again)
+
+    tables_used : HaveUsedTables g.units
+    tables_used = record { alike = tables_alike; used = table_used }
+
+    -- and can be written
+    table_built : (u : ℕ) → u < length g.units → (t : Listing) → IsTableAt abbrevs (new_unit u).head.table t → All IsBuilt (declarations_of t)
+    table_built u inside t stands = subst (λ (z : Listing). All IsBuilt (declarations_of z)) (table_once u inside t stands) (unit_there u inside).built
+
+    tables_built : AreBuilt abbrevs g.units
+    tables_built = All-from_get_or (λ (x : UnitRead). (t : Listing) → IsTableAt abbrevs x.head.table t → All IsBuilt (declarations_of t)) g.units no_unit table_built
+
     units_read : StandAnew world tables places lines info (length world.units) → AreUnitsIn info abbrevs g.units
     units_read stand =
         let size : length g.units ≡ length places = g.count ∙ sym are.count in
         record {
-          tiled = heads_follow info g.units places 0 (length info) size (λ u inside. (let one : IsUnitAnew u (unit_among g.units u) = g.each u (subst (λ (n : ℕ). u < n) g.count inside) in record { stands = one.head; at = one.moved.at; ends = one.moved.ends })) (stand.size.1 refl);
-          each = All-from_get_or (IsUnitRead info abbrevs) g.units no_unit (λ u inside. (g.each u (subst (λ (n : ℕ). u < n) g.count inside)).read);
+          tiled = heads_follow info g.units places 0 (length info) size (λ u inside. (let one : IsUnitAnew u (unit_among g.units u) = unit_there u inside in record { stands = one.head; at = one.moved.at; ends = one.moved.ends })) (stand.size.1 refl);
+          each = All-from_get_or (IsUnitRead info abbrevs) g.units no_unit (λ u inside. (unit_there u inside).read);
+          used = tables_used;
           within = within;
         }
 
@@ -216,7 +313,7 @@ module _ (world : World) (reach : Reach) (tables : List NewTable) (places : List
         let size : length world.units ≡ length r.units = held_count file world r holds in
         record {
           read = units_read stand;
-          built = All-from_get_or (λ (x : UnitRead). All IsBuilt (declarations x)) g.units no_unit (λ u inside. (g.each u (subst (λ (n : ℕ). u < n) g.count inside)).built);
+          built = tables_built;
           count = g.count ∙ size;
           each = λ u inside. (g.each u (subst (λ (n : ℕ). u < n) (sym size) inside)).moved;
         }

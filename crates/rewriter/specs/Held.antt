@@ -91,6 +91,7 @@ pub record EntryMeans (world : World) (u id : ℕ) : Type 0 where
   pub table : slice_index world.table_of u < length world.tables
   pub entry : id < length (unit_in world.units u).forest.entries
   pub declared : (entry_in world u id).decl < length (table_for world u).decls
+  pub counted : (entry_in world u id).count ≡ (decl_at (table_for world u).decls (entry_in world u id).decl).count
   pub columns : (decl_at (table_for world u).decls (entry_in world u id).decl).first + (entry_in world u id).count ≤ length (table_for world u).specs
   pub values : (entry_in world u id).first + (entry_in world u id).count ≤ length (unit_in world.units u).forest.values
   pub means : (column : ℕ) → column < (entry_in world u id).count → MeansSomething world u (name_in world u id column) (value_in world u id column)

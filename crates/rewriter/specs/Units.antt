@@ -40,6 +40,6 @@ pub record IsUnitMoved (world : World) (r : Reading) (tables : List NewTable) (p
 -- The sections hold the units of a file, written anew, and the tables that they name.
 pub record AreUnitsWritten (world : World) (r : Reading) (tables : List NewTable) (places : List Places) (lines : List ℕ) (info abbrevs : List ℕ) (units : List UnitRead) : Type 0 where
   pub read : AreUnitsIn info abbrevs units
-  pub built : AreBuilt units
+  pub built : AreBuilt abbrevs units
   pub count : length units ≡ length r.units
   pub each : (u : ℕ) → u < length r.units → IsUnitMoved world r tables places lines u (unit_among units u)

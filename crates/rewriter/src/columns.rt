@@ -96,10 +96,10 @@ pub fn choose_columns(
     requires named { (section : List ℕ) × AreUnitsOf units.now.items table.now named.now.items section }
     ensures { IfOk result (λ best. (section : List ℕ) → AreUnitsOf units.now.items table.now named.now.items section → AreBestFor section (values_of_units units.now.items table.now.decls named.now.items) table.now.specs best.items) }
 {
-    let specs = table.specs();
+    let specs = table.specs(alloc)?;
     let mut tallies = Tallies::new(alloc, specs.len())?;
     for number in named.iter() {
         add_unit(alloc, &mut tallies, table, &units[*number as usize])?;
     }
-    Ok(tallies.best(alloc, specs)?)
+    Ok(tallies.best(alloc, &specs)?)
 }

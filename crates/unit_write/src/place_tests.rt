@@ -69,12 +69,15 @@ pub(crate) fn has_room(unit: &Unit<'_>, start: u64) -> bool
 }
 
 // Whether these are new codes of the declarations of a table without columns.
-fn are_codes(table: &Table, numbers: &Vec<u32>) -> bool
+fn are_codes(alloc: Global, table: &Table, numbers: &Vec<u32>) -> bool
     ensures bare { IsTrue result → length table.now.specs ≡ 0 }
     ensures numbered { IsTrue result → length numbers.now.items ≡ length table.now.decls }
     ensures used { IsTrue result → All (λ number. number ≢ 0) numbers.now.items }
 {
-    table.specs().is_empty()
+    let Ok(columns) = table.specs(alloc) else {
+        return false;
+    };
+    columns.is_empty()
         && numbers.len() == table.len() as usize
         && numbers.iter().all(|number| *number != 0)
 }
@@ -91,7 +94,7 @@ fn place_bare(
     requires held { IsUnitHeld unit.now.forest.section unit.now.head (declarations_of table.now) unit.now.forest }
 {
     let numbers = numbers.to_vec(alloc)?;
-    if !are_codes(table, &numbers) {
+    if !are_codes(alloc, table, &numbers) {
         return Err("no codes")?;
     }
     if !has_room(unit, start) {

@@ -22,7 +22,11 @@ pub mod PartValues
 pub mod Refusing
 pub mod TableFaults
 pub mod TableLaws
+pub mod WholeTables
+pub mod UsedLaws
 pub mod Fronts
+pub mod KeptLaws
+pub mod Parted
 pub mod WorldLaws
 pub mod HeldLinks
 pub mod SectionBytes

@@ -91,7 +91,7 @@ module _ (file : List ℕ) (r : Reading) (debug : Debug) (read : IsReading file 
   links_faultless reach kind place f =
       let parts = read.parts in
       let programs : f.r.programs ≡ r.programs = programs_once (debug_line file) f.r.programs r.programs 0 f.read.programs.tiled parts.programs.tiled f.read.programs.given parts.programs.given in
-      let units : f.r.units ≡ r.units = units_once (debug_info file) (debug_abbrev file) f.r.units r.units 0 f.read.units.tiled parts.units.tiled f.read.units.each parts.units.each in
+      let units : f.r.units ≡ r.units = units_once (debug_info file) (debug_abbrev file) f.r.units r.units f.read.units parts.units in
       let by_programs = subst (λ (z : List ProgramRead). FaultAttribute (record { programs = z; units = f.r.units; sets = f.r.sets }) f.u kind place ⊎ FaultType (record { programs = z; units = f.r.units; sets = f.r.sets }) f.u kind place) programs f.fault in
       let by_units = subst (λ (z : List UnitRead). FaultAttribute (record { programs = r.programs; units = z; sets = f.r.sets }) f.u kind place ⊎ FaultType (record { programs = r.programs; units = z; sets = f.r.sets }) f.u kind place) units by_programs in
       let inside : f.u < length r.units = subst (λ (z : List UnitRead). f.u < length z) units f.inside in

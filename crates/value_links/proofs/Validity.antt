@@ -15,7 +15,7 @@ use Rattle.value_links.specs.Reading.{ProgramRead, Reading, line_heads, HasRows}
 use Rattle.value_links.specs.Faults.{FaultOfFile, FaultOfNames, FaultOfPrograms, FaultOfUnits, Pass, order_of, FaultOfPass}
 use Rattle.value_links.specs.Faults.Pass.{OfFile, OfNames, OfPrograms, OfUnits, OfLinks, OfLists}
 use Rattle.value_links.specs.Laws.{IsImageInOrder, AreProgramsInOrder, AreUnitsInOrder, FirstFaultsDecide, MeaningFilesAreValid}
-use Rattle.value_links.proofs.ValidUnits.{info_faultless, tables_faultless}
+use Rattle.value_links.proofs.ValidUnits.{read_faultless, named_faultless}
 use Rattle.value_links.proofs.ValidLinks.{links_whole}
 
 file_faultless : (file : List ℕ) (reach : Reach) → IsRead file reach → (kind : Kind) (place : ℕ) → FaultOfFile file reach kind place → ⊥
@@ -43,8 +43,8 @@ units_faultless : (file : List ℕ) (reach : Reach) (r : Reading) → AreUnitsIn
 units_faultless file reach r order kind place f =
     let units = order.units in
     elim f [
-      | inl entries ↦ info_faultless (debug_info file) (debug_abbrev file) r.units units.tiled units.each units.within kind entries.0 entries.2
-      | inr tables ↦ tables_faultless (debug_info file) (debug_abbrev file) r.units units.tiled units.each units.within order.built kind tables.0 tables.2
+      | inl entries ↦ read_faultless (debug_info file) (debug_abbrev file) r.units units kind entries.0 entries.2
+      | inr tables ↦ named_faultless (debug_info file) (debug_abbrev file) r.units units order.built kind tables.0 tables.2
     ]
 
 -- the passes before one have no fault

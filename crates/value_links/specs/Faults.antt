@@ -29,7 +29,7 @@ use Rattle.companions.specs.Faults.{FaultSets}
 use Rattle.value_links.specs.Sections.{offset_named, debug_info, debug_abbrev, debug_line, debug_aranges, info_name, abbrev_name, line_name, aranges_name, rnglists_name, loclists_name}
 use Rattle.value_links.specs.Attributes.{OffsetClass, offset_class, rnglists_base, loclists_base}
 use Rattle.value_links.specs.Attributes.OffsetClass.{LinePtr, RngList, LocList, RngListsPtr, LocListsPtr, AddrPtr, StrOffsetsPtr, MacPtr, Views, NoOffset}
-use Rattle.value_links.specs.Reading.{UnitRead, Reading, unit_heads, unit_at, counts_of, AreWithin, IsUnitRead, IsReadToLinks}
+use Rattle.value_links.specs.Reading.{UnitRead, Reading, unit_heads, unit_at, counts_of, AreWithin, IsUnitByTable, IsReadToLinks}
 use Rattle.value_links.specs.Resolved.{IsLocalTarget, IsSectionTarget, IsTypeEntry, IsProgramAt}
 use Rattle.value_links.specs.Values.{HasValueAt, GivesBase}
 
@@ -106,7 +106,7 @@ pub record PassesUnitTotal (info abbrevs : List ℕ) (place : ℕ) : Type 0 wher
   pub head : UnitHead
   pub end : ℕ
   pub front : Follow info (unit_heads before ++ head ∷ []) 0 end
-  pub each : All (IsUnitRead info abbrevs) before
+  pub each : All (IsUnitByTable info abbrevs) before
   pub within : AreWithin before
   pub passes : FaultEntries info abbrevs (counts_of before) head Limit place
 

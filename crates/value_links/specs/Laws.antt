@@ -10,7 +10,10 @@ use Rattle.line_machine.specs.Faults.{row_limit}
 use Rattle.line_write.specs.Faults.{total_limit}
 use Rattle.form_codec.specs.Forms.{Meaning}
 use Rattle.abbrev_tables.specs.Tables.{Declared}
-use Rattle.value_links.specs.Reading.{ProgramRead, UnitRead, Reading, declarations, unit_at, AreProgramsOf, AreUnitsOf, IsReadToLinks, IsReading}
+use Rattle.abbrev_tables.specs.Listings.{Listing, IsTableAt}
+use Rattle.entry_read.specs.Units.{declarations_of}
+use Rattle.value_links.specs.Sections.{debug_abbrev}
+use Rattle.value_links.specs.Reading.{ProgramRead, UnitRead, Reading, unit_at, AreProgramsOf, AreUnitsOf, IsReadToLinks, IsReading}
 use Rattle.value_links.specs.Values.{HasValueAt}
 use Rattle.value_links.specs.Resolved.{Resolved, Resolves, IsLinked}
 use Rattle.value_links.specs.declared.link.Link.{Link}
@@ -65,9 +68,9 @@ pub record HaveFewRows (programs : List ProgramRead) : Type 0 where
 abbrev pub IsBuilt : Declared → Type 0
 IsBuilt d = ¬ HasShortReference d
 
--- all declarations that units name can be written
-abbrev pub AreBuilt : List UnitRead → Type 0
-AreBuilt units = All (λ (u : UnitRead). All IsBuilt (declarations u)) units
+-- all declarations of the tables that units name can be written, those that no entry has too
+abbrev pub AreBuilt : List ℕ → List UnitRead → Type 0
+AreBuilt abbrevs units = All (λ (u : UnitRead). (table : Listing) → IsTableAt abbrevs u.head.table table → All IsBuilt (declarations_of table)) units
 
 -- no value of what is read waits for a later version of this program
 abbrev pub HasNoUnread : Reading → Type 0
@@ -86,7 +89,7 @@ pub record AreProgramsInOrder (file : List ℕ) (reach : Reach) (r : Reading) : 
 pub record AreUnitsInOrder (file : List ℕ) (reach : Reach) (r : Reading) : Type 0 where
   pub before : AreProgramsInOrder file reach r
   pub units : AreUnitsOf file r.units
-  pub built : AreBuilt r.units
+  pub built : AreBuilt (debug_abbrev file) r.units
 
 -- A fault of a pass is one of the file, where the passes before it find all in order.
 pub record FirstFaultsDecide : Type 0 where

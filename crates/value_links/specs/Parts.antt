@@ -25,7 +25,7 @@ pub record AreUnitsHeld (info abbrevs : List ℕ) (held : Units) : Type 0 where
   pub read : List UnitRead
   pub units : AreUnitsIn info abbrevs read
   pub holds : HoldUnits read held
-  pub built : AreBuilt read
+  pub built : AreBuilt abbrevs read
 
 -- Units have a fault, in one of these sections, whose first bytes stand at these places of the file.
 abbrev pub IsUnitsFault : List ℕ → List ℕ → ℕ → ℕ → Fault → Type 0

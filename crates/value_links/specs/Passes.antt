@@ -6,6 +6,7 @@ use Rattle.line_machine.specs.declared.head.Head.{Head}
 use Rattle.entry_read.specs.Units.{HeadAndForest}
 use Rattle.companions.specs.declared.set.ArangeSet.{ArangeSet}
 use Rattle.value_links.specs.declared.units.Units.{Units}
+use Rattle.value_links.specs.Sections.{debug_abbrev}
 use Rattle.value_links.specs.Reading.{ProgramRead, UnitRead, line_heads, AreProgramsOf, AreUnitsOf}
 use Rattle.value_links.specs.Faults.{NamesFault}
 use Rattle.value_links.specs.Parts.{HoldUnits, AreLinked}
@@ -25,7 +26,7 @@ pub record ArePartsInOrder (file : List ℕ) (heads : List Head) (held : Units) 
   pub programs_held : heads ≡ line_heads programs
   pub read_units : AreUnitsOf file units
   pub holds : HoldUnits units held
-  pub built : AreBuilt units
+  pub built : AreBuilt (debug_abbrev file) units
   pub linked : (sets : List ArangeSet) → AreLinked (record { programs = programs; units = units; sets = sets })
 
 -- the refusal names a fault of the file, where its image is in order

@@ -8,7 +8,8 @@ use Rattle.line_machine.specs.Rows.{GivesRows}
 use Rattle.line_write.specs.Programs.{Tile as ProgramsTile}
 use Rattle.abbrev_tables.specs.Tables.{Declared}
 use Rattle.abbrev_tables.specs.Listings.{Listing, IsTableAt}
-use Rattle.entry_arena.specs.Arena.{Arena, nothing_of}
+use Rattle.abbrev_tables.specs.Parts.{IsPartAt}
+use Rattle.entry_arena.specs.Arena.{Arena, nothing_of, entry_at}
 use Rattle.entry_read.specs.declared.head.UnitHead.{UnitHead}
 use Rattle.entry_read.specs.declared.unit.Counts.{Counts}
 use Rattle.entry_read.specs.Heads.{no_head, Tile as UnitsTile}
@@ -22,7 +23,7 @@ pub record ProgramRead : Type 0 where
   pub head : Head
   pub rows : List Row
 
--- a unit: its header, the abbreviation table that the header names, and its entries
+-- a unit: its header, the declarations that entries have of the abbreviation table that the header names, and its entries
 pub record UnitRead : Type 0 where
   pub head : UnitHead
   pub table : Listing
@@ -87,23 +88,20 @@ AreWithin units = IsWithin (counts_of []) (counts_of units).entries (counts_of u
 abbrev pub declarations : UnitRead → List Declared
 declarations u = declarations_of u.table
 
--- The header names a place in .debug_abbrev where the table stands (DWARF 5 section 7.5.3), and the entries are the
--- unit's, by the declarations of the table.
+-- The header names a place in .debug_abbrev where a table stands (DWARF 5 section 7.5.3), the unit has this table or a part of
+-- it, and the entries are the unit's, by the declarations that it has.
 pub record IsUnitRead (info abbrevs : List ℕ) (u : UnitRead) : Type 0 where
+  pub named : u.head.table < length abbrevs
+  pub table : IsPartAt abbrevs u.head.table u.table
+  pub section : u.forest.section ≡ info
+  pub entries : IsUnitHeld info u.head (declarations u) u.forest
+
+-- the same of a unit that has the whole table
+pub record IsUnitByTable (info abbrevs : List ℕ) (u : UnitRead) : Type 0 where
   pub named : u.head.table < length abbrevs
   pub table : IsTableAt abbrevs u.head.table u.table
   pub section : u.forest.section ≡ info
   pub entries : IsUnitHeld info u.head (declarations u) u.forest
-
--- the units are the whole section, one after the other, by the tables of another, and keep the limits
-pub record AreUnitsIn (info abbrevs : List ℕ) (units : List UnitRead) : Type 0 where
-  pub tiled : UnitsTile info (unit_heads units)
-  pub each : All (IsUnitRead info abbrevs) units
-  pub within : AreWithin units
-
--- the units of .debug_info, by the tables of .debug_abbrev
-abbrev pub AreUnitsOf : List ℕ → List UnitRead → Type 0
-AreUnitsOf file units = AreUnitsIn (debug_info file) (debug_abbrev file) units
 
 -- the unit with a number; past the end there is none, and an empty one stands for it
 abbrev pub no_unit : UnitRead
@@ -116,6 +114,33 @@ no_unit = record {
 abbrev pub unit_among : List UnitRead → ℕ → UnitRead
 unit_among units u = slice_index_or units u no_unit
 
+-- an entry of a unit that names a place has the declaration with a number
+pub record HasEntryWith (units : List UnitRead) (place number : ℕ) : Type 0 where
+  pub u : ℕ
+  pub inside : u < length units
+  pub named : (unit_among units u).head.table ≡ place
+  pub id : ℕ
+  pub there : id < length (unit_among units u).forest.entries
+  pub is : (entry_at (unit_among units u).forest.entries id).decl ≡ number
+
+-- Units that name one place have the same declarations, and each of these is that of an entry. So declarations that no entry has
+-- are left out: they carry no meaning.
+pub record HaveUsedTables (units : List UnitRead) : Type 0 where
+  pub alike : (u v : ℕ) → u < length units → v < length units → (unit_among units u).head.table ≡ (unit_among units v).head.table → (unit_among units u).table ≡ (unit_among units v).table
+  pub used : (u number : ℕ) → u < length units → number < length (unit_among units u).table.decls → HasEntryWith units (unit_among units u).head.table number
+
+-- the units are the whole section, one after the other, by the tables of another, and keep the limits
+pub record AreUnitsIn (info abbrevs : List ℕ) (units : List UnitRead) : Type 0 where
+  pub tiled : UnitsTile info (unit_heads units)
+  pub each : All (IsUnitRead info abbrevs) units
+  pub used : HaveUsedTables units
+  pub within : AreWithin units
+
+-- the units of .debug_info, by the tables of .debug_abbrev
+abbrev pub AreUnitsOf : List ℕ → List UnitRead → Type 0
+AreUnitsOf file units = AreUnitsIn (debug_info file) (debug_abbrev file) units
+
+-- the unit with a number
 abbrev pub unit_at : Reading → ℕ → UnitRead
 unit_at r u = unit_among r.units u
 

@@ -3,6 +3,7 @@
 #![tactic(auto)]
 
 mod check;
+mod kept;
 mod laws;
 mod link;
 #[cfg(test)]
@@ -13,6 +14,7 @@ mod tables;
 #[cfg(test)]
 mod tests;
 mod units;
+mod used;
 mod world;
 #[cfg(test)]
 mod world_tests;

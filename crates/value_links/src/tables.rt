@@ -5,14 +5,12 @@ ghost use Rattle.dw_base.specs.Refusals.{IsFaultOf, IsRefusedFor};
 ghost use Rattle.form_codec.specs.Forms.{code_of};
 ghost use Rattle.form_codec.specs.declared.form.Form.TheVariants.{Ref1, Ref2};
 ghost use Rattle.abbrev_tables.specs.declared.decl.Spec.{Spec as AnyColumn};
-ghost use Rattle.abbrev_tables.specs.Listings.{decl_at, declared_in};
-ghost use Rattle.entry_read.specs.Units.{declarations_of, IsTable};
-ghost use Rattle.value_links.specs.Faults.{HasShortReference, FaultRest};
-ghost use Rattle.value_links.specs.Laws.{IsBuilt};
-ghost use Rattle.value_links.specs.Tabled.{AreTablePlaces, AreNumbers, IsNamed, places_of, named_places};
+ghost use Rattle.abbrev_tables.specs.Shared.{read_at};
+ghost use Rattle.value_links.specs.Faults.{FaultRest};
+ghost use Rattle.value_links.specs.Tabled.{AreTablePlaces, AreNumbers, IsNamed, IsFreshBuilt, IsUnbuiltAt, IsUnbuiltPlace, places_of, named_places, with_places};
 
 use crate::units::NamedTable;
-use abbrev_tables::{Decl, Spec, Table, listings};
+use abbrev_tables::{Spec, TableRead, listings, read_tables};
 use dw_base::{Fault, Kind, NoMemory, Refusal};
 use entry_read::UnitHead;
 use std::alloc::Global;
@@ -49,62 +47,48 @@ fn has_short_reference(columns: &[Spec]) -> bool
         .any(|column| column.form == REF1 || column.form == REF2)
 }
 
-// The columns of a declaration.
-fn columns_of(table: &Table, decl: Decl) -> &[Spec]
-    requires { decl.first + decl.count ≤ length table.now.specs }
-    ensures { result.now ≡ take decl.count (drop decl.first table.now.specs) }
+// The number of the first fresh declaration of a table whose entries can't be written yet.
+fn unbuilt_among(read: &TableRead) -> Option<u32>
+    ensures { MatchOption result (IsFreshBuilt read.now) (IsUnbuiltAt read.now) }
 {
-    let first = decl.first as usize;
-    &table.specs()[first..first + decl.count as usize]
-}
-
-// The number of the first declaration of a table whose entries can't be written yet.
-fn unbuilt_among(table: &Table) -> Option<u32>
-    requires { IsTable table.now }
-    ensures { MatchOption result (All IsBuilt (declarations_of table.now)) (λ i. (i < length table.now.decls) × HasShortReference (declared_in table.now.specs (decl_at table.now.decls i))) }
-{
-    for number in 0..table.len() {
-        if has_short_reference(columns_of(table, table.decl(number))) {
+    for number in 0..read.fresh.min(read.table.len()) {
+        if has_short_reference(read.table.columns(number)) {
             return Some(number);
         }
     }
     None
 }
 
-// Reads the table at a place.
-fn read_named(alloc: Global, place: u64, abbrevs: &[u8], origin: u64) -> Result<NamedTable, Refusal>
-    requires inside { place < length abbrevs.now }
-    requires room { origin + length abbrevs.now < 2 ^ 64 }
-    ensures place { IfOk result (λ named. named.place ≡ place) }
-    ensures table { IfOk result (IsNamed abbrevs.now) }
-    ensures fault { IfErr result (IsRefusedFor (IsFaultOf (FaultRest (drop place abbrevs.now)) (origin + place))) }
+// The place of a declaration of a table whose entries can't be written yet. Declarations of tables before it are known.
+fn unbuilt_in(tables: &[TableRead]) -> Option<u64>
+    ensures { MatchOption result ((i : ℕ) → i < length tables.now → IsFreshBuilt (read_at tables.now i)) (λ place. (i : ℕ) × (i < length tables.now) × IsUnbuiltPlace (read_at tables.now i) place) }
 {
-    // A law, which costs nothing: each declaration stands at its place.
-    listings();
-    let table = match Table::read(alloc, abbrevs, place, origin) {
-        Ok(table) => table,
-        Err(refusal) => return Err(refusal),
-    };
-    match unbuilt_among(&table) {
-        Some(number) => Err(Refusal::Refused(Fault {
-            kind: Kind::Unbuilt,
-            place: origin + table.decl(number).at,
-        })),
-        None => Ok(NamedTable { place, table }),
+    for read in tables {
+        if let Some(number) = unbuilt_among(read) {
+            return Some(read.table.decl(number).at);
+        }
     }
+    None
 }
 
-// Appends a table.
-fn push_table(tables: &mut Vec<NamedTable>, table: NamedTable) -> Result<(), NoMemory>
-    ensures { OnOk result (tables.new.items ≡ tables.old.items ++ table ∷ []) }
+// The tables with their places.
+fn named(alloc: Global, places: &[u64], tables: Vec<TableRead>) -> Result<Vec<NamedTable>, NoMemory>
+    ensures { IfOk result (λ named. named.items ≡ with_places places.now tables.items) }
 {
-    tables.push(table)?;
-    Ok(())
+    let named = places
+        .iter()
+        .zip(tables)
+        .map(|(place, read)| NamedTable {
+            place: *place,
+            table: read.table,
+        })
+        .collect(alloc)?;
+    Ok(named)
 }
 
-/// Reads the tables at places of `abbrevs`, the body of .debug_abbrev, whose first byte has the file offset `origin`. A refusal
-/// names a fault of the table at one of the places.
-pub(crate) fn read_tables(
+/// Reads the tables at places of `abbrevs`, the body of .debug_abbrev, whose first byte has the file offset `origin`. Each
+/// declaration is read and looked at once, also where tables overlap. A refusal names a fault of the table at one of the places.
+pub(crate) fn read_named_tables(
     alloc: Global,
     places: &[u64],
     abbrevs: &[u8],
@@ -116,17 +100,22 @@ pub(crate) fn read_tables(
     ensures each { IfOk result (λ tables. All (IsNamed abbrevs.now) tables.items) }
     ensures fault { IfErr result (IsRefusedFor (λ fault. (place : ℕ) × Contains places.now place × IsFaultOf (FaultRest (drop place abbrevs.now)) (origin + place) fault)) }
 {
-    let mut tables: Vec<NamedTable> = Vec::new(alloc);
-    for place in places {
-        let table = match read_named(alloc, *place, abbrevs, origin) {
-            Ok(table) => table,
-            Err(refusal) => return Err(refusal),
-        };
-        let Ok(()) = push_table(&mut tables, table) else {
-            return Err(Refusal::NoMemory);
-        };
+    // A law, which costs nothing: each declaration stands at its place.
+    listings();
+    let tables = match read_tables(alloc, abbrevs, places, origin) {
+        Ok(tables) => tables,
+        Err(refusal) => return Err(refusal),
+    };
+    if let Some(place) = unbuilt_in(&tables) {
+        return Err(Refusal::Refused(Fault {
+            kind: Kind::Unbuilt,
+            place: origin + place,
+        }));
     }
-    Ok(tables)
+    match named(alloc, places, tables) {
+        Ok(named) => Ok(named),
+        Err(_) => Err(Refusal::NoMemory),
+    }
 }
 
 // The number of a place among places that rise, which is one of them.

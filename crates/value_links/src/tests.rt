@@ -22,6 +22,17 @@ const UNITS: [u8; 51] = [
     0, 1, 0x0f, 0, 0, 0, 5, 0, 1, 8, 6, 0, 0, 0, 1, 2, 13, 0, 0, 0, 0,
 ];
 
+// A table at 0, of which one at 12 has the last declaration.
+const OVERLAPPING: [u8; 18] = [
+    1, 0x11, 0, 0, 0, 2, 0x34, 0, 0x49, 0x13, 0, 0, 3, 0x11, 0, 0, 0, 0,
+];
+
+// Units at 0, 13 and 26, whose tables stand at 0, 12 and 0, and whose roots have the codes 3, 3 and 1.
+const ROOTS: [u8; 39] = [
+    9, 0, 0, 0, 5, 0, 1, 8, 0, 0, 0, 0, 3, 9, 0, 0, 0, 5, 0, 1, 8, 12, 0, 0, 0, 3, 9, 0, 0, 0, 5,
+    0, 1, 8, 0, 0, 0, 0, 1,
+];
+
 fn read<'a>(alloc: Global, info: &'a [u8], abbrevs: &[u8]) -> Result<Units<'a>, Refusal> {
     read_units(alloc, info, abbrevs, INFO_ORIGIN, ABBREV_ORIGIN)
 }
@@ -55,6 +66,31 @@ fn units_with_their_tables(rt: HostRuntime) -> Result<(), Fail> {
     }
     let last = held.units.iter().last().ok_or("no unit")?;
     assert_eq!(rt; last.forest().values(), &[Value::LocalRef(13)][..]);
+    Ok(())
+}
+
+#[test]
+fn parts_of_tables_that_overlap(rt: HostRuntime) -> Result<(), Fail> {
+    let held = read(rt.alloc(), &ROOTS, &OVERLAPPING)
+        .ok()
+        .ok_or("refused")?;
+    assert_eq!(rt; held.table_of.as_slice(), &[0, 1, 0][..]);
+    // the place of each table, how many of its declarations entries have, and where the last of these stands
+    let tables = [(0, 2, 12), (12, 1, 12)];
+    assert_eq!(rt; held.tables.len(), tables.len());
+    for (named, row) in held.tables.iter().zip(tables.iter()) {
+        let count = named.table.len();
+        assert!(rt; count > 0);
+        assert_eq!(rt; (named.place, count, named.table.decl(count - 1).at), *row);
+    }
+    // of each unit the number that the declaration of its root has among these
+    let numbers = [1, 0, 0];
+    assert_eq!(rt; held.units.len(), numbers.len());
+    for (unit, number) in held.units.iter().zip(numbers.iter()) {
+        for entry in unit.forest().entries() {
+            assert_eq!(rt; entry.decl, *number);
+        }
+    }
     Ok(())
 }
 

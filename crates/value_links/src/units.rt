@@ -6,17 +6,18 @@ ghost use Rattle.dw_base.specs.declared.fault.Kind.TheVariants.{Pointer};
 ghost use Rattle.entry_read.specs.declared.unit.Counts.{Counts as AnyCounts};
 ghost use Rattle.entry_read.specs.Heads.{head_numbered, IsHead, Tile};
 ghost use Rattle.entry_read.specs.Units.{IsTable, IsWithin};
-ghost use Rattle.value_links.specs.Faults.{FaultUnits};
+ghost use Rattle.value_links.specs.Faults.{FaultUnits, InfoFault};
 ghost use Rattle.value_links.specs.Parts.{AreUnitsHeld, IsUnitsFault};
 ghost use Rattle.value_links.specs.Tabled.{AreNumbers, IsNamed, HoldFront, places_of};
 
-use crate::tables::{read_tables, table_numbers, table_places};
+use crate::kept::keep_used;
+use crate::tables::{read_named_tables, table_numbers, table_places};
 use abbrev_tables::Table;
 use dw_base::{Fault, Kind, NoMemory, Refusal};
 use entry_read::{Counts, Unit, UnitHead, heads, read_unit};
 use std::alloc::Global;
 
-/// An abbreviation table that units name.
+/// An abbreviation table that units name, or a part of it.
 #[derive(Drop)]
 pub struct NamedTable {
     /// Its place in .debug_abbrev, which units have as debug_abbrev_offset.
@@ -24,7 +25,7 @@ pub struct NamedTable {
     pub table: Table,
 }
 
-/// The units of .debug_info in their order, and the abbreviation tables that they name.
+/// The units of .debug_info in their order, and of the abbreviation tables that they name the declarations that entries have.
 #[derive(Drop)]
 pub struct Units<'a> {
     pub units: Vec<Unit<'a>>,
@@ -52,6 +53,29 @@ fn check_offsets(heads: &[UnitHead], size: usize, origin: u64) -> Result<(), Fau
         }
     }
     Ok(())
+}
+
+// The headers of the units, each of which names a place of .debug_abbrev.
+fn named_heads(
+    alloc: Global,
+    info: &[u8],
+    abbrevs: &[u8],
+    origin: u64,
+) -> Result<Vec<UnitHead>, Refusal>
+    requires { origin + length info.now < 2 ^ 64 }
+    ensures tiled { IfOk result (λ all. Tile info.now all.items) }
+    ensures heads { IfOk result (λ all. All (IsHead info.now) all.items) }
+    ensures inside { IfOk result (λ all. (u : ℕ) → u < length all.items → (head_numbered all.items u).table < length abbrevs.now) }
+    ensures fault { IfErr result (IsRefusedFor (IsFaultOf (InfoFault info.now abbrevs.now) origin)) }
+{
+    let all = match heads(alloc, info, origin) {
+        Ok(all) => all,
+        Err(refusal) => return Err(refusal),
+    };
+    match check_offsets(&all, abbrevs.len(), origin) {
+        Ok(()) => Ok(all),
+        Err(fault) => Err(Refusal::Refused(fault)),
+    }
 }
 
 // How many entries and values there are with those of one more unit.
@@ -109,8 +133,8 @@ fn read_each<'a>(
 }
 
 /// Reads the units of `info`, the body of .debug_info, with the abbreviation tables that they name in `abbrevs`, the body of
-/// .debug_abbrev (DWARF 5 sections 7.5.1 to 7.5.3). Each origin is the file offset of its section's first byte. Each table is
-/// read once.
+/// .debug_abbrev (DWARF 5 sections 7.5.1 to 7.5.3). Each origin is the file offset of its section's first byte. Each declaration
+/// is read once, also where tables overlap, and of each table only the declarations that entries have are kept.
 ///
 /// A refusal names a fault of a unit's header, of its debug_abbrev_offset, of a table that a unit names, or of the entries of a
 /// unit. `NoMemory` may come wherever memory is wanting, and answers 2^32 tables.
@@ -126,30 +150,29 @@ pub fn read_units<'a>(
     ensures read { IfOk result (λ units. AreUnitsHeld info.entry.now abbrevs.now units) }
     ensures fault { IfErr result (IsRefusedFor (IsUnitsFault info.entry.now abbrevs.now info_origin abbrev_origin)) }
 {
-    let all = match heads(alloc, info, info_origin) {
+    let all = match named_heads(alloc, info, abbrevs, info_origin) {
         Ok(all) => all,
         Err(refusal) => return Err(refusal),
     };
-    match check_offsets(&all, abbrevs.len(), info_origin) {
-        Ok(()) => {}
-        Err(fault) => return Err(Refusal::Refused(fault)),
-    }
     let Ok(places) = table_places(alloc, &all) else {
         return Err(Refusal::NoMemory);
     };
     if places.len() > MOST_TABLES {
         return Err(Refusal::NoMemory);
     }
-    let tables = match read_tables(alloc, &places, abbrevs, abbrev_origin) {
-        Ok(tables) => tables,
+    let whole = match read_named_tables(alloc, &places, abbrevs, abbrev_origin) {
+        Ok(whole) => whole,
         Err(refusal) => return Err(refusal),
     };
     let Ok(table_of) = table_numbers(alloc, &all, &places) else {
         return Err(Refusal::NoMemory);
     };
-    let units = match read_each(alloc, info, &all, &tables, &table_of, info_origin) {
+    let mut units = match read_each(alloc, info, &all, &whole, &table_of, info_origin) {
         Ok(units) => units,
         Err(refusal) => return Err(refusal),
+    };
+    let Ok(tables) = keep_used(alloc, &mut units, &whole, &table_of) else {
+        return Err(Refusal::NoMemory);
     };
     Ok(Units {
         units,

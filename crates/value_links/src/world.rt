@@ -194,7 +194,7 @@ impl<'a> World<'a> {
         &self.units.units
     }
 
-    /// The abbreviation tables that units name, each once, by rising place.
+    /// The abbreviation tables that units name, each once, by rising place. Of each there are the declarations that entries have.
     pub fn tables(&self) -> &Vec<NamedTable>
         ensures { result.now.items ≡ self.now.tables }
     {

@@ -1,0 +1,40 @@
+-- What holds of all declarations of a table holds of those of a part of it, and what holds of the columns of all declarations holds
+-- of all columns.
+use Rattle.std.proofs.Common.{◌≡◌, ◌<◌, ◌+◌, ℕ, List, [], ◌∷◌, length, take, drop, get_or, sym, subst, arith}
+use Rattle.std.specs.List.{All}
+use Rattle.std.proofs.lemmas.List.{take-append-drop, drop-drop, drop_all}
+use Rattle.std.proofs.lemmas.List.Elements.{All-nil, All-head, All-tail, All-append, All-get_or, All-from_get_or}
+use Rattle.abbrev_tables.specs.declared.decl.Decl.{Decl}
+use Rattle.abbrev_tables.specs.declared.decl.Spec.{Spec}
+use Rattle.abbrev_tables.specs.Tables.{Declared}
+use Rattle.abbrev_tables.specs.Listings.{Listing, declared_in, declarations_in, AreAdjacent}
+use Rattle.abbrev_tables.specs.Parts.{IsPart}
+use Rattle.abbrev_tables.proofs.PartLaws.{picked}
+use Rattle.entry_arena.specs.Trees.{declared_at}
+use Rattle.entry_read.specs.Units.{declarations_of}
+use Rattle.entry_read.proofs.Declarations.{count_same}
+
+-- each declaration of a part is one of the whole table
+pub part_all : (P : Declared → Type 0) (whole : Listing) (picks : List ℕ) (part : Listing) → IsPart whole picks part → All P (declarations_of whole) → All P (declarations_of part)
+part_all P whole picks part is all =
+    let none : Declared = declared_at [] 0 in
+    All-from_get_or P (declarations_of part) none (λ k known.
+    let here : k < length part.decls = omega (arith, count_same part, known) in
+    let (inside, same) = picked whole part picks is k here in
+    subst P (sym same) (All-get_or P (declarations_of whole) (get_or picks k 0) none (omega (arith, inside, count_same whole)) all))
+
+abbrev HaveAll : (Spec → Type 0) → Declared → Type 0
+HaveAll P d = All P d.columns
+
+-- the columns of a table from one on are those of declarations, one after the other
+pub columns_all : (P : Spec → Type 0) (specs : List Spec) (from : ℕ) (ds : List Decl) → AreAdjacent from ds (length specs) → All (λ (d : Declared). All P d.columns) (declarations_in specs ds) → All P (drop from specs)
+columns_all P specs from [] e all =
+    let same : from ≡ length specs = e in
+    subst (λ (z : List Spec). All P z) (sym (drop_all from specs (omega (arith, same)))) (All-nil P)
+columns_all P specs from (d ∷ ds) (e, rest) all =
+    let own : All P (take d.count (drop d.first specs)) = All-head (HaveAll P) (declared_in specs d) (declarations_in specs ds) all in
+    let first = subst (λ (z : ℕ). All P (take d.count (drop z specs))) e own in
+    let more : All P (drop (from + d.count) specs) = columns_all P specs (from + d.count) ds rest (All-tail (HaveAll P) (declared_in specs d) (declarations_in specs ds) all) in
+    let moved : drop d.count (drop from specs) ≡ drop (from + d.count) specs = drop-drop d.count from specs in
+    let later = subst (λ (z : List Spec). All P z) (sym moved) more in
+    subst (λ (z : List Spec). All P z) (take-append-drop d.count (drop from specs)) (All-append P (take d.count (drop from specs)) (drop d.count (drop from specs)) first later)
