@@ -8,6 +8,8 @@ mod ending;
 mod file_tests;
 #[cfg(test)]
 mod line_tests;
+#[cfg(test)]
+mod overlap_tests;
 mod reading;
 mod real_host;
 mod run;
