@@ -2,10 +2,10 @@
 """Writes an ELF file whose units name abbreviation tables that overlap: one table of N declarations, and for each of them a unit
 whose table begins there and so has all later declarations too.
 
-  bench/make_overlapping_tables.py FILE [--units N]
+  bench/make_overlapping_tables.py FILE [--units N] [--used K]
 
-Each table is read and held for itself, so that the program's time and memory grow with the square of N. That is what this file
-is to show.
+Each unit has an entry for each of the last K declarations (1 if left out). A program that reads each table for itself takes time
+and memory with the square of N: with 8,000 units 32 million declarations are read in a file of 160 KB.
 """
 import argparse
 import struct
@@ -22,15 +22,19 @@ def uleb(number):
             return bytes(out)
 
 
-def sections(count):
+def sections(count, used):
     """The bodies of .debug_info and .debug_abbrev."""
     abbrevs, places = bytearray(), []
     for code in range(1, count + 1):
         places.append(len(abbrevs))
-        abbrevs += uleb(code) + b"\x11\0\0\0"
+        abbrevs += uleb(code) + b"\x11\1\0\0"
     abbrevs += b"\0"
-    # the last declaration is in all tables
-    units = [struct.pack("<HBBI", 5, 1, 8, place) + uleb(count) for place in places]
+    # the last declarations are in all tables but the last ones
+    units = []
+    for first, place in enumerate(places, 1):
+        codes = range(max(first, count + 1 - used), count + 1)
+        chain = b"".join(map(uleb, codes))
+        units.append(struct.pack("<HBBI", 5, 1, 8, place) + chain + bytes(len(codes)))
     return b"".join(struct.pack("<I", len(unit)) + unit for unit in units), bytes(abbrevs)
 
 
@@ -56,8 +60,9 @@ def main():
     parser = argparse.ArgumentParser(description=__doc__, formatter_class=argparse.RawDescriptionHelpFormatter)
     parser.add_argument("file")
     parser.add_argument("--units", type=int, default=4000)
+    parser.add_argument("--used", type=int, default=1)
     options = parser.parse_args()
-    info, abbrevs = sections(options.units)
+    info, abbrevs = sections(options.units, options.used)
     with open(options.file, "wb") as file:
         file.write(elf_file([(b".debug_info", info), (b".debug_abbrev", abbrevs)]))
 

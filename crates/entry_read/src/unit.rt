@@ -78,8 +78,9 @@ fn is_padding(bytes: &[u8]) -> bool
 }
 
 /// Reads the unit of `head` in `info`, the body of .debug_info (DWARF 5 section 7.5), from which the head was read.
-/// `table` is an abbreviation table that was read, the one that the header names, `before` counts the entries and values
-/// of the units before it, and `origin` is the file offset of the section's first byte. Padded LEB128 numbers are read.
+/// `table` is an abbreviation table that was read, the one that the header names, or a part of it, which then is what the
+/// entries are held against. `before` counts the entries and values of the units before it, and `origin` is the file
+/// offset of the section's first byte. Padded LEB128 numbers are read.
 /// Values keep their bytes, so that no expression is read.
 ///
 /// The entries are one tree, after which the unit may have more bytes 0. A refusal names one of the faults of the unit:

@@ -23,7 +23,8 @@ pub record ProgramRead : Type 0 where
   pub head : Head
   pub rows : List Row
 
--- a unit: its header, the declarations that entries have of the abbreviation table that the header names, and its entries
+-- a unit: its header, the declarations of the abbreviation table that the header names, as far as entries of this unit or of another
+-- that names the table have them, and its entries
 pub record UnitRead : Type 0 where
   pub head : UnitHead
   pub table : Listing
@@ -84,7 +85,7 @@ counts_of units = record {
 abbrev pub AreWithin : List UnitRead → Type 0
 AreWithin units = IsWithin (counts_of []) (counts_of units).entries (counts_of units).values
 
--- the declarations that the unit's entries name by their codes
+-- the declarations among which the unit's entries find theirs, by their codes
 abbrev pub declarations : UnitRead → List Declared
 declarations u = declarations_of u.table
 

@@ -10,8 +10,8 @@ use Rattle.value_links.specs.Reading.{UnitRead, Reading, line_heads, unit_among,
 use Rattle.value_links.specs.Debug.{Debug, MeansDebug}
 use Rattle.value_links.specs.Faults.{IsValid}
 
--- the bytes of the file, the headers of its line number programs, its units, the tables that these name, of each unit the
--- number of its table, and the sets of address ranges
+-- the bytes of the file, the headers of its line number programs, its units, of the abbreviation tables that these name the
+-- declarations that entries have, of each unit the number of its table, and the sets of address ranges
 pub record World : Type 0 where
   pub image : List ℕ
   pub programs : List Head
@@ -31,11 +31,12 @@ table_at tables i = slice_index_or tables i (record { place = 0; table = record 
 abbrev pub own_table : World → ℕ → Listing
 own_table world u = (table_at world.tables (slice_index world.table_of u)).table
 
--- the table that the header of a unit names, with its place
+-- what a unit has of the table that its header names, with the table's place
 abbrev pub named_by : UnitRead → NamedTable
 named_by unit = record { place = unit.head.table; table = unit.table }
 
--- The tables that units name: each once, by rising place, and of each unit the number of the one that its header names.
+-- What units have of the tables that they name: each table once, by rising place, and of each unit the number of the one that its
+-- header names.
 pub record AreTablesOf (units : List UnitRead) (tables : List NamedTable) (table_of : List ℕ) : Type 0 where
   pub count : length table_of ≡ length units
   pub inside : (u : ℕ) → u < length units → slice_index table_of u < length tables

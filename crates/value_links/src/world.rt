@@ -208,7 +208,8 @@ impl<'a> World<'a> {
         &self.units.table_of
     }
 
-    /// The abbreviation table of the unit with a number, counted from 0.
+    /// The abbreviation table of the unit with a number, counted from 0, with the declarations that entries have: those of this unit
+    /// or of another that names the same table.
     pub fn table(&self, unit: u32) -> &Table
         requires { unit < length self.now.units }
         ensures { result.now ≡ (table_at self.now.tables (slice_index self.now.table_of unit)).table }
