@@ -288,13 +288,14 @@ pub fn known(form: u64) -> bool
     Form::from_code(form).is_some()
 }
 
+// It is inlined, since a call would cost more than most readings: its result is copied.
+
 /// Reads the value that begins at `at`, counted from 0 in `section`, in the form with this code (DWARF 5 section 7.5.6).
 /// The value is to end by `end`, and `constant` is that of its declaration, which only implicit_const reads. Padded
 /// LEB128 numbers are read.
 ///
 /// The fault is Short where the bytes up to `end` end inside the value, LebWide where a LEB128 number in it doesn't fit
 /// 64 bits, and Text where a text has no zero byte before `end`. Its place is `origin + at`.
-// A call would cost more than most readings: its result is copied.
 #[inline(always)]
 pub fn read_value(
     section: &[u8],
