@@ -1,0 +1,141 @@
+// Address tables, and the addresses in them.
+ghost use Rattle.std.specs.Prelude.{◌≡◌, ◌≤◌, ◌<◌, ◌+◌, ◌^◌, ◌↔◌, length, IsTrue, OnOk, IfOk, IfErr, MatchOption};
+ghost use Rattle.dw_base.specs.Refusals.{IsFaultOf, IsFaulty};
+ghost use Rattle.list_model.specs.Addresses.{table_end, address_place, address_of, IsWhole, IsHeader, IsAddrTable, HasBase};
+ghost use Rattle.list_model.specs.Faults.{LeavesSection, FaultTable, FaultBefore};
+
+use dw_base::{Fault, Kind};
+use fixed_width::{u16_at, u32_at, u64_at};
+
+/// A table of addresses (DWARF 5 section 7.27).
+#[derive(Clone, Copy, Debug, PartialEq, Eq)]
+pub struct AddrTable {
+    /// The place of its first byte in the section, which is that of its header.
+    pub at: u64,
+    /// How many addresses it has, each of 8 bytes.
+    pub count: u64,
+}
+
+const VERSION: u16 = 5;
+
+// The first of the lengths that are reserved (DWARF 5 section 7.4).
+const FIRST_RESERVED: u32 = 0xffff_fff0;
+
+// The bytes of a table's header: its length, its version and the sizes of addresses and segment selectors.
+const HEADER_SIZE: usize = 8;
+
+// The bytes of an address.
+const ADDRESS_SIZE: usize = 8;
+
+// Where the table at a place ends, or none where it leaves the section.
+fn end_of(section: &[u8], at: usize) -> Option<usize>
+    requires { at ≤ length section.now }
+    ensures { MatchOption result (LeavesSection section.now at) (λ end. IsWhole section.now at × (end ≡ table_end section.now at)) }
+{
+    let left = section.len() - at;
+    if left < 4 {
+        return None;
+    }
+    let length = u32_at(section, at);
+    if length >= FIRST_RESERVED || length as usize > left - 4 {
+        return None;
+    }
+    Some(at + 4 + length as usize)
+}
+
+// Whether the header of the table at a place, which is whole, is one that is understood.
+#[tactic(auto, using(crate::proofs::Walking::byte_at))]
+fn has_header(section: &[u8], at: usize, end: usize) -> bool
+    requires whole { IsWhole section.now at }
+    requires end { end ≡ table_end section.now at }
+    ensures { IsTrue result ↔ IsHeader section.now at }
+{
+    end - at >= HEADER_SIZE
+        && u16_at(section, at + 4) == VERSION
+        && section[at + 6] as usize == ADDRESS_SIZE
+        && section[at + 7] == 0
+}
+
+// A fault at a place of the section.
+fn fault_at(kind: Kind, origin: u64, at: usize) -> Fault
+    requires { origin + at < 2 ^ 64 }
+    ensures { result ≡ record { kind = kind; place = origin + at } }
+{
+    Fault {
+        kind,
+        place: origin + at as u64,
+    }
+}
+
+// The table at a place, or its fault.
+#[tactic(auto, using(crate::proofs::Walking::cut_fault))]
+fn table_at(section: &[u8], at: usize, origin: u64) -> Result<AddrTable, Fault>
+    requires inside { at ≤ length section.now }
+    requires room { origin + length section.now < 2 ^ 64 }
+    ensures table { IfOk result (λ table. (table.at ≡ at) × IsAddrTable section.now table) }
+    ensures fault { IfErr result (IsFaultOf (FaultTable section.now at) origin) }
+{
+    let Some(end) = end_of(section, at) else {
+        return Err(fault_at(Kind::Short, origin, at));
+    };
+    if !has_header(section, at, end) {
+        return Err(fault_at(Kind::ListEntry, origin, at));
+    }
+    let size = end - at - HEADER_SIZE;
+    let cut = size % ADDRESS_SIZE;
+    if cut != 0 {
+        return Err(fault_at(Kind::Short, origin, end - cut));
+    }
+    Ok(AddrTable {
+        at: at as u64,
+        count: (size / ADDRESS_SIZE) as u64,
+    })
+}
+
+// Where the address with this number stands, and for a table's count where the table ends.
+fn place_of(table: &AddrTable, index: u64) -> usize
+    requires { address_place table.now.at index < 2 ^ 64 }
+    ensures { result ≡ address_place table.now.at index }
+{
+    table.at as usize + HEADER_SIZE + ADDRESS_SIZE * index as usize
+}
+
+/// The address table of `addr`, the body of .debug_addr (DWARF 5 section 7.27), whose addresses begin at the place `base`. Places
+/// count from the section's first byte, as DW_AT_addr_base does. Tables stand one after the other, and are walked from there on. A
+/// table is met that begins 8 bytes before `base` or earlier; later ones aren't looked at. None comes exactly where no table that
+/// is met has a fault and the addresses of none begin at `base`.
+///
+/// An error comes exactly where a table that is met has a fault, and its place is an offset in the file, in which the section
+/// begins at `origin`. A table that leaves the section, or whose length is a reserved one, from 0xfffffff0 on, is Short at its
+/// first byte. One that is whole is ListEntry there where its header has another version than 5, another address size than 8 or
+/// another segment selector size than 0, or doesn't fit in the length. Where the header is in order and the last address is cut,
+/// that is Short at this address. It takes no memory.
+#[tactic(auto, using(crate::proofs::Walking::base_whole))]
+pub fn addr_table(addr: &[u8], base: u64, origin: u64) -> Result<Option<AddrTable>, Fault>
+    requires room { origin + length addr.now < 2 ^ 64 }
+    ensures table { IfOk result (λ found. MatchOption found ((table : _) → HasBase addr.now base table → ⊥) (HasBase addr.now base)) }
+    ensures whole { OnOk result (¬ IsFaulty (FaultBefore addr.now base)) }
+    ensures fault { IfErr result (IsFaultOf (FaultBefore addr.now base) origin) }
+{
+    let mut at = 0;
+    while at < addr.len() && (at + HEADER_SIZE) as u64 <= base {
+        let table = table_at(addr, at, origin)?;
+        if (at + HEADER_SIZE) as u64 == base {
+            return Ok(Some(table));
+        }
+        at = place_of(&table, table.count);
+    }
+    Ok(None)
+}
+
+/// The address with the number `index` in a table, counted from 0 (DWARF 5 section 7.27), or None exactly where `index` is the
+/// table's count or more. The table is to be one of `addr`, the body of .debug_addr. It takes no memory.
+pub fn address(addr: &[u8], table: &AddrTable, index: u64) -> Option<u64>
+    requires { IsAddrTable addr.now table.now }
+    ensures { MatchOption result (table.now.count ≤ index) (λ address. (index < table.now.count) × (address ≡ address_of addr.now table.now index)) }
+{
+    if index >= table.count {
+        return None;
+    }
+    Some(u64_at(addr, place_of(table, index)))
+}
