@@ -30,6 +30,7 @@ adjacent_from from [] to n a inside = absurd (omega arith)
 adjacent_from from (d ∷ ds) to zero (e, a) inside = (refl, subst (λ (z : ℕ). AreAdjacent (z + d.count) ds to) (sym e) a)
 adjacent_from from (d ∷ ds) to (suc n) (e, a) inside = adjacent_from (from + d.count) ds to n a (omega arith)
 
+-- the columns of each declaration stand behind the place where those of the first begin
 pub first_after : (from : ℕ) (ds : List Decl) (to i : ℕ) → AreAdjacent from ds to → i < length ds → from ≤ (decl_at ds i).first
 first_after from [] to i a inside = absurd (omega arith)
 first_after from (d ∷ ds) to zero (e, a) inside = omega arith

@@ -8,6 +8,7 @@ use Rattle.abbrev_tables.specs.declared.decl.Spec.{Spec}
 use Rattle.abbrev_tables.specs.Tables.{Declared}
 use Rattle.abbrev_tables.specs.Listings.{Listing, declared_in, declarations_in, AreAdjacent, ArePlaced, IsTableAt}
 use Rattle.abbrev_tables.proofs.Unique.{declared_once, table_once}
+use Rattle.abbrev_tables.proofs.Rows.{adjacent_rises}
 
 tail_same : {A : Type 0} (x y : A) (xs ys : List A) → (x ∷ xs) ≡ (y ∷ ys) → xs ≡ ys
 tail_same x y xs ys e = cc
@@ -23,10 +24,6 @@ decl_same d e at code tag children first count =
     ∙ ap (λ (z : Bool). record { at = e.at; code = e.code; tag = e.tag; children = z; first = d.first; count = d.count }) children
     ∙ ap (λ (z : ℕ). record { at = e.at; code = e.code; tag = e.tag; children = e.children; first = z; count = d.count }) first
     ∙ ap (λ (z : ℕ). record { at = e.at; code = e.code; tag = e.tag; children = e.children; first = e.first; count = z }) count
-
-pub ends_later : (from : ℕ) (ds : List Decl) (to : ℕ) → AreAdjacent from ds to → from ≤ to
-ends_later from [] to e = let same : from ≡ to = e in omega arith
-ends_later from (d ∷ ds) to (e, rest) = let later : from + d.count ≤ to = ends_later (from + d.count) ds to rest in omega arith
 
 -- a declaration has as many columns as are counted
 pub column_count : (specs : List Spec) (first count : ℕ) → first + count ≤ length specs → length (take count (drop first specs)) ≡ count
@@ -54,8 +51,8 @@ decls_once ss ts from place (d ∷ ds) [] a b x y m n same p q h = absurd (nothi
 decls_once ss ts from place (d ∷ ds) (e ∷ es) a b x y (d_first, m) (e_first, n) same (front, rest, d_at, d_spelled, p, f) (other, left, e_at, e_spelled, q, g) h =
     let whole : front ++ (rest ++ x) ≡ other ++ (left ++ y) = regroup front rest x other left y (ap (λ z. z ++ x) (sym f) ∙ h ∙ ap (λ z. z ++ y) g) in
     let once = declared_once (declared_in ss d) (declared_in ts e) front other (rest ++ x) (left ++ y) d_spelled e_spelled whole in
-    let d_in : from + d.count ≤ length ss = ends_later (from + d.count) ds (length ss) m in
-    let e_in : from + e.count ≤ length ts = ends_later (from + e.count) es (length ts) n in
+    let d_in : from + d.count ≤ length ss = adjacent_rises (from + d.count) ds (length ss) m in
+    let e_in : from + e.count ≤ length ts = adjacent_rises (from + e.count) es (length ts) n in
     let d_size : length (take d.count (drop d.first ss)) ≡ d.count = column_count ss d.first d.count (omega arith) in
     let e_size : length (take e.count (drop e.first ts)) ≡ e.count = column_count ts e.first e.count (omega arith) in
     let size : length (take d.count (drop d.first ss)) ≡ length (take e.count (drop e.first ts)) = ap (λ z. length z.columns) once.1 in

@@ -9,7 +9,8 @@ use Rattle.abbrev_tables.specs.declared.decl.Spec.{Spec}
 use Rattle.abbrev_tables.specs.Tables.{Declared}
 use Rattle.abbrev_tables.specs.Listings.{Listing, decl_at, declared_in, declarations_in, AreAdjacent}
 use Rattle.abbrev_tables.specs.Parts.{IsPart}
-use Rattle.abbrev_tables.proofs.ListingOnce.{decl_same, ends_later, column_count, all_columns, columns_are, listing_same}
+use Rattle.abbrev_tables.proofs.ListingOnce.{decl_same, column_count, all_columns, columns_are, listing_same}
+use Rattle.abbrev_tables.proofs.Rows.{adjacent_rises}
 
 -- NUMBERS THAT RISE
 
@@ -62,8 +63,8 @@ decls_same ss ts from [] (e ∷ es) m n size each places = absurd (omega arith)
 decls_same ss ts from (d ∷ ds) [] m n size each places = absurd (omega arith)
 decls_same ss ts from (d ∷ ds) (e ∷ es) (d_first, m) (e_first, n) size each places =
     let same : declared_in ss d ≡ declared_in ts e = each 0 (omega arith) in
-    let d_in : from + d.count ≤ length ss = ends_later (from + d.count) ds (length ss) m in
-    let e_in : from + e.count ≤ length ts = ends_later (from + e.count) es (length ts) n in
+    let d_in : from + d.count ≤ length ss = adjacent_rises (from + d.count) ds (length ss) m in
+    let e_in : from + e.count ≤ length ts = adjacent_rises (from + e.count) es (length ts) n in
     let d_size : length (take d.count (drop d.first ss)) ≡ d.count = column_count ss d.first d.count (omega arith) in
     let e_size : length (take e.count (drop e.first ts)) ≡ e.count = column_count ts e.first e.count (omega arith) in
     let columns : length (take d.count (drop d.first ss)) ≡ length (take e.count (drop e.first ts)) = ap (λ z. length z.columns) same in

@@ -17,6 +17,7 @@ use Rattle.abbrev_tables.specs.declared.decl.Spec.{Spec}
 use Rattle.abbrev_tables.specs.Tables.{implicit_const, SpellsChildren, Declared}
 use Rattle.abbrev_tables.specs.Listings.{AreAdjacent, decl_at}
 use Rattle.abbrev_tables.specs.Written.{ShortestConstant, ShortestColumn, ShortestColumns, ShortestDeclared, ShortestTable, used_among, numbered_as, renumbered, used_at, AreUsed, IsInOrder, IsWrittenOf}
+use Rattle.abbrev_tables.proofs.Rows.{adjacent_rises}
 
 pub constant_none : (form : ℕ) (constant : ℤ) (out : List ℕ) → form ≢ implicit_const → Appends (ShortestConstant form) constant out out
 constant_none form constant out other = ([], inr (other, refl), sym (append-nil out))
@@ -57,11 +58,7 @@ order_more f order k a b c inside p q =
 pub columns_inside : (from : ℕ) (ds : List Decl) (to i : ℕ) → AreAdjacent from ds to → i < length ds → (decl_at ds i).first + (decl_at ds i).count ≤ to
 columns_inside from [] to i a inside = absurd (omega arith)
 columns_inside from (d ∷ ds) to zero (e, a) inside =
-    let r : from + d.count ≤ to = rises (from + d.count) ds to a in omega arith
-  where
-    rises : (from : ℕ) (ds : List Decl) (to : ℕ) → AreAdjacent from ds to → from ≤ to
-    rises from [] to e = omega arith
-    rises from (x ∷ ds) to (e, a) = let r : from + x.count ≤ to = rises (from + x.count) ds to a in omega arith
+    let r : from + d.count ≤ to = adjacent_rises (from + d.count) ds to a in omega arith
 columns_inside from (d ∷ ds) to (suc i) (e, a) inside = columns_inside (from + d.count) ds to i a (omega arith)
 
 abbrev pub cmp_used : ℕ × ℕ → ℕ × ℕ → Ordering

@@ -3,9 +3,9 @@ use Rattle.std.proofs.Common.{◌≡◌, ◌≤◌, ◌<◌, ◌+◌, ◌-◌, �
 use Rattle.std.specs.Prelude.{Bool, true, Option, Some}
 use Rattle.std.proofs.lemmas.List.{length-drop, length-take-le, length-append, length-map, append-nil, append_assoc, take-append-drop, take-append-le, drop-append-le, drop_at, take_all}
 use Rattle.spelled.specs.Spelled.{Joined, FaultThen, FaultUntilEnd}
+use Rattle.spelled.proofs.Parts.{take_sum}
 use Rattle.dw_base.specs.declared.fault.Kind.{Kind}
 use Rattle.dw_base.specs.declared.fault.Kind.TheVariants.{Short, CodeTwice}
-use Rattle.form_codec.proofs.ReadLaws.{take_sum}
 use Rattle.abbrev_tables.specs.declared.decl.Decl.{Decl}
 use Rattle.abbrev_tables.specs.declared.decl.Spec.{Spec}
 use Rattle.abbrev_tables.specs.Tables.{SpellsName, Declared, SpellsDeclared, codes_of, AreDistinct}

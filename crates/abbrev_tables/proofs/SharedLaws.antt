@@ -3,8 +3,8 @@ use Rattle.std.proofs.Common.{◌≡◌, ◌≤◌, ◌<◌, ◌+◌, ◌-◌, �
 use Rattle.std.proofs.lemmas.Bool.{cases_lt}
 use Rattle.std.proofs.lemmas.List.{length-append, take-append-drop, length-take-le, length-drop, length-map, drop_at, drop-drop, drop-take, drop-map, map-append, append_assoc, get_or_append_left, get_or-append_right, get_or-drop}
 use Rattle.std.proofs.Math.Seq.{drop-append-add}
-use Rattle.form_codec.proofs.ReadLaws.{take_sum}
 use Rattle.spelled.proofs.Joins.{joined_append}
+use Rattle.spelled.proofs.Parts.{take_sum}
 use Rattle.abbrev_tables.specs.declared.decl.Decl.{Decl}
 use Rattle.abbrev_tables.specs.declared.decl.Spec.{Spec}
 use Rattle.abbrev_tables.specs.Tables.{Declared, SpellsDeclared, codes_of, AreDistinct, IsTableEnd}

@@ -4,11 +4,11 @@ use Rattle.std.specs.Prelude.{Bool, Option, Some, None}
 use Rattle.std.proofs.lemmas.List.{length-append, length-drop, length-take-le, append-nil, append_assoc, take-append-drop}
 use Rattle.spelled.specs.Spelled.{Joined, Then, FaultThen}
 use Rattle.spelled.proofs.Joins.{joined_push}
+use Rattle.spelled.proofs.Parts.{take_sum}
 use Rattle.dw_base.specs.declared.fault.Kind.{Kind}
 use Rattle.dw_base.specs.declared.fault.Kind.TheVariants.{Short, FormUnknown}
 use Rattle.leb_codec.specs.Leb.{Uleb}
 use Rattle.form_codec.specs.Forms.{IsKnown}
-use Rattle.form_codec.proofs.ReadLaws.{take_sum}
 use Rattle.abbrev_tables.specs.declared.decl.Spec.{Spec}
 use Rattle.abbrev_tables.specs.declared.read.Step.{Step}
 use Rattle.abbrev_tables.specs.declared.read.Step.TheVariants.{Column as AColumn, End as TheEnd}

@@ -1,5 +1,5 @@
 -- Laws of numbers in a file.
-use Rattle.std.proofs.Common.{◌≡◌, ◌≤◌, ◌<◌, ◌+◌, ℕ, zero, suc, List, drop, get_or, refl, sym, ◌∙◌, ap, arith, take, ◌++◌, length, ◌^◌}
+use Rattle.std.proofs.Common.{◌≡◌, ◌≤◌, ◌<◌, ◌+◌, ℕ, List, drop, get_or, sym, ◌∙◌, ap, arith, take, ◌++◌, length, ◌^◌}
 use Rattle.std.specs.Prelude.{slice_index}
 use Rattle.std.proofs.lemmas.List.{get_or-drop, get_or-take, get_or_append_left, length-take-le, drop_at, append_assoc}
 use Rattle.std.proofs.lemmas.Slice.{drop-put_mid}
@@ -8,13 +8,7 @@ use Rattle.std.specs.Int.{bytes_low_first}
 use Rattle.byteorder.specs.Numbers.{little_number-reads_back}
 use Rattle.byteorder.specs.Endian.{little_from}
 use Rattle.elf_sections.specs.Numbers.{number_at}
-
-little_from-same : (i n : ℕ) (xs ys : List ℕ) → ((k : ℕ) → i ≤ k → k < i + n → slice_index xs k ≡ slice_index ys k) → little_from i n xs ≡ little_from i n ys
-little_from-same i zero xs ys same = refl
-little_from-same i (suc n) xs ys same =
-    let here : slice_index xs i ≡ slice_index ys i = same i (omega arith) (omega arith) in
-    let rest : little_from (suc i) n xs ≡ little_from (suc i) n ys = little_from-same (suc i) n xs ys (λ k low high. same k (omega arith) (omega arith)) in
-    rw (here, rest) refl
+use Rattle.elf_sections.proofs.HeaderLaws.{little_from-same}
 
 -- files that have the same bytes there have the same number there
 pub number_at-same : (n p : ℕ) (xs ys : List ℕ) → ((k : ℕ) → p ≤ k → k < p + n → slice_index xs k ≡ slice_index ys k) → number_at n p xs ≡ number_at n p ys

@@ -7,6 +7,7 @@ use Rattle.std.proofs.lemmas.List.Sums.{sum_by-cons}
 use Rattle.dw_base.specs.declared.fault.Reach.TheVariants.{Wide}
 use Rattle.elf_sections.specs.Elf.{section_count, segment_count, segments_at, segments_end, segment_end, section_end, loaded_end, greatest, has_no_sections, fixed_end_of, offset_of, size_of, align_of, has_bytes, is_loaded, is_movable, body_of}
 use Rattle.elf_sections.specs.Faults.{IsRead, holds_e_shoff}
+use Rattle.elf_sections.proofs.FixedEnd.{greatest-above, greatest-within}
 use Rattle.elf_place.specs.declared.bodies.NewBody.{NewBody}
 use Rattle.elf_place.specs.Bodies.{body_after, bytes_of}
 
@@ -15,19 +16,6 @@ pub fixed_end_of-some : (file : List ℕ) → section_count file ≢ 0 → fixed
 fixed_end_of-some file some =
     let none : has_no_sections file ≡ false = and_left (eqb (section_count file) 0) _ (ne_eqb (section_count file) 0 some) in
     rw none refl
-
-greatest-below : (f : ℕ → ℕ) (n limit : ℕ) → ((i : ℕ) → i < n → f i ≤ limit) → greatest f n ≤ limit
-greatest-below f zero limit below = omega arith
-greatest-below f (suc n) limit below =
-    omega (arith, greatest-below f n limit (λ i lt. below i (omega arith)), below n (omega arith))
-
-pub greatest-above : (f : ℕ → ℕ) (n i : ℕ) → i < n → f i ≤ greatest f n
-greatest-above f zero i lt = absurd (omega arith)
-greatest-above f (suc n) i lt =
-    elim (cases_lt i n) [
-      | inl before ↦ omega (arith, greatest-above f n i before)
-      | inr last ↦ let e : i ≡ n = omega arith in rw e (omega arith)
-    ]
 
 pub greatest-same : (f g : ℕ → ℕ) (n : ℕ) → ((i : ℕ) → i < n → f i ≡ g i) → greatest f n ≡ greatest g n
 greatest-same f g zero same = refl
@@ -51,8 +39,8 @@ module _ (file : List ℕ) (read : IsRead file Wide) (some : section_count file 
   -- the fixed end lies in the file
   pub fixed_end-within : (64 ≤ fixed_end_of file) × (fixed_end_of file ≤ length file)
   fixed_end-within =
-      let segments = greatest-below (segment_end file) (segment_count file) (length file) read.whole.segments in
-      let sections = greatest-below (loaded_end file) (section_count file) (length file) (λ i lt. loaded_below file i (is_loaded file i) (read.whole.sections i lt)) in
+      let segments = greatest-within (segment_end file) (length file) (segment_count file) read.whole.segments in
+      let sections = greatest-within (loaded_end file) (length file) (section_count file) (λ i lt. loaded_below file i (is_loaded file i) (read.whole.sections i lt)) in
       rw (fixed_end_of-some file some) (omega arith, omega (arith, segments, sections, segments_end-within, read.elf.0))
 
   pub segments_end-below : segments_end file ≤ fixed_end_of file

@@ -4,14 +4,14 @@ use Rattle.std.proofs.lemmas.Bool.{cases_lt}
 use Rattle.elf_sections.specs.Elf.{section_count, segment_count, segment_at, segments_end, segment_end, section_end, loaded_end, is_loaded, greatest, fixed_end_of, has_no_sections}
 use Rattle.elf_sections.specs.Faults.{HasTables}
 
-greatest-within : (f : ℕ → ℕ) (most n : ℕ) → ((k : ℕ) → k < n → f k ≤ most) → greatest f n ≤ most
+pub greatest-within : (f : ℕ → ℕ) (most n : ℕ) → ((k : ℕ) → k < n → f k ≤ most) → greatest f n ≤ most
 greatest-within f most zero all = zero-le
 greatest-within f most (suc n) all =
     let before : greatest f n ≤ most = greatest-within f most n (λ k below. all k (omega arith)) in
     let last : f n ≤ most = all n (omega arith) in
     omega arith
 
-greatest-above : (f : ℕ → ℕ) (n k : ℕ) → k < n → f k ≤ greatest f n
+pub greatest-above : (f : ℕ → ℕ) (n k : ℕ) → k < n → f k ≤ greatest f n
 greatest-above f zero k below = absurd (omega arith)
 greatest-above f (suc n) k below =
     elim (cases_lt k n) [

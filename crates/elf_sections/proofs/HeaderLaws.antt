@@ -9,7 +9,8 @@ use Rattle.elf_sections.specs.Numbers.{number_at}
 use Rattle.elf_sections.specs.Elf.{segment_at, header_at}
 use Rattle.elf_sections.specs.Headers.{Field, DoFit, spelled, file_fields, segment_fields, section_fields, ReadsFileHeaders, ReadsSegmentHeaders, ReadsSectionHeaders}
 
-little_from-same : (i n : ℕ) (xs ys : List ℕ) → ((k : ℕ) → i ≤ k → k < i + n → slice_index xs k ≡ slice_index ys k) → little_from i n xs ≡ little_from i n ys
+-- the same bytes are the same number
+pub little_from-same : (i n : ℕ) (xs ys : List ℕ) → ((k : ℕ) → i ≤ k → k < i + n → slice_index xs k ≡ slice_index ys k) → little_from i n xs ≡ little_from i n ys
 little_from-same i zero xs ys same = refl
 little_from-same i (suc n) xs ys same =
     let here : slice_index xs i ≡ slice_index ys i = same i (omega arith) (omega arith) in

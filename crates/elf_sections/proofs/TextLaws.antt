@@ -22,8 +22,8 @@ not_zero n e zero = true≢false (sym (eq-eqb n 0 zero) ∙ e)
 at_part : (bytes : List ℕ) (at stop k : ℕ) → k < stop - at → get_or (slice_range bytes at stop) k 0 ≡ get_or bytes (at + k) 0
 at_part bytes at stop k inside = get_or-take (stop - at) (drop at bytes) k 0 inside ∙ get_or-drop at bytes k 0
 
-length_part : (bytes : List ℕ) (at stop : ℕ) → at ≤ stop → stop ≤ length bytes → length (slice_range bytes at stop) ≡ stop - at
-length_part bytes at stop order inside =
+pub length_range : (bytes : List ℕ) (at stop : ℕ) → at ≤ stop → stop ≤ length bytes → length (slice_range bytes at stop) ≡ stop - at
+length_range bytes at stop order inside =
     let size = length-take (stop - at) (drop at bytes) in
     let rest = length-drop at bytes in
     omega arith
@@ -32,7 +32,7 @@ pub zero_found : (bytes : List ℕ) (at stop len : ℕ) → at ≤ stop → stop
 zero_found bytes at stop len order inside e =
     let part = slice_range bytes at stop in
     let found = position-Some is_zero part len 0 e in
-    let size = length_part bytes at stop order inside in
+    let size = length_range bytes at stop order inside in
     let here : len < stop - at = omega (arith, found.0) in
     record {
       order = omega arith;
@@ -47,7 +47,7 @@ zero_found bytes at stop len order inside e =
 pub no_zero : (bytes : List ℕ) (at stop : ℕ) → at ≤ stop → stop ≤ length bytes → position is_zero (slice_range bytes at stop) ≡ None → (k : ℕ) → at ≤ k → k < stop → slice_index bytes k ≢ 0
 no_zero bytes at stop order inside e k from below =
     let part = slice_range bytes at stop in
-    let size = length_part bytes at stop order inside in
+    let size = length_range bytes at stop order inside in
     let past : length part ≤ position_or_len is_zero part = grind (arith, common_steps) in
     let shift : at + (k - at) ≡ k = omega arith in
     let same : get_or part (k - at) 0 ≡ get_or bytes k 0 = at_part bytes at stop (k - at) (omega arith) ∙ ap (λ (j : ℕ). get_or bytes j 0) shift in

@@ -9,6 +9,7 @@ use Rattle.form_codec.specs.Forms.{Meaning, SpellsValue}
 use Rattle.form_codec.specs.Forms.Meaning.{Address, AddressNumber, Whole, Bits, SixteenBytes, IsSet, Data, Expression, InUnit, InSection, TypeSignature, InSup, Text, StringPlace, LineStringPlace, SupStringPlace, StringNumber, SectionPlace, LocationList, RangeList}
 use Rattle.form_codec.specs.Values.{meant_in, bytes_in, IsPlaced}
 use Rattle.form_codec.proofs.Shapes.{value_once}
+use Rattle.form_codec.proofs.WriteLaws.{part_len}
 use Rattle.abbrev_tables.specs.declared.decl.Spec.{Spec}
 use Rattle.entry_arena.specs.Trees.{bytes_between, SpellsBetween, ValuesBetween}
 
@@ -65,11 +66,6 @@ value_from (SectionPlace n) from to = value.Offset n
 value_from (LocationList n) from to = value.LocIndex n
 value_from (RangeList n) from to = value.RangeIndex n
 
-span_size : (section : List ℕ) (span : Span) → span.at + span.len ≤ length section → length (bytes_in section span) ≡ span.len
-span_size section span inside =
-    let size : length (drop span.at section) ≡ length section - span.at = length-drop span.at section in
-    length-take-le span.len (drop span.at section) (omega arith)
-
 abbrev span_from : ℕ → ℕ → Span
 span_from at len = record { at = at; len = len }
 
@@ -78,7 +74,7 @@ span_same span at len p q = ap (λ (z : ℕ). span_from z span.len) (sym p) ∙ 
 
 ending_span : (section : List ℕ) (span : Span) (to : ℕ) → to ≤ length section → span.at + span.len ≡ to → span ≡ record { at = to - length (bytes_in section span); len = length (bytes_in section span) }
 ending_span section span to inside placed =
-    let size : length (bytes_in section span) ≡ span.len = span_size section span (omega arith) in
+    let size : length (bytes_in section span) ≡ span.len = part_len section span (omega arith) in
     span_same span (to - length (bytes_in section span)) (length (bytes_in section span)) (omega arith) size
 
 -- a value is what its meaning and its place say
@@ -90,7 +86,7 @@ value_is section (value.Expr span) from to inside placed = ap (λ (s : Span). va
 value_is section (value.Text span) from to inside placed =
     let at : span.at ≡ from = placed.0 in
     let end : span.at + span.len + 1 ≡ to = placed.1 in
-    ap (λ (s : Span). value.Text s) (span_same span from (length (bytes_in section span)) (sym at) (span_size section span (omega arith)))
+    ap (λ (s : Span). value.Text s) (span_same span from (length (bytes_in section span)) (sym at) (part_len section span (omega arith)))
 value_is section v from to inside placed = refl
 
 -- values with the same meaning and the same place are the same

@@ -14,8 +14,9 @@ use Rattle.entry_arena.specs.Onward.{EntryIsNext, EndIsNext, IsWalked, WalksStep
 use Rattle.entry_arena.proofs.TreeLaws.{cons_filled}
 use Rattle.entry_arena.proofs.StepLaws.{entry_rises, end_rises, walks_rise}
 use Rattle.entry_arena.proofs.FrontLaws.{walks_keep}
-use Rattle.entry_arena.proofs.StandingLaws.{walks_extend, own_values}
+use Rattle.entry_arena.proofs.StandingLaws.{walks_extend}
 use Rattle.entry_arena.proofs.GrowingLaws.{walks_push}
+use Rattle.spelled.proofs.Parts.{own_part}
 
 abbrev entry_of : Listed → Listed → ℕ → ℕ → ℕ → Entry
 entry_of now mid depth number count = record { at = now.place; len = mid.place - now.place; depth = depth; decl = number; first = length now.values; count = count }
@@ -45,7 +46,7 @@ module _ (section : List ℕ) (ds : List Declared) where
   first_values old mid new chains left items values listed walk =
       let (more, after) = walks_extend section ds mid chains items new left walk in
       let all : new.values ≡ (old.values ++ values) ++ more = after ∙ ap (λ z. z ++ more) listed in
-      ap (λ z. take (length values) (drop (length old.values) z)) all ∙ own_values old.values values more
+      ap (λ z. take (length values) (drop (length old.values) z)) all ∙ own_part old.values values more
 
   -- what a walk adds stands no earlier than it begins
   ends_after : (items : List Item) (old : Listed) (chains : List ℕ) (new : Listed) (left : List ℕ) → Walks section ds old chains items new left → (k : ℕ) → length old.ends ≤ k → k < length new.ends → old.place ≤ (chain_end_at new.ends k).at

@@ -14,10 +14,10 @@ use Rattle.form_codec.specs.declared.value.Value.TheVariants as value
 use Rattle.form_codec.specs.Forms.{Meaning, SpellsShape, SpellsValue, in_role, shape_of, size_of, number}
 use Rattle.form_codec.specs.Forms.Meaning.{Whole, Bits, SixteenBytes, Data, Expression, Text}
 use Rattle.form_codec.specs.Values.{meant_in, bytes_in, IsPlaced, LiesIn}
-use Rattle.form_codec.proofs.ReadLaws.{length_part}
 use Rattle.entry_arena.specs.Arena.{span_of}
 use Rattle.entry_arena.specs.Order.{ComesBefore}
 use Rattle.entry_arena.specs.Trees.{bytes_between, SpellsBetween}
+use Rattle.spelled.proofs.Parts.{length_part}
 
 -- how many bytes a value has in itself
 abbrev size_in : Meaning → ℕ

@@ -1,8 +1,9 @@
 -- Listed entries and the bytes that spell them.
-use Rattle.std.proofs.Common.{◌≡◌, ◌≤◌, ◌+◌, ◌-◌, ◌*◌, ◌^◌, ℕ, suc, List, [], ◌∷◌, ◌++◌, length, take, drop, true, false, ◌∙◌, sym, ap, refl, subst, arith}
+use Rattle.std.proofs.Common.{◌≡◌, ◌≤◌, ◌+◌, ◌-◌, ◌*◌, ◌^◌, ℕ, suc, List, [], ◌∷◌, ◌++◌, length, take, drop, true, false, ◌∙◌, sym, ap, refl, subst, arith, ◌<◌, zero, get_or}
 use Rattle.std.specs.Prelude.{pos, Bool, map, nat_le, if◌then◌else◌}
-use Rattle.std.proofs.lemmas.List.{append-nil, append_assoc, append_cancel_left, length-append, take_at, drop_at, map-append}
+use Rattle.std.proofs.lemmas.List.{append-nil, append_assoc, append_cancel_left, length-append, take_at, map-append}
 use Rattle.spelled.specs.Spelled.{HasUniqueFronts}
+use Rattle.spelled.proofs.Parts.{own_part}
 use Rattle.leb_codec.specs.Leb.{Uleb}
 use Rattle.form_codec.specs.declared.value.Value.{Value}
 use Rattle.form_codec.specs.declared.value.Value.TheVariants as value
@@ -18,6 +19,7 @@ use Rattle.form_codec.specs.Forms.{Meaning, SpellsShape, SpellsValue, shape_of, 
 use Rattle.form_codec.specs.Values.{meant_in, bytes_in, IsPlaced}
 use Rattle.abbrev_tables.specs.declared.decl.Spec.{Spec}
 use Rattle.abbrev_tables.specs.Tables.{Declared}
+use Rattle.abbrev_tables.specs.Listings.{spec_at}
 use Rattle.entry_arena.specs.declared.entry.Entry.{Entry}
 use Rattle.entry_arena.specs.Trees.{declared_at, bytes_between, Listed, nothing_from, SpellsBetween, ValuesBetween, AddsEntry, AddsEnd, Siblings, EndsChildren, Lists, IsForest}
 use Rattle.entry_arena.specs.Trees.Siblings.{NoMore, Tree}
@@ -27,7 +29,8 @@ use Rattle.entry_arena.specs.Spellings.Subtrees.{NoSubtree, Subtree}
 use Rattle.entry_arena.specs.ForestLaws.{HaveCodes}
 use Rattle.entry_arena.proofs.Between.{length_between, between_split}
 use Rattle.entry_arena.proofs.WalkLaws.{forest_once}
-use Rattle.entry_arena.proofs.StepLaws.{values_rise}
+use Rattle.entry_arena.proofs.StepLaws.{values_rise, values_inside}
+use Rattle.entry_arena.specs.Arena.{value_at}
 
 -- bytes between two places that are two parts
 pub record Cuts (section : List ℕ) (from to : ℕ) (a b : List ℕ) : Type 0 where
@@ -159,16 +162,23 @@ values_spelled section (c ∷ cs) [] from to none = absurd none
 values_spelled section (c ∷ cs) (v ∷ vs) from to (next, spelled, placed, more) =
     (bytes_between section from next, bytes_between section next to, spelled.spelled, values_spelled section cs vs next to more, between_split section from next to spelled.order (values_rise section cs vs next to more))
 
-values_inside : (section : List ℕ) (columns : List Spec) (values : List Value) (from to : ℕ) → from ≤ length section → ValuesBetween section columns values from to → to ≤ length section
-values_inside section [] [] from to inside same = omega arith
-values_inside section [] (v ∷ vs) from to inside none = absurd none
-values_inside section (c ∷ cs) [] from to inside none = absurd none
-values_inside section (c ∷ cs) (v ∷ vs) from to inside (next, spelled, placed, more) = values_inside section cs vs next to spelled.inside more
-
 named_same : (section : List ℕ) (columns : List Spec) (values : List Value) → attributes_of section columns values ≡ named columns (map (meant_in section) values)
 named_same section [] values = refl
 named_same section (c ∷ cs) [] = refl
 named_same section (c ∷ cs) (v ∷ vs) = ap (λ z. (c.name, meant_in section v) ∷ z) (named_same section cs vs)
+
+-- an attribute for each column
+pub attributes_count : (section : List ℕ) (columns : List Spec) (values : List Value) → length values ≡ length columns → length (attributes_of section columns values) ≡ length columns
+attributes_count section [] values same = refl
+attributes_count section (c ∷ cs) [] same = absurd (omega arith)
+attributes_count section (c ∷ cs) (v ∷ vs) same = let rest : length (attributes_of section cs vs) ≡ length cs = attributes_count section cs vs (omega arith) in omega arith
+
+-- which has the column's name, and what its value means
+pub attribute_at : (section : List ℕ) (columns : List Spec) (values : List Value) (k : ℕ) (d : ℕ × Meaning) → length values ≡ length columns → k < length columns → get_or (attributes_of section columns values) k d ≡ ((spec_at columns k).name, meant_in section (value_at values k))
+attribute_at section [] values k d same inside = absurd (omega arith)
+attribute_at section (c ∷ cs) [] k d same inside = absurd (omega arith)
+attribute_at section (c ∷ cs) (v ∷ vs) zero d same inside = refl
+attribute_at section (c ∷ cs) (v ∷ vs) (suc k) d same inside = attribute_at section cs vs k d (omega arith) (omega arith)
 
 -- the same from the same place
 from_there : (Spells : List ℕ → Type 0) (section : List ℕ) (at there to : ℕ) → at ≡ there → Spells (bytes_between section there to) → Spells (bytes_between section at to)
@@ -415,10 +425,6 @@ module _ (section : List ℕ) (ds : List Declared) where
     described = λ rest. refl;
   }
 
-  own_values : (old added rest : List Value) → take (length added) (drop (length old) ((old ++ added) ++ rest)) ≡ added
-  own_values old added rest =
-      ap (λ z. take (length added) (drop (length old) z)) (append_assoc old added rest) ∙ ap (take (length added)) (drop_at old (added ++ rest) (length old) refl) ∙ take_at added rest (length added) refl
-
   abbrev described_as : ℕ → ℕ → List Meaning → Described
   described_as depth number meanings = record { depth = depth; tag = (declared_at ds number).tag; children = (declared_at ds number).children; attributes = named ((declared_at ds number).columns) meanings }
 
@@ -435,7 +441,7 @@ module _ (section : List ℕ) (ds : List Declared) where
         valued = adds.listed;
         entered = adds.entered;
         described = λ rest.
-            let own : take (length adds.values) (drop (length old.values) (new.values ++ rest)) ≡ adds.values = ap (λ z. take (length adds.values) (drop (length old.values) (z ++ rest))) adds.listed ∙ own_values old.values adds.values rest in
+            let own : take (length adds.values) (drop (length old.values) (new.values ++ rest)) ≡ adds.values = ap (λ z. take (length adds.values) (drop (length old.values) (z ++ rest))) adds.listed ∙ own_part old.values adds.values rest in
             ap (λ (z : List (ℕ × Meaning)). with_attributes depth number z ∷ []) (ap (attributes_of section columns) own ∙ named_same section columns adds.values ∙ ap (named columns) means);
       }
 

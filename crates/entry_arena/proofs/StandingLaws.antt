@@ -1,6 +1,6 @@
 -- Each entry of a whole walk is its code and the values of its columns.
-use Rattle.std.proofs.Common.{◌≡◌, ◌<◌, ◌+◌, ◌-◌, ◌∙◌, ◌++◌, ℕ, List, [], ◌∷◌, length, take, drop, sym, ap, subst, refl, arith}
-use Rattle.std.proofs.lemmas.List.{append-nil, append_assoc, take_at, drop_at}
+use Rattle.std.proofs.Common.{◌≡◌, ◌<◌, ◌+◌, ◌-◌, ◌∙◌, ◌++◌, ℕ, List, [], ◌∷◌, length, take, drop, sym, ap, subst, arith}
+use Rattle.std.proofs.lemmas.List.{append-nil, append_assoc}
 use Rattle.form_codec.specs.declared.value.Value.{Value}
 use Rattle.abbrev_tables.specs.Tables.{Declared}
 use Rattle.entry_arena.specs.Trees.{Listed, ValuesBetween, declared_at}
@@ -9,6 +9,7 @@ use Rattle.entry_arena.specs.Walks.Item.{AnEntry, AnEnd}
 use Rattle.entry_arena.specs.Standing.{StandsAs, EntriesStand}
 use Rattle.entry_arena.proofs.FrontLaws.{comes_to_entry}
 use Rattle.entry_arena.proofs.StepLaws.{entry_rises}
+use Rattle.spelled.proofs.Parts.{own_part}
 
 -- a walk puts values behind those that are there
 pub walks_extend : (section : List ℕ) (ds : List Declared) (old : Listed) (chains : List ℕ) (items : List Item) (new : Listed) (left : List ℕ) → Walks section ds old chains items new left → (more : List Value) × (new.values ≡ old.values ++ more)
@@ -20,16 +21,12 @@ walks_extend section ds old chains (AnEnd ∷ items) new left (id, outer, mid, e
     let (more, after) = walks_extend section ds mid outer items new left rest in
     (more, after ∙ ap (λ z. z ++ more) adds.listed)
 
-pub own_values : (before own after : List Value) → take (length own) (drop (length before) ((before ++ own) ++ after)) ≡ own
-own_values before own after =
-    ap (λ z. take (length own) (drop (length before) z)) (append_assoc before own after) ∙ ap (take (length own)) (drop_at before (own ++ after) (length before) refl) ∙ take_at own after (length own) refl
-
 pub entries_stand : EntriesStand
 entries_stand section ds start forest id whole inside =
     let c = comes_to_entry section ds start whole.items forest [] whole.walked id inside in
     let (more, after) = walks_extend section ds c.mid (opened ds c.number id c.chains) c.after forest [] c.rest in
     let all : forest.values ≡ (c.now.values ++ c.adds.values) ++ more = after ∙ ap (λ z. z ++ more) c.adds.listed in
-    let own : take (length c.adds.values) (drop (length c.now.values) forest.values) ≡ c.adds.values = ap (λ z. take (length c.adds.values) (drop (length c.now.values) z)) all ∙ own_values c.now.values c.adds.values more in
+    let own : take (length c.adds.values) (drop (length c.now.values) forest.values) ≡ c.adds.values = ap (λ z. take (length c.adds.values) (drop (length c.now.values) z)) all ∙ own_part c.now.values c.adds.values more in
     let rises : c.now.place < c.mid.place = entry_rises section ds (length c.chains) c.number c.now c.mid c.adds in
     let end : c.now.place + (c.mid.place - c.now.place) ≡ c.mid.place = omega arith in
     let valued = subst (λ (z : List Value). ValuesBetween section ((declared_at ds c.number).columns) z c.adds.values_at c.mid.place) (sym own) c.adds.valued in

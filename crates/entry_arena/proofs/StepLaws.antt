@@ -1,5 +1,5 @@
 -- Where a walk goes on there is no fault.
-use Rattle.std.proofs.Common.{◌≡◌, ◌≢◌, ◌≤◌, ◌<◌, ◌+◌, ◌-◌, ℕ, List, [], ◌∷◌, ◌++◌, length, ◌∙◌, sym, ap, subst, arith, inl, inr}
+use Rattle.std.proofs.Common.{◌≡◌, ◌≢◌, ◌≤◌, ◌<◌, ◌+◌, ◌-◌, ℕ, List, [], ◌∷◌, ◌++◌, length, ◌∙◌, sym, ap, subst, arith, inl, inr, zero, suc, take, refl}
 use Rattle.std.proofs.lemmas.List.{length-append}
 use Rattle.dw_base.specs.declared.fault.Kind.{Kind}
 use Rattle.leb_codec.specs.Leb.{Uleb, IsShort, IsWideUnsigned}
@@ -27,6 +27,7 @@ code_rises section code from to p =
     let size : length (bytes_between section from to) ≡ to - from = length_between section from to p.inside in
     omega arith
 
+-- values of columns stand one behind the other
 pub values_rise : (section : List ℕ) (columns : List Spec) (vs : List Value) (from to : ℕ) → ValuesBetween section columns vs from to → from ≤ to
 values_rise section [] [] from to same = omega arith
 values_rise section [] (v ∷ vs) from to none = absurd none
@@ -35,6 +36,30 @@ values_rise section (c ∷ cs) (v ∷ vs) from to (next, spelled, placed, more) 
     let first : from ≤ next = spelled.order in
     let rest : next ≤ to = values_rise section cs vs next to more in
     omega arith
+
+-- they end in the section
+pub values_inside : (section : List ℕ) (columns : List Spec) (values : List Value) (from to : ℕ) → from ≤ length section → ValuesBetween section columns values from to → to ≤ length section
+values_inside section [] [] from to inside same = omega arith
+values_inside section [] (v ∷ vs) from to inside none = absurd none
+values_inside section (c ∷ cs) [] from to inside none = absurd none
+values_inside section (c ∷ cs) (v ∷ vs) from to inside (next, spelled, placed, more) = values_inside section cs vs next to spelled.inside more
+
+-- there are as many as columns
+pub values_counted : (section : List ℕ) (columns : List Spec) (values : List Value) (from to : ℕ) → ValuesBetween section columns values from to → length values ≡ length columns
+values_counted section [] [] from to same = omega arith
+values_counted section [] (v ∷ vs) from to none = absurd none
+values_counted section (c ∷ cs) [] from to none = absurd none
+values_counted section (c ∷ cs) (v ∷ vs) from to (next, spelled, placed, more) = let later : length vs ≡ length cs = values_counted section cs vs next to more in omega arith
+
+-- and the first of them end somewhere
+pub values_front : (section : List ℕ) (columns : List Spec) (values : List Value) (from to k : ℕ) → ValuesBetween section columns values from to → (mid : ℕ) × ValuesBetween section (take k columns) (take k values) from mid
+values_front section columns values from to zero valued = (from, refl)
+values_front section [] [] from to (suc k) same = (from, refl)
+values_front section [] (v ∷ vs) from to (suc k) none = absurd none
+values_front section (c ∷ cs) [] from to (suc k) none = absurd none
+values_front section (c ∷ cs) (v ∷ vs) from to (suc k) (next, spelled, placed, more) =
+    let front = values_front section cs vs next to k more in
+    (front.0, (next, spelled, placed, front.1))
 
 -- bytes that begin with a column's value have no fault there
 column_whole : (section : List ℕ) (c : Spec) (v : Value) (kind : Kind) (from next to : ℕ) → SpellsBetween (SpellsValue c.form c.constant (meant_in section v)) section from next → next ≤ to → FaultValue c.form c.constant kind (bytes_between section from to) → ⊥

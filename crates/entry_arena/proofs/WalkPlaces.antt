@@ -2,24 +2,23 @@
 use Rattle.std.proofs.Common.{◌≡◌, ◌≤◌, ◌<◌, ◌+◌, ◌-◌, ℕ, suc, List, [], ◌∷◌, ◌++◌, length, true, false, Bool, refl, sym, ap, subst, ◌∙◌, arith, length-append, append_assoc}
 use Rattle.std.specs.Prelude.{ℤ, if◌then◌else◌}
 use Rattle.std.proofs.lemmas.List.{append-nil, length_push}
-use Rattle.leb_codec.specs.Leb.{Uleb}
 use Rattle.form_codec.specs.declared.value.Value.{Value}
 use Rattle.form_codec.specs.declared.value.Value.TheVariants as value
 use Rattle.form_codec.specs.Forms.{SpellsValue}
 use Rattle.form_codec.specs.Values.{meant_in, IsPlaced}
-use Rattle.form_codec.proofs.ReadLaws.{length_part}
 use Rattle.abbrev_tables.specs.declared.decl.Spec.{Spec}
 use Rattle.abbrev_tables.specs.Tables.{Declared}
 use Rattle.entry_arena.specs.declared.entry.Entry.{Entry}
 use Rattle.entry_arena.specs.declared.entry.ChainEnd.{ChainEnd}
 use Rattle.entry_arena.specs.Arena.{entry_at, value_at}
 use Rattle.entry_arena.specs.Order.{IsInOrder, SpansRise, ComesAfterAll, IsNextEntry, IsNextValue, IsNextEnd}
-use Rattle.entry_arena.specs.Trees.{Listed, bytes_between, SpellsBetween, ValuesBetween, declared_at, nothing_from, AddsEntry, AddsEnd}
+use Rattle.entry_arena.specs.Trees.{Listed, SpellsBetween, ValuesBetween, declared_at, nothing_from, AddsEntry, AddsEnd}
 use Rattle.entry_arena.specs.Walks.{Item, Walks, opened}
 use Rattle.entry_arena.specs.Walks.Item.{AnEntry, AnEnd}
 use Rattle.entry_arena.specs.Places.{held_of, held_with}
 use Rattle.entry_arena.proofs.Held.{at_more, spans_more, entry_in_order, end_in_order, no_entry}
 use Rattle.entry_arena.proofs.Spans.{EndsBy, lies_between, lies_in, comes_before, ends_later, ends_by}
+use Rattle.entry_arena.proofs.StepLaws.{code_rises, values_inside}
 
 -- values that were listed up to a place
 pub record SpansEnd (section : List ℕ) (values : List Value) (place : ℕ) : Type 0 where
@@ -42,18 +41,6 @@ values_end section (c ∷ cs) [] values from to p spans = absurd p
 values_end section (c ∷ cs) (v ∷ vs) values from to (next, spelled, placed, rest) spans =
     let more = values_end section cs vs (values ++ v ∷ []) next to rest (value_ends section c.form c.constant values v from next spans spelled placed) in
     (omega (arith, spelled.order, more.0), subst (λ (l : List Value). SpansEnd section l to) (append_assoc values (v ∷ []) vs) more.1)
-
-values_inside : (section : List ℕ) (cs : List Spec) (vs : List Value) (from to : ℕ) → ValuesBetween section cs vs from to → from ≤ length section → to ≤ length section
-values_inside section [] [] from to e inside = omega arith
-values_inside section [] (v ∷ vs) from to p inside = absurd p
-values_inside section (c ∷ cs) [] from to p inside = absurd p
-values_inside section (c ∷ cs) (v ∷ vs) from to (next, spelled, placed, rest) inside = values_inside section cs vs next to rest spelled.inside
-
--- a number has a byte
-number_wide : (section : List ℕ) (n from to : ℕ) → SpellsBetween (Uleb n) section from to → from < to
-number_wide section n from to p =
-    let size : length (bytes_between section from to) ≡ to - from = length_part from (to - from) section (omega (arith, p.order, p.inside)) in
-    omega (arith, p.spelled.0.0.filled)
 
 -- numbers below a count
 abbrev pub AreBelow : ℕ → List ℕ → Type 0
@@ -95,10 +82,10 @@ listed_nothing section start = record {
 -- it may be pushed, once its values are
 pub entry_next : (section : List ℕ) (ds : List Declared) (number : ℕ) (old new : Listed) (chains : List ℕ) → IsOrderly section old chains → (a : AddsEntry section ds (length chains) number old new) → IsNextEntry (held_with section old a.values) (record { at = old.place; len = new.place - old.place; depth = length chains; decl = number; first = length old.values; count = length a.values })
 entry_next section ds number old new chains o a =
-    let wide : old.place < a.values_at = number_wide section ((declared_at ds number).code) old.place a.values_at a.coded in
+    let wide : old.place < a.values_at = code_rises section ((declared_at ds number).code) old.place a.values_at a.coded in
     let spans : SpansEnd section old.values a.values_at = record { rise = o.spans.rise; end = λ i inside. ends_later (value_at old.values i) old.place a.values_at (omega arith) (o.spans.end i inside) } in
     let more = values_end section ((declared_at ds number).columns) a.values old.values a.values_at new.place a.valued spans in
-    let inside : new.place ≤ length section = values_inside section ((declared_at ds number).columns) a.values a.values_at new.place a.valued a.coded.inside in
+    let inside : new.place ≤ length section = values_inside section ((declared_at ds number).columns) a.values a.values_at new.place a.coded.inside a.valued in
     record {
       place = o.after;
       wide = omega (arith, more.0);
@@ -126,7 +113,7 @@ no_push xs x e = omega (arith, length_push xs x, ap length e)
 pub entry_orderly : (section : List ℕ) (ds : List Declared) (number : ℕ) (old new : Listed) (chains : List ℕ) → IsOrderly section old chains → AddsEntry section ds (length chains) number old new → IsOrderly section new (opened ds number (length old.entries) chains)
 entry_orderly section ds number old new chains o a =
     let e : Entry = record { at = old.place; len = new.place - old.place; depth = length chains; decl = number; first = length old.values; count = length a.values } in
-    let wide : old.place < a.values_at = number_wide section ((declared_at ds number).code) old.place a.values_at a.coded in
+    let wide : old.place < a.values_at = code_rises section ((declared_at ds number).code) old.place a.values_at a.coded in
     let spans : SpansEnd section old.values a.values_at = record { rise = o.spans.rise; end = λ i inside. ends_later (value_at old.values i) old.place a.values_at (omega arith) (o.spans.end i inside) } in
     let more = values_end section ((declared_at ds number).columns) a.values old.values a.values_at new.place a.valued spans in
     let count : length (old.entries ++ e ∷ []) ≡ length old.entries + 1 = length_push old.entries e in
@@ -158,14 +145,14 @@ entry_orderly section ds number old new chains o a =
 -- the code 0 that a step adds may be pushed
 pub end_next : (section : List ℕ) (id : ℕ) (old new : Listed) (chains outer : List ℕ) → IsOrderly section old chains → chains ≡ id ∷ outer → AddsEnd section id old new → IsNextEnd (held_of section old) id old.place
 end_next section id old new chains outer o e a =
-    let wide : old.place < new.place = number_wide section 0 old.place new.place a.coded in
+    let wide : old.place < new.place = code_rises section 0 old.place new.place a.coded in
     let below : AreBelow (length old.entries) (id ∷ outer) = subst (AreBelow (length old.entries)) e o.owned in
     record { after = o.after; inside = omega (arith, a.coded.inside); owned = below.0 }
 
 pub end_orderly : (section : List ℕ) (id : ℕ) (old new : Listed) (chains outer : List ℕ) → IsOrderly section old chains → chains ≡ id ∷ outer → AddsEnd section id old new → IsOrderly section new outer
 end_orderly section id old new chains outer o e a =
     let end : ChainEnd = record { entry = id; at = old.place } in
-    let wide : old.place < new.place = number_wide section 0 old.place new.place a.coded in
+    let wide : old.place < new.place = code_rises section 0 old.place new.place a.coded in
     let below : AreBelow (length old.entries) (id ∷ outer) = subst (AreBelow (length old.entries)) e o.owned in
     let many : length chains ≡ suc (length outer) = ap length e in
     let next : Listed = record { entries = old.entries; values = old.values; ends = old.ends ++ end ∷ []; place = new.place } in

@@ -1,5 +1,5 @@
 -- Codes and values that stand somewhere are read there, and each value of an entry follows its code and the values before it.
-use Rattle.std.proofs.Common.{◌≡◌, ◌≤◌, ◌<◌, ◌+◌, ◌-◌, ◌^◌, ℕ, zero, suc, List, [], ◌∷◌, length, take, drop, sym, ap, refl, subst, arith}
+use Rattle.std.proofs.Common.{◌≡◌, ◌≤◌, ◌<◌, ◌+◌, ◌-◌, ◌^◌, ℕ, List, [], ◌∷◌, length, take, drop, sym, ap, refl, subst, arith}
 use Rattle.std.specs.Prelude.{◌↔◌, ℤ, Result, Err, IsErrOf, pos}
 use Rattle.std.proofs.lemmas.List.{take-append-drop, drop_more, length-take-le}
 use Rattle.std.proofs.Math.Seq.{drop-length}
@@ -22,14 +22,14 @@ use Rattle.abbrev_tables.specs.Listings.{spec_at}
 use Rattle.entry_arena.specs.declared.entry.Entry.{Entry}
 use Rattle.entry_arena.specs.Arena.{Arena, entry_at}
 use Rattle.entry_arena.specs.Standing.{StandsAs}
-use Rattle.entry_arena.specs.Trees.{bytes_between, declared_at, listed_to, SpellsBetween, ValuesBetween}
+use Rattle.entry_arena.specs.Trees.{bytes_between, declared_at, SpellsBetween, ValuesBetween}
 use Rattle.entry_arena.proofs.Between.{between_split, spells_once}
-use Rattle.entry_arena.proofs.StandingLaws.{entries_stand}
-use Rattle.entry_arena.proofs.TreeLaws.{trees_are_walks}
+use Rattle.entry_arena.proofs.StepLaws.{values_front}
 use Rattle.entry_read.specs.declared.head.UnitHead.{UnitHead}
-use Rattle.entry_read.specs.Units.{HeadAndForest, entries_at, IsUnitHeld}
+use Rattle.entry_read.specs.Units.{HeadAndForest, IsUnitHeld}
 use Rattle.entry_read.specs.Places.{StandsAtColumn, HaveOwners}
 use Rattle.entry_read.proofs.OwnerLaws.{values_belong}
+use Rattle.entry_read.proofs.PlaceLaws.{entry_stands}
 
 -- the code that was read is the one that stands there
 pub code_ends : (info : List ℕ) (at end value : ℕ) → at ≤ end → end ≤ length info → SpellsUnsigned (take (end - at) (drop at info)) value → value < 2 ^ 64 → (code to : ℕ) → SpellsBetween (Uleb code) info at to → end ≡ to
@@ -102,16 +102,6 @@ stands_to info columns from at on values to valued =
     let there = on values to valued in
     ended info there.0 at to (subst (λ (z : List Spec). ValuesBetween info z there.0 at to) (drop-length columns) there.1)
 
--- the front of values of columns
-front_values : (info : List ℕ) (columns : List Spec) (values : List Value) (from to k : ℕ) → ValuesBetween info columns values from to → (mid : ℕ) × ValuesBetween info (take k columns) (take k values) from mid
-front_values info columns values from to zero valued = (from, refl)
-front_values info [] [] from to (suc k) same = (from, refl)
-front_values info [] (v ∷ vs) from to (suc k) none = absurd none
-front_values info (c ∷ cs) [] from to (suc k) none = absurd none
-front_values info (c ∷ cs) (v ∷ vs) from to (suc k) (next, spelled, placed, rest) =
-    let front = front_values info cs vs next to k rest in
-    (front.0, (next, spelled, placed, front.1))
-
 -- a unit that was read is held of its own section, by its own head
 pub held_by_itself : (info : List ℕ) (head : UnitHead) (ds : List Declared) (u : HeadAndForest) → IsUnitHeld info head ds u.forest → u.head ≡ head → u.forest.section ≡ info → IsUnitHeld u.forest.section u.head ds u.forest
 held_by_itself info head ds u held same_head same_info =
@@ -130,9 +120,7 @@ module _ (head : UnitHead) (ds : List Declared) (f : Arena) (held : IsUnitHeld f
   owners = values_belong f.section head ds f refl held
 
   stands : StandsAs f.section ds f.values e
-  stands =
-      let whole = (trees_are_walks f.section ds (entries_at head) (listed_to f held.0)).0 held.1.tree in
-      subst (StandsAs f.section ds f.values) (sym same_entry) (entries_stand f.section ds (entries_at head) (listed_to f held.0) id whole inside)
+  stands = subst (StandsAs f.section ds f.values) (sym same_entry) (entry_stands f.section head ds f refl held id inside)
 
   pub declared_there : e.decl < length ds
   declared_there = subst (λ (z : Entry). z.decl < length ds) (sym same_entry) (owners.declared id inside)
@@ -157,7 +145,7 @@ module _ (head : UnitHead) (ds : List Declared) (f : Arena) (held : IsUnitHeld f
 
       front : (mid : ℕ) × ValuesBetween f.section (take column (declared_at ds e.decl).columns) own stands.values_at mid
       unfolding own
-      front = front_values f.section (declared_at ds e.decl).columns (take e.count (drop e.first f.values)) stands.values_at (e.at + e.len) column stands.valued
+      front = values_front f.section (declared_at ds e.decl).columns (take e.count (drop e.first f.values)) stands.values_at (e.at + e.len) column stands.valued
 
       module _ (from : ℕ) (ends : (code to : ℕ) → SpellsBetween (Uleb code) info e.at to → from ≡ to) where
         valued : ValuesBetween info (take column columns) own from front.0

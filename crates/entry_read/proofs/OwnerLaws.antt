@@ -1,26 +1,18 @@
 -- Each value of a unit is one of an entry.
 use Rattle.std.proofs.Common.{◌≡◌, ◌≢◌, ◌≤◌, ◌<◌, ◌+◌, ℕ, zero, suc, List, [], ◌∷◌, length, sym, refl, subst, arith, inl, inr}
 use Rattle.std.proofs.lemmas.Bool.{cases_lt}
-use Rattle.form_codec.specs.declared.value.Value.{Value}
-use Rattle.abbrev_tables.specs.declared.decl.Spec.{Spec}
 use Rattle.abbrev_tables.specs.Tables.{Declared}
 use Rattle.entry_arena.specs.declared.entry.Entry.{Entry}
 use Rattle.entry_arena.specs.Arena.{Arena, entry_at}
-use Rattle.entry_arena.specs.Trees.{declared_at, listed_to, ValuesBetween}
+use Rattle.entry_arena.specs.Trees.{declared_at, listed_to}
 use Rattle.entry_arena.specs.Walks.{IsWhole}
 use Rattle.entry_arena.proofs.FrontLaws.{comes_to_entry}
 use Rattle.entry_arena.proofs.TreeLaws.{trees_are_walks}
 use Rattle.entry_arena.proofs.WalkPlaces.{walked_orderly}
+use Rattle.entry_arena.proofs.StepLaws.{values_counted}
 use Rattle.entry_read.specs.declared.head.UnitHead.{UnitHead}
 use Rattle.entry_read.specs.Units.{entries_at, IsUnit}
 use Rattle.entry_read.specs.Places.{HaveOwners, ValuesBelong}
-
--- as many values as columns
-pub values_counted : (section : List ℕ) (columns : List Spec) (values : List Value) (from to : ℕ) → ValuesBetween section columns values from to → length values ≡ length columns
-values_counted section [] [] from to same = omega arith
-values_counted section [] (v ∷ vs) from to none = absurd none
-values_counted section (c ∷ cs) [] from to none = absurd none
-values_counted section (c ∷ cs) (v ∷ vs) from to (next, spelled, placed, rest) = let later : length vs ≡ length cs = values_counted section cs vs next to rest in omega arith
 
 -- ranges that follow one another hold each number up to the end of the last
 abbrev Holds : List Entry → ℕ → Type 0

@@ -1,5 +1,5 @@
 -- What is held of a unit lies in it, and only limits ask for the units before.
-use Rattle.std.proofs.Common.{◌≡◌, ◌≤◌, ◌<◌, ◌+◌, ℕ, List, [], ◌∷◌, sym, ap, subst, refl, arith}
+use Rattle.std.proofs.Common.{◌≡◌, ◌≤◌, ◌<◌, ◌+◌, ℕ, List, [], ◌∷◌, sym, ap, subst, refl, arith, length}
 use Rattle.dw_base.specs.declared.fault.Kind.TheVariants.{Limit, Tree, Short, LebWide, Text, CodeMissing}
 use Rattle.abbrev_tables.specs.Tables.{Declared}
 use Rattle.entry_arena.specs.Arena.{Arena, entry_at, chain_end_at, IsEntryAt, IsChainEndAt}
@@ -11,8 +11,10 @@ use Rattle.entry_arena.proofs.TreeLaws.{trees_are_walks}
 use Rattle.entry_arena.proofs.FrontLaws.{comes_to_entry, comes_to_end}
 use Rattle.entry_arena.proofs.StepLaws.{walks_rise}
 use Rattle.entry_arena.proofs.WalkPlaces.{walked_orderly}
+use Rattle.entry_arena.specs.Standing.{StandsAs}
+use Rattle.entry_arena.proofs.StandingLaws.{entries_stand}
 use Rattle.entry_read.specs.declared.head.UnitHead.{UnitHead}
-use Rattle.entry_read.specs.Units.{entries_at, end_of, IsUnit}
+use Rattle.entry_read.specs.Units.{entries_at, end_of, IsUnit, IsUnitHeld}
 use Rattle.entry_read.specs.Places.{LiesInUnit, UnitsLie, OnlyLimitsCount}
 
 -- what is held is what is listed
@@ -63,3 +65,8 @@ only_limits_count info head ds before other LebWide place other_kind f = record 
 only_limits_count info head ds before other Text place other_kind f = record { now = f.now; chains = f.chains; front = f.front; fault = f.fault }
 only_limits_count info head ds before other CodeMissing place other_kind f = record { now = f.now; chains = f.chains; front = f.front; fault = f.fault }
 only_limits_count info head ds before other kind place other_kind f = absurd f.fault
+
+-- an entry of a unit that is held stands in its section
+pub entry_stands : (info : List ℕ) (head : UnitHead) (ds : List Declared) (f : Arena) → f.section ≡ info → IsUnitHeld info head ds f → (id : ℕ) → id < length f.entries → StandsAs f.section ds f.values (entry_at f.entries id)
+entry_stands info head ds f section (end, unit) id inside =
+    subst (λ (z : List ℕ). StandsAs z ds f.values (entry_at f.entries id)) (sym section) (entries_stand info ds (entries_at head) (listed_to f end) id (whole info head ds f section end unit) inside)

@@ -99,7 +99,7 @@ encodes_some section (encoding.Bytes span) = (bytes_in section span, refl)
 encodes_some section (encoding.Text span) = (bytes_in section span ++ 0 ∷ [], refl)
 
 -- a spelling in a form, by the form of a code
-in_form : (code : ℕ) (f : Form) (c : ℤ) (meaning : Meaning) (bytes : List ℕ) → code_of f ≡ code → SpellsValue code c meaning bytes → SpellsShape (shape_of f c) meaning bytes
+pub in_form : (code : ℕ) (f : Form) (c : ℤ) (meaning : Meaning) (bytes : List ℕ) → code_of f ≡ code → SpellsValue code c meaning bytes → SpellsShape (shape_of f c) meaning bytes
 in_form code f c meaning bytes known s =
     let same : s.form ≡ f = code_once s.form f (s.known ∙ sym known) in
     subst (λ (z : Form). SpellsShape (shape_of z c) meaning bytes) same s.spelled

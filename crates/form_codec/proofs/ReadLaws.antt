@@ -1,9 +1,10 @@
 -- What a reader has found is spelled by the bytes.
-use Rattle.std.proofs.Common.{◌≡◌, ◌≤◌, ◌<◌, ◌+◌, ◌-◌, ◌^◌, ℕ, List, [], ◌∷◌, ◌++◌, length, get_or, take, drop, ◌∙◌, sym, ap, refl, subst, arith}
-use Rattle.std.proofs.lemmas.List.{length-drop, drop-drop, get_or-take, get_or-drop, take-append-drop, length-take-le, take-take, drop-take, take_more, take_rest}
+use Rattle.std.proofs.Common.{◌≡◌, ◌≤◌, ◌<◌, ◌+◌, ◌-◌, ◌^◌, ℕ, List, [], ◌∷◌, ◌++◌, length, take, drop, ◌∙◌, sym, ap, refl, subst, arith}
+use Rattle.std.proofs.lemmas.List.{length-drop, drop-drop, get_or-take, take-append-drop, length-take-le, take-take, drop-take, take_more, take_rest}
 use Rattle.std.specs.Prelude.{ℤ, FitsSigned}
 use Rattle.std.specs.Int.{w64}
 use Rattle.spelled.specs.Spelled.{AreBytes}
+use Rattle.spelled.proofs.Parts.{take_sum, length_part, bytes_part}
 use Rattle.dw_base.specs.declared.fault.Kind.{Kind}
 use Rattle.form_codec.specs.declared.form.Form.{Form}
 use Rattle.byteorder.specs.Numbers.{little_from-take}
@@ -20,15 +21,6 @@ use Rattle.form_codec.specs.Forms.{SpellsShape, size_of, code_of, shape_of, numb
 use Rattle.form_codec.specs.Forms.Meaning.{Whole, SixteenBytes, Data, Expression, Text}
 use Rattle.form_codec.specs.Faults.{IsCutOff, FaultShape, FaultValue}
 use Rattle.form_codec.specs.Values.{meant_in, IsPlaced, IsReadShape, IsReadValue, IsFirstZero}
-
--- a front in two parts
-pub take_sum : (m n : ℕ) (l : List ℕ) → take (m + n) l ≡ take m l ++ take n (drop m l)
-take_sum m n l =
-    let a : take m (take (m + n) l) ≡ take m l = take-take m (m + n) l (omega arith) in
-    sym (take-append-drop m (take (m + n) l)) ∙ ap (λ z. z ++ drop m (take (m + n) l)) a ∙ ap (λ z. take m l ++ z) (drop-take m n l)
-
-pub length_part : (m n : ℕ) (l : List ℕ) → m + n ≤ length l → length (take n (drop m l)) ≡ n
-length_part m n l h = length-take-le n (drop m l) (let e : length (drop m l) ≡ length l - m = length-drop m l in omega arith)
 
 number_take : (n m : ℕ) (l : List ℕ) → n ≤ m → number n (take m l) ≡ number n l
 unfolding number
@@ -159,13 +151,6 @@ meant_in_front (value.Block span) at end n l h p = ap (λ z. Data z) (part_of_fr
 meant_in_front (value.Expr span) at end n l h p = ap (λ z. Expression z) (part_of_front span.at span.len n l (omega arith))
 meant_in_front (value.Text span) at end n l h p = ap (λ z. Text z) (part_of_front span.at span.len n l (omega (arith, p.1)))
 meant_in_front v at end n l h p = refl
-
--- parts of bytes are bytes
-pub bytes_part : (at n : ℕ) (l : List ℕ) → AreBytes l → at + n ≤ length l → AreBytes (take n (drop at l))
-bytes_part at n l small inside k lt =
-    let size : length (take n (drop at l)) ≡ n = length_part at n l inside in
-    let e : get_or (take n (drop at l)) k 0 ≡ get_or l (at + k) 0 = get_or-take n (drop at l) k 0 (omega arith) ∙ get_or-drop at l k 0 in
-    rw e (small (at + k) (omega arith))
 
 pub value_read : (form : Form) (constant : ℤ) (section : List ℕ) (at end : ℕ) (r : ReadValue) → at ≤ end → end ≤ length section → AreBytes section → IsReadShape (shape_of form constant) (take end section) at r → IsReadValue (code_of form) constant section at end r
 value_read form constant section at end r starts inside small read =

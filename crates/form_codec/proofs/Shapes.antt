@@ -1,11 +1,12 @@
 -- Bytes of a shape end by themselves.
-use Rattle.std.proofs.Common.{◌≡◌, ◌≤◌, ◌+◌, ℕ, List, [], ◌∷◌, ◌++◌, length, get_or, take, ◌∙◌, sym, ap, subst, arith, inl, inr}
+use Rattle.std.proofs.Common.{◌≡◌, ◌≤◌, ◌+◌, ℕ, List, [], ◌∷◌, ◌++◌, length, get_or, ◌∙◌, sym, ap, subst, arith, inl, inr}
 use Rattle.std.proofs.lemmas.List.{append_cancel_left, get_or_append_left, get_or-append-add}
 use Rattle.std.proofs.lemmas.Bool.{cases_lt}
 use Rattle.std.specs.Prelude.{ℤ}
 use Rattle.spelled.specs.Spelled.{HasUniqueFronts}
 use Rattle.spelled.proofs.Joins.{regroup}
-use Rattle.leb_codec.proofs.Fronts.{front_is, unique_u, unique_s}
+use Rattle.spelled.proofs.Parts.{same_front}
+use Rattle.leb_codec.proofs.Fronts.{unique_u, unique_s}
 use Rattle.form_codec.specs.declared.form.Form.{Form}
 use Rattle.form_codec.specs.declared.form.Content.{Content}
 use Rattle.form_codec.specs.declared.form.Shape.{Shape}
@@ -15,10 +16,6 @@ use Rattle.form_codec.specs.declared.form.Width.TheVariants.{Eight}
 use Rattle.form_codec.specs.Forms.{SpellsShape, SpellsValue, IsCounted, IsUlebCounted, IsZeroEnded, HasNoZero, size_of, shape_of, number, in_role, of_content}
 use Rattle.form_codec.specs.Forms.Meaning.{Whole, SixteenBytes, Data, Text}
 use Rattle.form_codec.proofs.Codes.{code_once}
-
--- fronts of the same length
-pub same_size : (a b x y : List ℕ) → length a ≡ length b → a ++ x ≡ b ++ y → a ≡ b
-same_size a b x y size h = sym (front_is a x) ∙ ap (λ n. take n (a ++ x)) size ∙ ap (take (length b)) h ∙ front_is b y
 
 -- texts before a 0
 not_longer : (s t x y : List ℕ) → HasNoZero t → s ++ (0 ∷ x) ≡ t ++ (0 ∷ y) → length t ≤ length s
@@ -36,14 +33,14 @@ pub same_text : (s t x y : List ℕ) → HasNoZero s → HasNoZero t → s ++ (0
 same_text s t x y p q h =
     let le = not_longer s t x y q h in
     let ge = not_longer t s y x p (sym h) in
-    same_size s t (0 ∷ x) (0 ∷ y) (omega (arith, le, ge)) h
+    same_front s t (0 ∷ x) (0 ∷ y) (omega (arith, le, ge)) h
 
 counted_once : (w : Width) → HasUniqueFronts (IsCounted w)
 counted_once w v u a b x y p q h =
     let g : p.head ++ (p.body ++ x) ≡ q.head ++ (q.body ++ y) = regroup p.head p.body x q.head q.body y (ap (λ z. z ++ x) (sym p.whole) ∙ h ∙ ap (λ z. z ++ y) q.whole) in
-    let heads = same_size p.head q.head (p.body ++ x) (q.body ++ y) (p.size ∙ sym q.size) g in
+    let heads = same_front p.head q.head (p.body ++ x) (q.body ++ y) (p.size ∙ sym q.size) g in
     let g2 : p.body ++ x ≡ q.body ++ y = append_cancel_left q.head (p.body ++ x) (q.body ++ y) (ap (λ z. z ++ (p.body ++ x)) (sym heads) ∙ g) in
-    let bodies = same_size p.body q.body x y (p.count ∙ ap (number (size_of w)) heads ∙ sym q.count) g2 in
+    let bodies = same_front p.body q.body x y (p.count ∙ ap (number (size_of w)) heads ∙ sym q.count) g2 in
     (p.whole ∙ ap (λ z. z ++ p.body) heads ∙ ap (λ z. q.head ++ z) bodies ∙ sym q.whole, p.holds ∙ ap (λ z. Data z) bodies ∙ sym q.holds)
 
 uleb_counted_once : (kind : Content) → HasUniqueFronts (IsUlebCounted kind)
@@ -51,7 +48,7 @@ uleb_counted_once kind v u a b x y p q h =
     let g : p.head ++ (p.body ++ x) ≡ q.head ++ (q.body ++ y) = regroup p.head p.body x q.head q.body y (ap (λ z. z ++ x) (sym p.whole) ∙ h ∙ ap (λ z. z ++ y) q.whole) in
     let heads = unique_u (length p.body) (length q.body) p.head q.head (p.body ++ x) (q.body ++ y) p.count q.count g in
     let g2 : p.body ++ x ≡ q.body ++ y = append_cancel_left q.head (p.body ++ x) (q.body ++ y) (ap (λ z. z ++ (p.body ++ x)) (sym heads.0) ∙ g) in
-    let bodies = same_size p.body q.body x y heads.1 g2 in
+    let bodies = same_front p.body q.body x y heads.1 g2 in
     (p.whole ∙ ap (λ z. z ++ p.body) heads.0 ∙ ap (λ z. q.head ++ z) bodies ∙ sym q.whole, p.holds ∙ ap (of_content kind) bodies ∙ sym q.holds)
 
 zero_ended_once : HasUniqueFronts IsZeroEnded
@@ -65,7 +62,7 @@ pub shape_once : (shape : Shape) → HasUniqueFronts (SpellsShape shape)
 shape_once (Constant c) v w a b x y p q h = (p.0 ∙ sym q.0, p.2 ∙ sym q.2)
 shape_once Present v w a b x y p q h = (p.0 ∙ sym q.0, p.1 ∙ sym q.1)
 shape_once (Number width role) v w a b x y p q h =
-    let same = same_size a b x y (p.0 ∙ sym q.0) h in
+    let same = same_front a b x y (p.0 ∙ sym q.0) h in
     (same, p.1 ∙ ap (λ z. in_role role width (number (size_of width) z)) same ∙ sym q.1)
 shape_once (ByUleb role) v w a b x y p q h =
     let one = unique_u p.0 q.0 a b x y p.1 q.1 h in
@@ -76,7 +73,7 @@ shape_once BySleb v w a b x y p q h =
 shape_once (Counted width) v w a b x y p q h = counted_once width v w a b x y p q h
 shape_once (UlebCounted kind) v w a b x y p q h = uleb_counted_once kind v w a b x y p q h
 shape_once Sixteen v w a b x y p q h =
-    let same = same_size a b x y (p.0 ∙ sym q.0) h in
+    let same = same_front a b x y (p.0 ∙ sym q.0) h in
     (same, p.1 ∙ ap (λ z. SixteenBytes z) same ∙ sym q.1)
 shape_once ZeroEnded v w a b x y p q h = zero_ended_once v w a b x y p q h
 

@@ -1,12 +1,13 @@
 -- What is written of a value spells it, and nothing shorter does.
-use Rattle.std.proofs.Common.{◌≡◌, ◌≤◌, ◌<◌, ◌+◌, ◌-◌, ◌^◌, ℕ, zero, suc, List, [], ◌∷◌, ◌++◌, length, get_or, leb, true, false, ◌∙◌, sym, ap, refl, subst, arith, inl, inr}
-use Rattle.std.proofs.lemmas.List.{append-nil, length-append, get_or_append_left, get_or-append-add, get_or_past}
+use Rattle.std.proofs.Common.{◌≡◌, ◌≤◌, ◌<◌, ◌+◌, ◌-◌, ◌^◌, ℕ, zero, suc, List, [], ◌∷◌, length, get_or, leb, true, false, ◌∙◌, sym, ap, refl, subst, arith, inl, inr}
+use Rattle.std.proofs.lemmas.List.{append-nil, length-append, get_or_append_left, get_or_past}
 use Rattle.std.proofs.lemmas.Bool.{cases_lt, le-leb}
 use Rattle.std.specs.Prelude.{ℤ, FitsSigned}
 use Rattle.std.specs.Int.{w64, bytes_low_first, byte_at}
 use Rattle.byteorder.specs.Numbers.{little_number-reads_back, length-bytes_low_first, little_from-lt}
 use Rattle.dw_base.specs.declared.fault.Span.{Span}
 use Rattle.spelled.specs.Spelled.{AreBytes}
+use Rattle.spelled.proofs.Parts.{length_part, bytes_part, bytes_append}
 use Rattle.leb_codec.specs.Leb.{Uleb, SpellsSigned, least_unsigned_len}
 use Rattle.leb_codec.proofs.Lens.{unsigned_lens}
 use Rattle.leb_codec.proofs.SpellingLaws.{unsigned_spellings, signed_spellings}
@@ -24,7 +25,6 @@ use Rattle.form_codec.specs.Forms.{size_of, number, in_role, of_content}
 use Rattle.form_codec.specs.Forms.Meaning.{Whole, SixteenBytes, IsSet, Data, Text}
 use Rattle.form_codec.specs.Values.{meant_in, bytes_in, LiesIn}
 use Rattle.form_codec.specs.Written.{low_bytes, HasNoEncoding, IsEncoding}
-use Rattle.form_codec.proofs.ReadLaws.{length_part, bytes_part}
 
 -- the lowest bytes of a number
 pub low_len : (w : Width) (n : ℕ) → length (low_bytes w n) ≡ size_of w
@@ -38,7 +38,8 @@ byte_small : (i n : ℕ) → byte_at i n < 256
 byte_small zero n = omega arith
 byte_small (suc i) n = omega arith
 
-low_small : (i m n : ℕ) → AreBytes (bytes_low_first i m n)
+-- the lowest bytes of a number are bytes
+pub low_small : (i m n : ℕ) → AreBytes (bytes_low_first i m n)
 low_small i zero n k lt = absurd (omega arith)
 low_small i (suc m) n zero lt = byte_small i n
 low_small i (suc m) n (suc k) lt = low_small (suc i) m n k (omega arith)
@@ -50,16 +51,6 @@ all_small bytes small k =
 number_small : (n : ℕ) (bytes : List ℕ) → AreBytes bytes → number n bytes < 256 ^ n
 unfolding number
 number_small n bytes small = little_from-lt 0 n bytes (all_small bytes small)
-
-bytes_append : (a b : List ℕ) → AreBytes a → AreBytes b → AreBytes (a ++ b)
-bytes_append a b p q k lt =
-    elim (cases_lt k (length a)) [
-      | inl left ↦ rw (get_or_append_left a b 0 k left) (p k left)
-      | inr right ↦
-          let e : k ≡ length a + (k - length a) = omega arith in
-          let at : get_or (a ++ b) k 0 ≡ get_or b (k - length a) 0 = ap (λ i. get_or (a ++ b) i 0) e ∙ get_or-append-add a b (k - length a) 0 in
-          rw at (all_small b q (k - length a))
-    ]
 
 zero_small : AreBytes (0 ∷ [])
 zero_small zero lt = omega arith
@@ -183,7 +174,8 @@ content_same : (kind : Content) (a b : List ℕ) → of_content kind a ≡ of_co
 content_same content.Data a b e = cc
 content_same content.Expression a b e = cc
 
-part_len : (section : List ℕ) (span : Span) → span.at + span.len ≤ length section → length (bytes_in section span) ≡ span.len
+-- a span has as many bytes as it says
+pub part_len : (section : List ℕ) (span : Span) → span.at + span.len ≤ length section → length (bytes_in section span) ≡ span.len
 part_len section span inside = length_part span.at span.len section inside
 
 pub counted_fits : (w : Width) (span : Span) → span.len < 256 ^ size_of w → IsEncoding (Counted w) (value.Block span) (encoding.Counted w span)

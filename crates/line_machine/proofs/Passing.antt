@@ -5,6 +5,7 @@ use Rattle.std.specs.Prelude.{Option, Some, None, ℤ, pos}
 use Rattle.std.proofs.lemmas.Int.{ints}
 use Rattle.spelled.specs.Spelled.{Joined, FaultUntilEnd}
 use Rattle.spelled.proofs.Joins.{joined_push}
+use Rattle.spelled.proofs.Parts.{take_sum}
 use Rattle.dw_base.specs.declared.fault.Fault.{Fault}
 use Rattle.dw_base.specs.declared.fault.Kind.{Kind}
 use Rattle.dw_base.specs.declared.fault.Kind.TheVariants.{Limit, OpenSequence, LineValue}
@@ -19,7 +20,6 @@ use Rattle.line_machine.specs.Faults.{FaultOpcode, FaultWithin, OpcodesFault, Pr
 use Rattle.dw_base.specs.Refusals.{IsFaultOf}
 use Rattle.line_machine.specs.Heads.{IsHead, program_of}
 use Rattle.line_machine.specs.Cursors.{Passed, PassesOn, IsNear, Stands, FaultHere, FaultAhead, NextFault, at_start}
-use Rattle.line_machine.proofs.Parts.{take_sum}
 
 -- registers, rows and ranges of opcodes in two parts
 pub registers_append : (head : Head) (r : Registers) (xs ys : List Opcode) → registers_after head r (xs ++ ys) ≡ registers_after head (registers_after head r xs) ys

@@ -8,18 +8,20 @@ use Rattle.dw_base.specs.declared.fault.Kind.TheVariants.{LebWide, Short, LineOp
 use Rattle.dw_base.specs.declared.fault.Fault.{Fault}
 use Rattle.line_machine.specs.declared.opcode.Opcode.{Opcode}
 use Rattle.line_machine.specs.declared.opcode.Opcode.TheVariants.{EndSequence, SetAddress, SetDiscriminator}
-use Rattle.line_machine.specs.Numbers.{number_at, AreBytes}
+use Rattle.line_machine.specs.Numbers.{number_at}
 use Rattle.line_machine.specs.Opcodes.{WithUleb, WithFixed, SpellsOperation, SpellsExtended, SpellsOpcode}
 use Rattle.line_machine.specs.Faults.{FaultOpcode, IsSized, IsWrongCount}
 use Rattle.line_machine.specs.Readings.{FaultOperation}
-use Rattle.line_machine.proofs.Parts.{take_sum, length_part, first_at, part_from, part_bytes, number_part}
+use Rattle.line_machine.proofs.Parts.{first_at, part_from, number_part}
+use Rattle.spelled.proofs.Parts.{take_sum, length_part, bytes_part}
+use Rattle.spelled.specs.Spelled.{AreBytes}
 
 -- a code and a number of fixed width
 pub fixed_read : (code n value at count : ℕ) (bytes : List ℕ) → at + count ≤ length bytes → count ≡ suc n → slice_index bytes at ≡ code → value ≡ number_at n (at + 1) bytes → AreBytes bytes → WithFixed code n value (take count (drop at bytes))
 fixed_read code n value at count bytes inside e here is all = record {
   operand = take n (drop (at + 1) bytes);
   size = length_part (at + 1) n bytes (omega arith);
-  bounded = part_bytes (at + 1) n bytes (omega arith) all;
+  bounded = bytes_part (at + 1) n bytes all (omega arith);
   number = is ∙ number_part n (at + 1) bytes;
   whole = ap (λ k. take k (drop at bytes)) e ∙ part_from at n bytes (omega arith) ∙ ap (λ c. c ∷ take n (drop (at + 1) bytes)) here;
 }

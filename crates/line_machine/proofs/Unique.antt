@@ -1,9 +1,10 @@
 -- The bytes of opcodes end by themselves.
-use Rattle.std.proofs.Common.{◌≡◌, ◌<◌, ◌+◌, ℕ, List, [], ◌∷◌, ◌++◌, length, take, ◌∙◌, sym, ap, refl, arith}
+use Rattle.std.proofs.Common.{◌≡◌, ◌<◌, ◌+◌, ℕ, List, [], ◌∷◌, ◌++◌, length, ◌∙◌, sym, ap, refl, arith}
 use Rattle.std.proofs.lemmas.List.{append_assoc, append_cancel_left}
 use Rattle.std.specs.Prelude.{ℤ, ⊤}
 use Rattle.spelled.specs.Spelled.{HasUniqueFronts, HasBytes}
-use Rattle.leb_codec.proofs.Fronts.{front_is, unique_u, unique_s}
+use Rattle.spelled.proofs.Parts.{same_front}
+use Rattle.leb_codec.proofs.Fronts.{unique_u, unique_s}
 use Rattle.line_machine.specs.declared.opcode.Opcode.{Opcode}
 use Rattle.line_machine.specs.declared.opcode.Opcode.TheVariants.{Copy, AdvancePc, AdvanceLine, SetFile, SetColumn, NegateStmt, SetBasicBlock, ConstAddPc, FixedAdvancePc, SetPrologueEnd, SetEpilogueBegin, SetIsa, EndSequence, SetAddress, SetDiscriminator, Special}
 use Rattle.line_machine.specs.Numbers.{number_at}
@@ -23,10 +24,6 @@ others (byte ∷ bytes) = bytes
 
 pub tails : (code : ℕ) (x y a b u v : List ℕ) → x ≡ code ∷ a → y ≡ code ∷ b → x ++ u ≡ y ++ v → a ++ u ≡ b ++ v
 tails code x y a b u v p q e = ap (λ (l : List ℕ). others (l ++ u)) (sym p) ∙ ap others e ∙ ap (λ (l : List ℕ). others (l ++ v)) q
-
--- fronts of the same length are the same
-pub same_front : (a b u v : List ℕ) → length a ≡ length b → a ++ u ≡ b ++ v → a ≡ b
-same_front a b u v size e = sym (front_is a u) ∙ ap (λ n. take n (a ++ u)) size ∙ ap (take (length b)) e ∙ front_is b v
 
 pub one_uleb : (code v w : ℕ) (x y u t : List ℕ) → WithUleb code v x → WithUleb code w y → x ++ u ≡ y ++ t → (x ≡ y) × (v ≡ w)
 one_uleb code v w x y u t (a, s, e) (b, r, f) h =

@@ -4,7 +4,8 @@ use Rattle.std.specs.Prelude.{slice_index, ℤ, ⊤}
 use Rattle.std.proofs.lemmas.List.{length-append}
 use Rattle.leb_codec.specs.Leb.{least_unsigned_len, least_signed_len}
 use Rattle.leb_codec.proofs.SpellingLaws.{unsigned_spellings, signed_spellings}
-use Rattle.line_machine.specs.Numbers.{number_at, AreBytes}
+use Rattle.line_machine.specs.Numbers.{number_at}
+use Rattle.spelled.specs.Spelled.{AreBytes}
 use Rattle.line_machine.specs.Opcodes.{SpellsOpcode, SpellsExtended, WithUleb, WithSleb, WithFixed}
 use Rattle.line_machine.specs.declared.opcode.Opcode.{Opcode}
 use Rattle.line_machine.specs.declared.opcode.Opcode.TheVariants.{Copy, AdvancePc, AdvanceLine, SetFile, SetColumn, NegateStmt, SetBasicBlock, ConstAddPc, FixedAdvancePc, SetPrologueEnd, SetEpilogueBegin, SetIsa, EndSequence, SetAddress, SetDiscriminator, Special}

@@ -5,8 +5,8 @@ use Rattle.std.specs.Int.{byte_at, bytes_low_first}
 use Rattle.std.proofs.lemmas.List.{append_assoc, append-nil}
 use Rattle.byteorder.specs.Numbers.{length-bytes_low_first, little_number-reads_back}
 use Rattle.byteorder.specs.Endian.{little_bytes, little_from}
-use Rattle.spelled.specs.Spelled.{Appends}
-use Rattle.line_machine.specs.Numbers.{number_at, AreBytes}
+use Rattle.spelled.specs.Spelled.{AreBytes, Appends}
+use Rattle.line_machine.specs.Numbers.{number_at}
 use Rattle.line_machine.specs.Opcodes.{WithFixed}
 use Rattle.line_machine.specs.declared.opcode.Opcode.{Opcode}
 use Rattle.line_machine.specs.declared.opcode.Opcode.TheVariants.{SetAddress, SetDiscriminator}

@@ -9,9 +9,10 @@ use Rattle.byteorder.specs.Numbers.{length-bytes_low_first}
 use Rattle.line_machine.specs.Numbers.{number_at}
 use Rattle.line_machine.specs.Heads.{unit_length, version, header_length, minimum_instruction_length, default_is_stmt, line_base, line_range, opcode_base, standard_opcode_lengths, operand_counts, unit_end, tables_at, program_at, LeavesSection, HasNumbers, HasHead, head_at, program_of}
 use Rattle.line_machine.specs.Class.{Encoding, IsPair}
-use Rattle.line_machine.proofs.Parts.{length_part, number_part}
+use Rattle.line_machine.proofs.Parts.{number_part}
 use Rattle.line_write.specs.Programs.{version_of, instruction_of, tables_of, counted, header_of, body_of}
 use Rattle.line_write.proofs.Pieces.{Holds, held_front, held_after, held_inside, held_all, held_byte, held_number, part_byte, number_back}
+use Rattle.spelled.proofs.Parts.{length_part}
 
 -- where the parts of a header end
 pub record Bounds (section : List ℕ) (at : ℕ) : Type 0 where

@@ -2,14 +2,13 @@
 use Rattle.std.proofs.Common.{◌≡◌, ◌≢◌, ◌≤◌, ◌<◌, ◌+◌, ◌-◌, ◌^◌, ℕ, zero, suc, List, [], ◌∷◌, length, slice_index, ◌∙◌, sym, ap, subst, arith}
 use Rattle.abbrev_tables.specs.Tables.{Declared}
 use Rattle.abbrev_tables.specs.Listings.{Listing}
-use Rattle.entry_arena.specs.Walks.{Item}
-use Rattle.entry_arena.specs.Walks.Item.{AnEntry, AnEnd}
 use Rattle.entry_read.specs.Heads.{least_reserved, type_unit}
 use Rattle.entry_read.specs.Units.{HeadAndForest, entries_at}
 use Rattle.unit_write.specs.declared.places.Places.{Places}
 use Rattle.unit_write.specs.declared.write.NewNumbers.{NewNumbers}
-use Rattle.unit_write.specs.Placing.{ArePlaced, IsRenumbered}
+use Rattle.unit_write.specs.Placing.{IsRenumbered}
 use Rattle.unit_write.specs.Moved.{IsPlacedAt, IsWrittenAnew}
+use Rattle.unit_write.proofs.UnitLaws.{placed_order}
 use Rattle.value_links.specs.Reading.{Reading, unit_at}
 use Rattle.value_links.specs.World.{World, head_and_forest, table_at, Holds}
 use Rattle.value_links.specs.declared.units.NamedTable.{NamedTable}
@@ -21,15 +20,6 @@ use Rattle.rewriter.specs.Held.{table_for}
 use Rattle.rewriter.proofs.Standing.{held_unit}
 
 -- PLACES RISE
-
-placed_rise : (Size : ℕ → ℕ → Type 0) (id at : ℕ) (items : List Item) (entries ends : List ℕ) (to : ℕ) → ArePlaced Size id items at entries ends to → at ≤ to
-placed_rise Size id at [] [] [] to p = let same : at ≡ to = p in omega arith
-placed_rise Size id at [] [] (y ∷ ends) to p = absurd p
-placed_rise Size id at [] (x ∷ entries) ends to p = absurd p
-placed_rise Size id at (AnEntry n ∷ items) [] ends to p = absurd p
-placed_rise Size id at (AnEntry n ∷ items) (x ∷ entries) ends to p = let more : at + p.1.0 ≤ to = placed_rise Size (suc id) (at + p.1.0) items entries ends to p.1.2 in omega arith
-placed_rise Size id at (AnEnd ∷ items) entries [] to p = absurd p
-placed_rise Size id at (AnEnd ∷ items) entries (y ∷ ends) to p = let more : at + 1 ≤ to = placed_rise Size id (at + 1) items entries ends to p.1 in omega arith
 
 abbrev Rise : List Places → Type 0
 Rise places = (v : ℕ) → v < length places → (places_at places v).start ≤ (places_at places v).end
@@ -55,7 +45,7 @@ unit_ends world tables places size u are known =
     let count : length places ≡ length world.units = are.count in
     let rise : Rise places = λ v inside.
     let p = are.each v (let i : v < length places = inside in omega arith) in
-    let up : (places_at places v).start + (entries_at (unit_in world.units v).head - (unit_in world.units v).head.at) ≤ (places_at places v).end = placed_rise _ 0 ((places_at places v).start + (entries_at (unit_in world.units v).head - (unit_in world.units v).head.at)) p.whole.items (places_at places v).entries (places_at places v).ends (places_at places v).end p.placed in
+    let up : (places_at places v).start + (entries_at (unit_in world.units v).head - (unit_in world.units v).head.at) ≤ (places_at places v).end = placed_order _ 0 ((places_at places v).start + (entries_at (unit_in world.units v).head - (unit_in world.units v).head.at)) p.whole.items (places_at places v).entries (places_at places v).ends (places_at places v).end p.placed in
     omega arith in
     let below : (places_at places u).end ≤ size = follow_ends places 0 size u rise are.follow (omega arith) in
     let small : size < least_reserved = are.small in

@@ -19,6 +19,7 @@ use Rattle.entry_read.specs.declared.head.UnitHead.{UnitHead}
 use Rattle.entry_read.specs.Heads.{IsHead, Follow}
 use Rattle.entry_read.specs.Units.{HeadAndForest, declarations_of, IsUnitHeld}
 use Rattle.entry_read.proofs.Declarations.{declared_is}
+use Rattle.entry_read.proofs.PlaceLaws.{entry_stands}
 use Rattle.unit_write.specs.Sizes.{NumbersHaveSizes, ShortestHaveSizes}
 use Rattle.unit_write.specs.Placing.{EntrySize, columns_of, values_in}
 use Rattle.unit_write.specs.Moved.{IsRoomy, IsWritable}
@@ -34,7 +35,6 @@ use Rattle.rewriter.proofs.UsedDeclarations.{unit_is, table_written, decl_known,
 use Rattle.rewriter.proofs.BuiltUnits.{unit_built}
 use Rattle.rewriter.proofs.ColumnLaws.{IsSpelledBy, column_here, columns_count, column_spelled, new_columns_roomy}
 use Rattle.rewriter.proofs.MeaningsAmong.{meaning_among}
-use Rattle.rewriter.proofs.MovedEntries.{entry_stands}
 use Rattle.rewriter.proofs.MovedValues.{value_here}
 use Rattle.rewriter.proofs.SizedValues.{values_sized}
 

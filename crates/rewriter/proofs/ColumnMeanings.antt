@@ -12,6 +12,7 @@ use Rattle.form_codec.specs.Forms.{Meaning}
 use Rattle.form_codec.specs.Values.{meant_in}
 use Rattle.abbrev_tables.specs.declared.decl.Decl.{Decl}
 use Rattle.abbrev_tables.specs.Listings.{decl_at, AreAdjacent}
+use Rattle.abbrev_tables.proofs.Joined.{first_after}
 use Rattle.entry_arena.specs.declared.entry.Entry.{Entry}
 use Rattle.entry_arena.specs.Arena.{entry_at, value_at}
 use Rattle.entry_read.specs.Units.{HeadAndForest, declarations_of, IsTable, IsUnitHeld, entry_limit}
@@ -24,20 +25,13 @@ use Rattle.rewriter.proofs.ColumnUnits.{entry_declared}
 
 -- COLUMNS OF DECLARATIONS
 
-adjacent_from : (from : ℕ) (decls : List Decl) (to j : ℕ) → AreAdjacent from decls to → j < length decls → from ≤ (decl_at decls j).first
-adjacent_from from [] to j a below = absurd (omega arith)
-adjacent_from from (d ∷ decls) to zero (e, a) below = let first : d.first ≡ from = e in omega arith
-adjacent_from from (d ∷ decls) to (suc j) (e, a) below =
-    let rest : from + d.count ≤ (decl_at decls j).first = adjacent_from (from + d.count) decls to j a (omega arith) in
-    omega arith
-
 -- those of a declaration stand before those of a later one
 pub columns_rise : (from : ℕ) (decls : List Decl) (to i j : ℕ) → AreAdjacent from decls to → i < j → j < length decls → (decl_at decls i).first + (decl_at decls i).count ≤ (decl_at decls j).first
 columns_rise from [] to i j a less below = absurd (omega arith)
 columns_rise from (d ∷ decls) to i zero a less below = absurd (omega arith)
 columns_rise from (d ∷ decls) to zero (suc j) (e, a) less below =
     let first : d.first ≡ from = e in
-    let rest : from + d.count ≤ (decl_at decls j).first = adjacent_from (from + d.count) decls to j a (omega arith) in
+    let rest : from + d.count ≤ (decl_at decls j).first = first_after (from + d.count) decls to j a (omega arith) in
     omega arith
 columns_rise from (d ∷ decls) to (suc i) (suc j) (e, a) less below = columns_rise (from + d.count) decls to i j a (omega arith) (omega arith)
 

@@ -1,5 +1,5 @@
 -- The form of a column spells the values that entries have in it.
-use Rattle.std.proofs.Common.{◌≡◌, ◌<◌, ◌+◌, ◌∙◌, inl, inr, ℕ, zero, suc, List, [], ◌∷◌, ◌++◌, length, map, take, drop, eqb, sym, ap, subst, arith}
+use Rattle.std.proofs.Common.{◌≡◌, ◌<◌, ◌+◌, ◌∙◌, inl, inr, ℕ, zero, suc, List, [], ◌∷◌, ◌++◌, length, map, take, drop, eqb, sym, ap, subst, arith, refl}
 use Rattle.std.specs.Prelude.{ℤ, slice_index, filter, flat_map}
 use Rattle.std.specs.List.{All}
 use Rattle.std.proofs.lemmas.Bool.{cases_eq, cond-true, cond-false, cond_both, eq-eqb, ne_eqb, eqb-true}
@@ -18,10 +18,11 @@ use Rattle.entry_arena.specs.Arena.{entry_at, value_at}
 use Rattle.entry_arena.specs.Trees.{ValuesBetween, declared_at}
 use Rattle.entry_read.specs.Units.{HeadAndForest, declarations_of, IsTable, IsUnitHeld}
 use Rattle.entry_read.proofs.Declarations.{columns_inside, declared_is}
+use Rattle.entry_read.proofs.PlaceLaws.{entry_stands}
 use Rattle.value_links.specs.declared.units.NamedTable.{NamedTable}
 use Rattle.rewriter.specs.Tables.{values_with, column_meanings}
 use Rattle.rewriter.specs.Placed.{unit_in}
-use Rattle.rewriter.proofs.ColumnUnits.{entry_declared, entry_counted, entry_stands}
+use Rattle.rewriter.proofs.ColumnUnits.{entry_declared, entry_counted}
 use Rattle.rewriter.proofs.ColumnMeanings.{has_decl, AreOfTable, term_of, held_here}
 
 -- a column spells a value of a section
@@ -41,7 +42,7 @@ module _ (table : Listing) (unit : HeadAndForest) (known : IsTable table) (held 
   own_spelled j below =
       let e : Entry = entry_at unit.forest.entries id in
       let d : Decl = decl_at table.decls e.decl in
-      let stands = entry_stands table unit known held id inside in
+      let stands = entry_stands unit.forest.section unit.head (declarations_of table) unit.forest refl held id inside in
       let declared : e.decl < length table.decls = entry_declared table unit known held id inside in
       let counted : e.count ≡ d.count = entry_counted table unit known held id inside in
       let columns : (declared_at (declarations_of table) e.decl).columns ≡ take d.count (drop d.first table.specs) = ap (λ (z : Declared). z.columns) (declared_is table e.decl declared) in

@@ -15,14 +15,12 @@ use Rattle.column_forms.specs.Rows.{AreHere}
 use Rattle.column_forms.specs.TableColumns.{IsTallyOf, tally_at, AreTalliesOf, HaveRoomForRow, AddsRow}
 use Rattle.entry_arena.specs.declared.entry.Entry.{Entry}
 use Rattle.entry_arena.specs.Arena.{entry_at, value_at}
-use Rattle.entry_arena.specs.Standing.{StandsAs}
-use Rattle.entry_arena.specs.Trees.{declared_at, listed_to}
-use Rattle.entry_arena.proofs.StandingLaws.{entries_stand}
-use Rattle.entry_arena.proofs.TreeLaws.{trees_are_walks}
-use Rattle.entry_read.specs.Units.{HeadAndForest, entries_at, declarations_of, IsTable, IsUnitHeld}
+use Rattle.entry_arena.specs.Trees.{declared_at}
+use Rattle.entry_read.specs.Units.{HeadAndForest, declarations_of, IsTable, IsUnitHeld}
 use Rattle.entry_read.specs.Places.{HaveOwners}
 use Rattle.entry_read.proofs.Declarations.{columns_inside, count_same, declared_is}
 use Rattle.entry_read.proofs.OwnerLaws.{values_belong}
+use Rattle.entry_read.proofs.PlaceLaws.{entry_stands}
 use Rattle.unit_write.proofs.Sizing.{valued_between}
 use Rattle.rewriter.specs.Placed.{unit_in}
 use Rattle.rewriter.specs.Columns.{values_in_column, values_of_units, with_entries, HaveRoomFor, AddsEntries, AreUnitsOf, AreGathered}
@@ -71,15 +69,10 @@ module _ (table : Listing) (unit : HeadAndForest) (known : IsTable table) (held 
   pub entry_values : (entry_at unit.forest.entries id).first + (entry_at unit.forest.entries id).count ≤ length unit.forest.values
   entry_values = owners.inside id inside
 
-  pub entry_stands : StandsAs unit.forest.section (declarations_of table) unit.forest.values (entry_at unit.forest.entries id)
-  entry_stands =
-      let whole = (trees_are_walks unit.forest.section (declarations_of table) (entries_at unit.head) (listed_to unit.forest held.0)).0 held.1.tree in
-      entries_stand unit.forest.section (declarations_of table) (entries_at unit.head) (listed_to unit.forest held.0) id whole inside
-
   -- they are values of the section
   pub entry_here : AreBytes unit.forest.section → length unit.forest.section < 2 ^ 63 → AreHere unit.forest.section (take (entry_at unit.forest.entries id).count (drop (entry_at unit.forest.entries id).first unit.forest.values))
   entry_here small few k below =
-      let s = entry_stands in
+      let s = entry_stands unit.forest.section unit.head (declarations_of table) unit.forest refl held id inside in
       let all : All (IsValueIn unit.forest.section) (take e.count (drop e.first values)) = valued_between unit.forest.section small (declared_at (declarations_of table) e.decl).columns (take e.count (drop e.first values)) s.values_at (e.at + e.len) s.valued in
       record { value = all k (value_at [] 0) below; fits = few }
 

@@ -13,7 +13,7 @@ use Rattle.abbrev_tables.specs.declared.decl.Spec.{Spec}
 use Rattle.abbrev_tables.specs.Listings.{Listing, decl_at, spec_at, declared_in}
 use Rattle.entry_arena.specs.declared.entry.Entry.{Entry}
 use Rattle.entry_arena.specs.Arena.{entry_at, value_at}
-use Rattle.entry_read.proofs.OwnerLaws.{values_counted}
+use Rattle.entry_arena.proofs.StepLaws.{values_counted}
 use Rattle.entry_read.specs.Units.{HeadAndForest}
 use Rattle.unit_write.specs.declared.places.Places.{Places}
 use Rattle.unit_write.specs.declared.write.NewNumbers.{NewNumbers}

@@ -3,9 +3,6 @@ use Rattle.std.proofs.Common.{◌≡◌, ◌<◌, ◌+◌, ℕ, List, [], length
 use Rattle.std.proofs.lemmas.List.{get_or_read, get_or-map, length-map}
 use Rattle.form_codec.specs.Forms.Meaning.{InUnit, InSection, SectionPlace}
 use Rattle.entry_arena.specs.declared.entry.Target.{Target}
-use Rattle.entry_arena.specs.declared.entry.Target.TheVariants.{Entry as TheEntry, ChainEnd as TheEnd}
-use Rattle.entry_arena.specs.Arena.{Arena}
-use Rattle.entry_arena.specs.Order.{IsInOrder}
 use Rattle.entry_read.specs.Units.{HeadAndForest}
 use Rattle.unit_write.specs.declared.places.Places.{Places}
 use Rattle.value_links.specs.declared.link.Link.{Link}
@@ -42,17 +39,6 @@ pub moves_read : (world : World) (places : List Places) (u : ℕ) (units : List 
 moves_read world places u units own new old result all inside same is there m =
     let size : length places ≡ length world.units = all.count in
     subst (λ (p : PlacesAnew). MovesTo (unit_in world.units u).forest p old result) (places_read places u new (omega arith) there) (subst (λ (h : HeadAndForest). MovesTo h.forest (places_anew new) old result) (own_is world u units own inside same is) m)
-
--- a place at which something stands lies in the section
-pub target_inside : (f : Arena) (target : Target) (place : ℕ) → IsInOrder f → IsTargetAt f target place → place < length f.section
-target_inside f (TheEntry id) place order (inside, at) =
-    let wide : 0 < _ = order.entered.wide id inside in
-    let ends : _ = order.entered.inside id inside in
-    omega arith
-target_inside f (TheEnd id) place order (i, inside, is) =
-    let here : _ = order.ended.inside i inside in
-    let at : _ = ap (λ z. z.at) is in
-    omega arith
 
 -- REFERENCES
 

@@ -1,5 +1,5 @@
 -- Each value of a unit of a valid file means something, and a type unit has its type.
-use Rattle.std.proofs.Common.{◌≡◌, ◌≤◌, ◌<◌, ◌+◌, ◌-◌, ℕ, zero, suc, List, [], ◌∷◌, length, get_or, take, drop, ◌∙◌, sym, ap, refl, subst, arith}
+use Rattle.std.proofs.Common.{◌≡◌, ◌≤◌, ◌<◌, ◌+◌, ◌-◌, ℕ, zero, suc, List, [], ◌∷◌, length, get_or, take, drop, ◌∙◌, sym, ap, subst, arith}
 use Rattle.std.specs.Prelude.{slice_index_or, Option, Some, None}
 use Rattle.std.specs.List.{All, AllZip}
 use Rattle.std.proofs.lemmas.List.{length-map, length-drop, length-take-le, get_or-take, get_or-drop}
@@ -18,6 +18,7 @@ use Rattle.entry_arena.specs.Forests.{Described, attributes_of, described_by}
 use Rattle.entry_arena.specs.Trees.{declared_at, listed_to}
 use Rattle.entry_arena.proofs.StandingLaws.{entries_stand}
 use Rattle.entry_arena.proofs.TreeLaws.{trees_are_walks}
+use Rattle.entry_arena.proofs.SpellingLaws.{attributes_count, attribute_at}
 use Rattle.entry_read.specs.Heads.{type_unit}
 use Rattle.entry_read.specs.Units.{HeadAndForest, entries_at, IsTable}
 use Rattle.entry_read.specs.Places.{HaveOwners}
@@ -41,17 +42,6 @@ all_zip_at R [] ys i d all inside = absurd (let b : i < 0 = inside in omega arit
 all_zip_at R (x ∷ xs) [] i d all inside = absurd all
 all_zip_at R (x ∷ xs) (y ∷ ys) zero d all inside = (y, all.0)
 all_zip_at R (x ∷ xs) (y ∷ ys) (suc i) d all inside = all_zip_at R xs ys i d all.1 (omega arith)
-
-attributes_count : (section : List ℕ) (cs : List Spec) (vs : List Value) → length vs ≡ length cs → length (attributes_of section cs vs) ≡ length cs
-attributes_count section [] vs same = refl
-attributes_count section (c ∷ cs) [] same = absurd (omega arith)
-attributes_count section (c ∷ cs) (v ∷ vs) same = let rest : length (attributes_of section cs vs) ≡ length cs = attributes_count section cs vs (omega arith) in omega arith
-
-attribute_at : (section : List ℕ) (cs : List Spec) (vs : List Value) (j : ℕ) (d : ℕ × Meaning) → length vs ≡ length cs → j < length cs → get_or (attributes_of section cs vs) j d ≡ ((spec_at cs j).name, meant_in section (value_at vs j))
-attribute_at section [] vs j d same inside = absurd (let b : j < 0 = inside in omega arith)
-attribute_at section (c ∷ cs) [] j d same inside = absurd (omega arith)
-attribute_at section (c ∷ cs) (v ∷ vs) zero d same inside = refl
-attribute_at section (c ∷ cs) (v ∷ vs) (suc j) d same inside = attribute_at section cs vs j d (omega arith) (omega arith)
 
 -- the unit with a number is read
 pub read_unit_at : (file : List ℕ) (r : Reading) (u : ℕ) → All (IsUnitRead (debug_info file) (debug_abbrev file)) r.units → u < length r.units → IsUnitRead (debug_info file) (debug_abbrev file) (unit_at r u)

@@ -1,23 +1,19 @@
 -- Entries that are written anew: each has its declaration, and as many values that mean the same but for their new numbers.
-use Rattle.std.proofs.Common.{◌≡◌, ◌≢◌, ◌≤◌, ◌<◌, ◌+◌, ◌-◌, ◌∙◌, ◌++◌, ℕ, List, [], ◌∷◌, length, take, drop, sym, ap, subst, refl, arith}
-use Rattle.std.specs.Prelude.{false, slice_index}
-use Rattle.std.proofs.lemmas.List.{get_or-map}
+use Rattle.std.proofs.Common.{◌≡◌, ◌≢◌, ◌≤◌, ◌<◌, ◌+◌, ◌-◌, ◌∙◌, ◌++◌, ℕ, List, ◌∷◌, length, take, drop, sym, ap, subst, refl, arith}
+use Rattle.std.specs.Prelude.{slice_index}
 use Rattle.std.proofs.lemmas.List.Elements.{AllZip-get_or, length_all_zip}
 use Rattle.form_codec.specs.declared.value.Value.{Value}
 use Rattle.form_codec.specs.Values.{meant_in}
-use Rattle.abbrev_tables.specs.declared.decl.Decl.{Decl}
 use Rattle.abbrev_tables.specs.declared.decl.Spec.{Spec}
 use Rattle.abbrev_tables.specs.Tables.{Declared}
-use Rattle.abbrev_tables.specs.Listings.{Listing, decl_at, declared_in}
+use Rattle.abbrev_tables.specs.Listings.{decl_at, declared_in}
 use Rattle.abbrev_tables.specs.Written.{numbered_as}
 use Rattle.entry_arena.specs.declared.entry.Entry.{Entry}
-use Rattle.entry_arena.specs.Arena.{Arena, entry_at, value_at}
-use Rattle.entry_arena.specs.Trees.{ValuesBetween, declared_at, listed_to}
+use Rattle.entry_arena.specs.Arena.{value_at}
+use Rattle.entry_arena.specs.Trees.{ValuesBetween, declared_at}
 use Rattle.entry_arena.specs.Standing.{StandsAs}
-use Rattle.entry_arena.proofs.StandingLaws.{entries_stand}
-use Rattle.entry_arena.proofs.TreeLaws.{trees_are_walks}
-use Rattle.entry_read.specs.declared.head.UnitHead.{UnitHead}
-use Rattle.entry_read.specs.Units.{entries_at, declarations_of, IsUnitHeld}
+use Rattle.entry_read.proofs.PlaceLaws.{entry_stands}
+use Rattle.entry_read.proofs.Declarations.{declared_is}
 use Rattle.unit_write.specs.declared.places.Places.{Places}
 use Rattle.unit_write.specs.Values.{with_number}
 use Rattle.unit_write.specs.Placing.{columns_of}
@@ -37,28 +33,12 @@ use Rattle.rewriter.proofs.MovedValues.{value_here, as_many}
 abbrev no_entry : Entry
 no_entry = record { at = 0; len = 0; depth = 0; decl = 0; first = 0; count = 0 }
 
-abbrev no_decl : Decl
-no_decl = record { at = 0; code = 0; tag = 0; children = false; first = 0; count = 0 }
-
-abbrev no_declared : Declared
-no_declared = record { code = 0; tag = 0; children = false; columns = [] }
-
 -- the declaration of an entry is the same, but for its code, which is the new number, and for the forms of its columns
 pub record IsSameDeclared (r s : Reading) (numbers : List ℕ) (u id : ℕ) : Type 0 where
   pub code : (declaration_of (unit_at s u) id).code ≡ slice_index numbers (entry_of (unit_at r u) id).decl
   pub tag : (declaration_of (unit_at s u) id).tag ≡ (declaration_of (unit_at r u) id).tag
   pub children : (declaration_of (unit_at s u) id).children ≡ (declaration_of (unit_at r u) id).children
   pub named : AreNamedAlike (declaration_of (unit_at r u) id).columns (declaration_of (unit_at s u) id).columns
-
--- an entry of a unit stands in its section
-pub entry_stands : (info : List ℕ) (head : UnitHead) (ds : List Declared) (f : Arena) → f.section ≡ info → IsUnitHeld info head ds f → (id : ℕ) → id < length f.entries → StandsAs f.section ds f.values (entry_at f.entries id)
-entry_stands info head ds f section (end, unit) id inside =
-    let whole = (trees_are_walks info ds (entries_at head) (listed_to f end)).0 unit.tree in
-    subst (λ (z : List ℕ). StandsAs z ds f.values (entry_at f.entries id)) (sym section) (entries_stand info ds (entries_at head) (listed_to f end) id whole inside)
-
--- a declaration of a table with its columns
-declared_is : (t : Listing) (number : ℕ) → number < length t.decls → declared_at (declarations_of t) number ≡ declared_in t.specs (decl_at t.decls number)
-declared_is t number inside = get_or-map (declared_in t.specs) t.decls number no_decl no_declared inside
 
 module _ {file : List ℕ} {world : World} {tables : List NewTable} {places : List Places} {starts info abbrevs : List ℕ} {r s : Reading} (all : AreReadAnew file world tables places starts info abbrevs r s) where
   abbrev pub new_table : ℕ → TableAnew

@@ -29,7 +29,8 @@ use Rattle.rewriter.proofs.ColumnsChosen.{columns_writable}
 use Rattle.rewriter.proofs.Meant.{all_values, read_unit_at}
 use Rattle.rewriter.proofs.TermSums.{total-none, total-once, total-sums, counted_once, sum_by-map, sum_by-le_at, sum_by-less_at}
 use Rattle.rewriter.proofs.TableSizes.{declared_most, used_most, table_most, few_more}
-use Rattle.rewriter.proofs.WorldFacts.{countable, table_known, of_table, unit_held}
+use Rattle.rewriter.proofs.WorldFacts.{countable, table_known, of_table}
+use Rattle.rewriter.proofs.Standing.{held_unit}
 
 -- THE USED DECLARATIONS OF A TABLE
 
@@ -177,7 +178,7 @@ module _ (world : World) (reach : Reach) (is : IsWorldOf world.image reach world
   unit_limit : (u : ℕ) → u < length world.units → unit_most (unit_in world.units u) ≤ 24 * entry_count (unit_in world.units u) + 30 * value_count (unit_in world.units u)
   unit_limit u below =
       let inside : u < length is.r.units = omega (arith, below, (countable world reach is trees_are_walks).count, is.holds.tables.count) in
-      let held = unit_held world.image world is.r is.holds u in
+      let held = held_unit world.image world is.r u is.holds in
       let read = read_unit_at world.image is.r u is.read.parts.units.each inside in
       unit_part (unit_in world.units u) (subst (λ (unit : HeadAndForest). HaveAllValues unit.forest) (sym held) (all_values (debug_info world.image) (debug_abbrev world.image) _ read))
 

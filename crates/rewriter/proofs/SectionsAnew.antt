@@ -1,5 +1,5 @@
 -- What is read of the new sections of a file.
-use Rattle.std.proofs.Common.{◌≡◌, ◌≤◌, ◌<◌, ◌+◌, ◌-◌, ◌^◌, ◌∙◌, ℕ, suc, List, [], ◌∷◌, length, map, get_or, sym, ap, refl, subst, arith, inl, inr}
+use Rattle.std.proofs.Common.{◌≡◌, ◌≤◌, ◌<◌, ◌+◌, ◌-◌, ◌^◌, ◌∙◌, ℕ, List, [], ◌∷◌, length, map, get_or, sym, ap, refl, subst, arith, inl, inr}
 use Rattle.std.specs.Prelude.{slice_index}
 use Rattle.std.specs.List.{All}
 use Rattle.std.proofs.lemmas.Bool.{cases_lt}
@@ -14,16 +14,15 @@ use Rattle.line_write.specs.Programs.{Follow as ProgramsFollow, Tile as Programs
 use Rattle.line_write.specs.Readings.{AreRead, StandAnew}
 use Rattle.line_write.proofs.ReadBack.{bounds}
 use Rattle.companions.specs.declared.set.ArangeSet.{ArangeSet}
-use Rattle.companions.specs.Aranges.{IsOutside, SetsTile, SetsFollow, HaveUnits}
+use Rattle.companions.specs.Aranges.{IsOutside, SetsTile, HaveUnits}
+use Rattle.companions.proofs.Tiling.{follow_units}
 use Rattle.abbrev_tables.specs.ListingLaws.{DeclarationsStand}
-use Rattle.entry_arena.specs.Walks.{Item}
-use Rattle.entry_arena.specs.Walks.Item.{AnEntry, AnEnd}
 use Rattle.entry_read.specs.declared.head.UnitHead.{UnitHead}
 use Rattle.entry_read.specs.Heads.{Tile as UnitsTile}
 use Rattle.entry_read.specs.Units.{HeadAndForest}
 use Rattle.unit_write.specs.declared.places.Places.{Places}
-use Rattle.unit_write.specs.Placing.{ArePlaced}
 use Rattle.unit_write.specs.Sizes.{NumbersHaveSizes, ShortestHaveSizes}
+use Rattle.unit_write.proofs.UnitLaws.{placed_order}
 use Rattle.value_links.specs.Sections.{body_named, body_or_none, debug_info, debug_abbrev, debug_line, debug_aranges, info_name, abbrev_name, line_name, aranges_name}
 use Rattle.value_links.specs.Reading.{ProgramRead, UnitRead, Reading, no_program, no_unit, line_heads, unit_heads, unit_starts, program_at, IsReading}
 use Rattle.value_links.specs.Faults.{IsValid}
@@ -269,16 +268,6 @@ starts_fit section heads bytes starts stand few =
       subst (λ (z : List ℕ). All (λ start. start < 2 ^ 32) z) (sym stand.places) (All-map (λ start. start < 2 ^ 32) (λ (h : Head). h.at) stand.written each),
     )
 
-placed_on : (Size : ℕ → ℕ → Type 0) (id : ℕ) (items : List Item) (at : ℕ) (entries ends : List ℕ) (to : ℕ) → ArePlaced Size id items at entries ends to → at ≤ to
-placed_on Size id [] at [] [] to p = let e : at ≡ to = p in omega (arith, e)
-placed_on Size id (AnEntry number ∷ items) at (place ∷ entries) ends to p =
-    let later : at + p.1.0 ≤ to = placed_on Size (suc id) items (at + p.1.0) entries ends to p.1.2 in
-    omega (arith, later)
-placed_on Size id (AnEnd ∷ items) at entries (place ∷ ends) to p =
-    let later : at + 1 ≤ to = placed_on Size id items (at + 1) entries ends to p.1 in
-    omega (arith, later)
-placed_on Size id items at entries ends to p = absurd p
-
 places_from : (places : List Places) (at end : ℕ) → All (λ (p : Places). p.start ≤ p.end) places → PlacesFollow places at end → (at ≤ end) × All (λ (p : Places). p.start ≤ end) places
 places_from [] at end rise follow = (let e : at ≡ end = follow in omega (arith, e), All-nil (λ (p : Places). p.start ≤ end))
 places_from (p ∷ places) at end rise follow =
@@ -299,7 +288,7 @@ places_fit world tables (p ∷ places) size are =
     let small = are.small in
     let rise : All (λ (q : Places). q.start ≤ q.end) all = All-from_get_or (λ (q : Places). q.start ≤ q.end) all p (λ k inside. (
     let placed = (are.each k (omega (arith, count, inside))).placed in
-    let later = placed_on _ 0 _ _ _ _ _ placed in
+    let later = placed_order _ 0 _ _ _ _ _ placed in
     let same = place_is all k p inside in
     let from : (places_at all k).start ≡ (get_or all k p).start = ap (λ (z : PlacesAnew). z.start) same in
     let to : (places_at all k).end ≡ (get_or all k p).end = ap (λ (z : PlacesAnew). z.end) same in
@@ -308,10 +297,6 @@ places_fit world tables (p ∷ places) size are =
     let below = (places_from all 0 size rise are.follow).1 in
     All-from_get_or (λ (q : Places). q.start < 2 ^ 32) all p (λ k inside. (let l : (get_or all k p).start ≤ size = All-get_or (λ (q : Places). q.start ≤ size) all k p inside below in omega (arith, l, small)))
 
-sets_have_units : (section starts : List ℕ) (sets : List ArangeSet) (a e : ℕ) → SetsFollow section starts sets a e → HaveUnits (length starts) sets
-sets_have_units section starts [] a e follow = All-nil (λ (set : ArangeSet). set.unit < length starts)
-sets_have_units section starts (set ∷ sets) a e follow = All-cons (λ (s : ArangeSet). s.unit < length starts) set sets follow.1.of_unit.0 (sets_have_units section starts sets _ e follow.2)
-
 pub old_sets : (world : World) → IsWorldOf world.image Narrow world → (section : List ℕ) (sets : List ArangeSet) → section ≡ debug_aranges world.image → sets ≡ world.sets → (starts : List ℕ) × SetsTile section starts sets
 old_sets world is section sets e f =
     let here = subst (λ (z : List ℕ). SetsTile z (unit_starts is.r.units) is.r.sets) (sym e) is.read.sets in
@@ -319,7 +304,7 @@ old_sets world is section sets e f =
 
 pub old_units : (world : World) → IsWorldOf world.image Narrow world → (count : ℕ) (sets : List ArangeSet) → count ≡ length world.units → sets ≡ world.sets → HaveUnits count sets
 old_units world is count sets e f =
-    let has : HaveUnits (length (unit_starts is.r.units)) is.r.sets = sets_have_units (debug_aranges world.image) (unit_starts is.r.units) is.r.sets 0 (length (debug_aranges world.image)) is.read.sets in
+    let has : HaveUnits (length (unit_starts is.r.units)) is.r.sets = follow_units (debug_aranges world.image) (unit_starts is.r.units) is.r.sets 0 (length (debug_aranges world.image)) is.read.sets in
     let starts : length (unit_starts is.r.units) ≡ length is.r.units = length-map is.r.units (λ (u : UnitRead). u.head.at) in
     let units : length world.units ≡ length is.r.units = ap (λ (z : List HeadAndForest). length z) is.holds.units ∙ length-map is.r.units head_and_forest in
     let here : HaveUnits count is.r.sets = subst (λ (z : ℕ). HaveUnits z is.r.sets) (starts ∙ sym units ∙ sym e) has in

@@ -1,9 +1,10 @@
 -- A value that bytes of a form spell has shortest bytes of that form.
 use Rattle.std.proofs.Common.{◌≡◌, ◌≤◌, ◌<◌, ◌+◌, ◌-◌, ◌∙◌, ◌++◌, ℕ, zero, suc, List, [], ◌∷◌, length, get_or, Bool, true, false, sym, ap, refl, subst, arith, inl, inr}
 use Rattle.std.specs.Prelude.{ℤ, pos, nat_le}
-use Rattle.std.proofs.lemmas.Bool.{cases_Bool, cases_lt}
-use Rattle.std.proofs.lemmas.List.{length-append, get_or-append-add, get_or_append_left}
+use Rattle.std.proofs.lemmas.Bool.{cases_Bool}
+use Rattle.std.proofs.lemmas.List.{length-append}
 use Rattle.spelled.specs.Spelled.{AreBytes}
+use Rattle.spelled.proofs.Parts.{bytes_append, bytes_after}
 use Rattle.leb_codec.specs.Leb.{least_unsigned_len, least_signed_len}
 use Rattle.leb_codec.proofs.SpellingLaws.{unsigned_spellings, signed_spellings}
 use Rattle.form_codec.specs.declared.form.Form.{Form}
@@ -19,6 +20,7 @@ use Rattle.form_codec.specs.declared.form.Width.TheVariants.{Eight}
 use Rattle.form_codec.specs.Forms.{Meaning, SpellsShape, SpellsValue, SpellsShortest, code_of, shape_of, number, in_role, of_content}
 use Rattle.form_codec.specs.Forms.Meaning.{AddressNumber, Whole, Data, Expression, InUnit, IsSet, Text, StringNumber, LocationList, RangeList}
 use Rattle.form_codec.proofs.Codes.{code_once}
+use Rattle.form_codec.proofs.FormLaws.{in_form}
 
 -- no bytes of the shape are fewer, and these spell the value
 record AreFewest (s : Shape) (m : Meaning) (bytes : List ℕ) : Type 0 where
@@ -126,34 +128,15 @@ text_fewest m bytes small p = record {
       omega (arith, one, two, ap length same);
 }
 
--- bytes behind bytes
-both_small : (a b : List ℕ) → AreBytes a → AreBytes b → AreBytes (a ++ b)
-both_small a b p q k inside =
-    elim (cases_lt k (length a)) [
-      | inl left ↦ rw (get_or_append_left a b 0 k left) (p k left)
-      | inr right ↦
-          let e : k ≡ length a + (k - length a) = omega arith in
-          let all : length (a ++ b) ≡ length a + length b = length-append a b in
-          let at : get_or (a ++ b) k 0 ≡ get_or b (k - length a) 0 = ap (λ i. get_or (a ++ b) i 0) e ∙ get_or-append-add a b (k - length a) 0 in
-          rw at (q (k - length a) (omega arith))
-    ]
-
--- the bytes of a list behind others
-tail_small : (a b : List ℕ) → AreBytes (a ++ b) → AreBytes b
-tail_small a b small k inside =
-    let at : get_or (a ++ b) (length a + k) 0 ≡ get_or b k 0 = get_or-append-add a b k 0 in
-    let all : length (a ++ b) ≡ length a + length b = length-append a b in
-    subst (λ (z : ℕ). z < 256) at (small (length a + k) (omega arith))
-
 block_fewest : (kind : Content) (m : Meaning) (bytes : List ℕ) → AreBytes bytes → SpellsShape (UlebCounted kind) m bytes → (few : List ℕ) × AreFewest (UlebCounted kind) m few
 block_fewest kind m bytes small p =
     let n : ℕ = length p.body in
     let least : least_unsigned_len n ≤ least_unsigned_len n = omega arith in
     let b = unsigned_spellings.each_len n (least_unsigned_len n) least in
-    let body : AreBytes p.body = tail_small p.head p.body (subst AreBytes p.whole small) in (
+    let body : AreBytes p.body = bytes_after p.head p.body (subst AreBytes p.whole small) in (
       b.0 ++ p.body,
       record {
-        small = both_small b.0 p.body b.1.0.byte body;
+        small = bytes_append b.0 p.body b.1.0.byte body;
         spelled = record { head = b.0; body = p.body; count = (b.1, p.count.1); whole = refl; holds = p.holds };
         fewest = λ others q.
             let same : p.body ≡ q.body = sym (holds_block kind p.body) ∙ ap block_in (sym p.holds ∙ q.holds) ∙ holds_block kind q.body in
@@ -189,9 +172,6 @@ shape_fewest ZeroEnded m bytes e small p = (bytes, text_fewest m bytes small p)
 none_shorter : (f : Form) (c d : ℤ) (m : Meaning) (bytes others : List ℕ) → AreFewest (shape_of f c) m bytes → SpellsShape (shape_of f d) m others → length bytes ≤ length others
 none_shorter form.ImplicitConst c d m bytes others p q = omega (arith, ap length p.spelled.0)
 none_shorter f c d m bytes others p q = p.fewest others q
-
-in_form : (code : ℕ) (f : Form) (c : ℤ) (m : Meaning) (bytes : List ℕ) → code_of f ≡ code → SpellsValue code c m bytes → SpellsShape (shape_of f c) m bytes
-in_form code f c m bytes known s = subst (λ (z : Form). SpellsShape (shape_of z c) m bytes) (code_once s.form f (s.known ∙ sym known)) s.spelled
 
 abbrev is_flag : Form → Bool
 is_flag form.Flag = true

@@ -16,7 +16,7 @@ use Rattle.rewriter.specs.Tables.{TableAnew, table_anew, new_table_at, TablesFol
 use Rattle.rewriter.specs.Placed.{PlacesAnew, places_at, unit_in, ArePlacesOf}
 use Rattle.rewriter.specs.Units.{IsUnitMoved}
 use Rattle.rewriter.specs.Tidy.{TablesStand, IsTidyUnit}
-use Rattle.rewriter.proofs.WorldFacts.{unit_held}
+use Rattle.rewriter.proofs.Standing.{held_unit}
 
 -- tables that follow one another stand so
 pub tables_stand : (section : List ℕ) (tables : List NewTable) (at : ℕ) → TablesFollow section tables at → TablesStand section (map table_anew tables) at
@@ -39,7 +39,7 @@ tidy_unit file world r tables places lines size u new holds places_are inside mo
     let stands : PlacesAnew = places_at places u in
     let count : length world.units ≡ length r.units = ap (λ (z : List HeadAndForest). length z) holds.units ∙ length-map r.units head_and_forest in
     let placed : IsPlacedAt (unit_in world.units u) old.table table.columns table.numbers stands.start stands.entries stands.ends stands.end = places_are.each u (subst (λ (z : ℕ). u < z) (sym count) inside) in
-    let of_unit : IsPlacedAt (head_and_forest (unit_at r u)) old.table table.columns table.numbers stands.start stands.entries stands.ends stands.end = subst (λ (z : HeadAndForest). IsPlacedAt z old.table table.columns table.numbers stands.start stands.entries stands.ends stands.end) (unit_held file world r holds u) placed in
+    let of_unit : IsPlacedAt (head_and_forest (unit_at r u)) old.table table.columns table.numbers stands.start stands.entries stands.ends stands.end = subst (λ (z : HeadAndForest). IsPlacedAt z old.table table.columns table.numbers stands.start stands.entries stands.ends stands.end) (held_unit file world r u holds) placed in
     let by_table : IsPlacedAt (head_and_forest (unit_at r u)) (unit_at r u).table table.columns table.numbers stands.start stands.entries stands.ends stands.end = subst (λ (z : NamedTable). IsPlacedAt (head_and_forest (unit_at r u)) z.table table.columns table.numbers stands.start stands.entries stands.ends stands.end) (holds.tables.each u inside) of_unit in
     let own : IsPlacedAt (head_and_forest (unit_at r u)) (unit_at r u).table table.columns table.numbers new.head.at (map (λ (e : Entry). e.at) new.forest.entries) (map (λ (e : ChainEnd). e.at) new.forest.ends) (end_of new.head) = at_own_places (head_and_forest (unit_at r u)) (unit_at r u).table table stands new.head.at (map (λ (e : Entry). e.at) new.forest.entries) (map (λ (e : ChainEnd). e.at) new.forest.ends) (end_of new.head) moved.at moved.entry_places moved.end_places moved.ends by_table in
     record { entries = moved.entries; placed = own; short = moved.short }

@@ -3,7 +3,6 @@ use Rattle.std.proofs.Common.{◌≡◌, ◌≢◌, ◌<◌, inl, inr, ℕ, List
 use Rattle.std.specs.List.{All, sum_by}
 use Rattle.std.proofs.lemmas.Bool.{cases_lt}
 use Rattle.std.proofs.lemmas.List.{length-map}
-use Rattle.std.proofs.Math.ListN.{get_or-map}
 use Rattle.std.proofs.lemmas.List.Elements.{All-nil, All-push, All-get_or}
 use Rattle.dw_base.specs.declared.fault.Reach.{Reach}
 use Rattle.abbrev_tables.specs.Tables.{Declared}
@@ -17,12 +16,13 @@ use Rattle.entry_arena.proofs.TreeLaws.{trees_are_walks}
 use Rattle.entry_read.specs.Units.{HeadAndForest, declarations_of, IsTable, IsUnitHeld}
 use Rattle.value_links.specs.declared.units.NamedTable.{NamedTable}
 use Rattle.value_links.specs.Sections.{debug_info, debug_abbrev}
-use Rattle.value_links.specs.Reading.{UnitRead, Reading, declarations, unit_among, unit_at, no_unit, IsUnitRead}
-use Rattle.value_links.specs.World.{World, head_and_forest, table_at, named_by, Holds, IsWorldOf}
+use Rattle.value_links.specs.Reading.{UnitRead, declarations, unit_among, no_unit, IsUnitRead}
+use Rattle.value_links.specs.World.{World, head_and_forest, table_at, named_by, IsWorldOf}
 use Rattle.rewriter.specs.Placed.{unit_in}
 use Rattle.rewriter.specs.Counting.{AreCountable}
 use Rattle.rewriter.proofs.TermSums.{sum_by-map}
 use Rattle.rewriter.proofs.ColumnMeanings.{AreOfTable}
+use Rattle.rewriter.proofs.Standing.{held_unit}
 
 abbrev Known : List Declared → Entry → Type 0
 Known ds e = e.decl < length ds
@@ -38,10 +38,6 @@ entries_known section ds old chains (AnEnd ∷ items) new left (id, outer, mid, 
 abbrev entries_in : HeadAndForest → ℕ
 entries_in unit = length unit.forest.entries
 
--- a unit that is held is one that was read
-pub unit_held : (file : List ℕ) (world : World) (r : Reading) → Holds file world r → (u : ℕ) → unit_in world.units u ≡ head_and_forest (unit_at r u)
-unit_held file world r holds u = ap (λ (us : List HeadAndForest). unit_in us u) holds.units ∙ get_or-map head_and_forest r.units u no_unit
-
 module _ (world : World) (reach : Reach) (is : IsWorldOf world.image reach world) where
   abbrev units_read : List UnitRead
   units_read = is.r.units
@@ -50,7 +46,7 @@ module _ (world : World) (reach : Reach) (is : IsWorldOf world.image reach world
   unit_count = ap length is.holds.units ∙ length-map units_read head_and_forest
 
   unit_is : (u : ℕ) → unit_in world.units u ≡ head_and_forest (unit_among units_read u)
-  unit_is = unit_held world.image world is.r is.holds
+  unit_is u = held_unit world.image world is.r u is.holds
 
   read_at : (u : ℕ) → u < length units_read → IsUnitRead (debug_info world.image) (debug_abbrev world.image) (unit_among units_read u)
   read_at u inside = All-get_or (IsUnitRead (debug_info world.image) (debug_abbrev world.image)) units_read u no_unit inside is.read.parts.units.each

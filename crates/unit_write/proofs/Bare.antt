@@ -13,10 +13,11 @@ use Rattle.entry_arena.specs.Trees.{ValuesBetween, declared_at}
 use Rattle.entry_read.specs.Heads.{IsHead}
 use Rattle.entry_read.specs.Units.{HeadAndForest, declarations_of, IsUnitHeld}
 use Rattle.entry_read.proofs.Declarations.{declared_is}
+use Rattle.entry_read.proofs.PlaceLaws.{entry_stands}
 use Rattle.unit_write.specs.Values.{HaveSize}
 use Rattle.unit_write.specs.Placing.{columns_of, values_in, EntrySize}
 use Rattle.unit_write.specs.Moved.{IsWritable}
-use Rattle.unit_write.proofs.Standing.{entry_stands, entry_declared}
+use Rattle.unit_write.proofs.Standing.{entry_declared}
 
 no_part : (specs : List Spec) (first count : ℕ) → specs ≡ [] → take count (drop first specs) ≡ []
 no_part specs first count e = ap (λ (z : List Spec). take count (drop first z)) e ∙ ap (λ (z : List Spec). take count z) (drop-nil first) ∙ take-nil count
@@ -30,7 +31,7 @@ module _ (unit : HeadAndForest) (table : Listing) (columns : List Spec) (numbers
   no_values : (id : ℕ) → id < length unit.forest.entries → values_in unit.forest id ≡ []
   no_values id inside =
       let e : Entry = entry_at unit.forest.entries id in
-      let s = entry_stands unit table held id inside in
+      let s = entry_stands unit.forest.section unit.head (declarations_of table) unit.forest refl held id inside in
       let own : (declared_at (declarations_of table) e.decl).columns ≡ [] = ap (λ z. z.columns) (declared_is table e.decl (entry_declared unit table held id inside)) ∙ no_part table.specs (decl_at table.decls e.decl).first (decl_at table.decls e.decl).count bare in
       none_valued unit.forest.section ((declared_at (declarations_of table) e.decl).columns) (values_in unit.forest id) s.values_at (e.at + e.len) own s.valued
 

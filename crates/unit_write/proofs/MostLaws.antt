@@ -3,9 +3,9 @@ use Rattle.std.proofs.Common.{◌≡◌, ◌≤◌, ◌<◌, ◌+◌, ◌-◌, �
 use Rattle.std.specs.Prelude.{ℤ, pos, negsuc, nat_le, if◌then◌else◌, slice_index, FitsSigned}
 use Rattle.std.specs.Int.{w64}
 use Rattle.std.proofs.lemmas.Int.{ints}
-use Rattle.std.proofs.lemmas.Bool.{cases_lt}
-use Rattle.std.proofs.lemmas.List.{length-append, get_or_append_left, get_or-append-add}
+use Rattle.std.proofs.lemmas.List.{length-append}
 use Rattle.spelled.specs.Spelled.{AreBytes}
+use Rattle.spelled.proofs.Parts.{bytes_append, bytes_after}
 use Rattle.leb_codec.specs.Leb.{least_unsigned_len, least_signed_len}
 use Rattle.leb_codec.proofs.Lens.{unsigned_lens, signed_lens}
 use Rattle.leb_codec.proofs.SpellingLaws.{unsigned_spellings, signed_spellings}
@@ -98,35 +98,16 @@ ten_signed (negsuc n) fits =
     let few : n < 2 ^ 63 = fits.sfits in
     (signed_lens.enough (negsuc n) 10).0 (record { some = omega arith; from = omega (arith, ints); below = omega (arith, ints) })
 
--- bytes behind bytes
-both_small : (a b : List ℕ) → AreBytes a → AreBytes b → AreBytes (a ++ b)
-both_small a b p q k inside =
-    elim (cases_lt k (length a)) [
-      | inl left ↦ rw (get_or_append_left a b 0 k left) (p k left)
-      | inr right ↦
-          let e : k ≡ length a + (k - length a) = omega arith in
-          let all : length (a ++ b) ≡ length a + length b = length-append a b in
-          let at : slice_index (a ++ b) k ≡ slice_index b (k - length a) = ap (λ i. slice_index (a ++ b) i) e ∙ get_or-append-add a b (k - length a) 0 in
-          rw at (q (k - length a) (omega arith))
-    ]
-
-tail_small : (a b : List ℕ) → AreBytes (a ++ b) → AreBytes b
-tail_small a b small k inside =
-    let at : slice_index (a ++ b) (length a + k) ≡ slice_index b k = get_or-append-add a b k 0 in
-    let all : length (a ++ b) ≡ length a + length b = length-append a b in
-    let s = small (length a + k) (omega arith) in
-    omega (arith, s, at)
-
 -- a block with a count of ten bytes
 ten_counted : (kind : Content) (m : Meaning) (bytes : List ℕ) → AreBytes bytes → IsUlebCounted kind m bytes → (others : List ℕ) × AreBytes others × IsUlebCounted kind m others × (length others ≡ 10 + own_len m)
 ten_counted kind m bytes small p =
     let few : length p.body < 2 ^ 64 = p.count.1 in
     let b = unsigned_spellings.each_len (length p.body) 10 (ten_unsigned (length p.body) few) in
-    let body : AreBytes p.body = tail_small p.head p.body (subst (λ (z : List ℕ). AreBytes z) p.whole small) in
+    let body : AreBytes p.body = bytes_after p.head p.body (subst (λ (z : List ℕ). AreBytes z) p.whole small) in
     let len : length b.0 ≡ 10 = b.2 in
     let own : own_len m ≡ length p.body = ap own_len p.holds ∙ content_len kind p.body in
     let all : length (b.0 ++ p.body) ≡ length b.0 + length p.body = length-append b.0 p.body in
-    (b.0 ++ p.body, both_small b.0 p.body b.1.0.byte body, record { head = b.0; body = p.body; count = (b.1, p.count.1); whole = refl; holds = p.holds }, omega arith)
+    (b.0 ++ p.body, bytes_append b.0 p.body b.1.0.byte body, record { head = b.0; body = p.body; count = (b.1, p.count.1); whole = refl; holds = p.holds }, omega arith)
 
 abbrev AreLeast : Shape → Meaning → List ℕ → Type 0
 AreLeast s m bytes = (others : List ℕ) → AreBytes others → SpellsShape s m others → length bytes ≤ length others

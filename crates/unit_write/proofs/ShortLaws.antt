@@ -1,7 +1,6 @@
 -- Entries that are written stand without a byte too many.
-use Rattle.std.proofs.Common.{◌≡◌, ◌≤◌, ◌<◌, ◌+◌, ◌-◌, ℕ, zero, suc, List, [], ◌∷◌, ◌++◌, length, take, drop, ◌∙◌, sym, ap, refl, subst, arith}
+use Rattle.std.proofs.Common.{◌≡◌, ◌≤◌, ◌<◌, ◌+◌, ◌-◌, ℕ, zero, suc, List, [], ◌∷◌, ◌++◌, length, ◌∙◌, sym, ap, subst, arith}
 use Rattle.std.specs.Prelude.{map}
-use Rattle.std.proofs.lemmas.List.{append_assoc, take_at, drop_at}
 use Rattle.leb_codec.specs.Leb.{ShortestUnsigned}
 use Rattle.form_codec.specs.declared.value.Value.{Value}
 use Rattle.form_codec.specs.Forms.{Meaning}
@@ -16,6 +15,7 @@ use Rattle.entry_arena.proofs.SpellingLaws.{cut}
 use Rattle.unit_write.specs.Values.{with_number, IsWritten}
 use Rattle.unit_write.specs.Moved.{WrittenBetween, StandsShort}
 use Rattle.unit_write.specs.Puts.{PutsValues}
+use Rattle.spelled.proofs.Parts.{own_part}
 
 -- what values mean with numbers of their own
 abbrev pub renamed : List ℕ → List Value → List ℕ → List Meaning
@@ -44,11 +44,6 @@ values_short old new (c ∷ cs) (v ∷ vs) (w ∷ ws) (n ∷ ns) from to order i
     let others : PutsValues old cs vs ns (bytes_between new k.mid to) = subst (λ (z : List ℕ). PutsValues old cs vs ns z) (sym k.second) p in
     (k.mid, record { order = k.after; inside = omega arith; spelled = written }, values_short old new cs vs ws ns k.mid to k.before inside others there)
 
--- the values of an entry, with more behind them
-values_taken : (before vs more : List Value) → take (length vs) (drop (length before) ((before ++ vs) ++ more)) ≡ vs
-values_taken before vs more =
-    ap (λ (z : List Value). take (length vs) (drop (length before) z)) (append_assoc before vs more) ∙ ap (λ (z : List Value). take (length vs) z) (drop_at before (vs ++ more) (length before) refl) ∙ take_at vs more (length vs) refl
-
 -- so does an entry whose code and values are written, whatever values are listed behind its own
 pub entry_short : (section : List ℕ) (ds : List Declared) (before vs more : List Value) (at mid to depth decl : ℕ) → at ≤ to → SpellsBetween (ShortestUnsigned ((declared_at ds decl).code)) section at mid → WrittenBetween section ((declared_at ds decl).columns) vs mid to → StandsShort section ds ((before ++ vs) ++ more) (record { at = at; len = to - at; depth = depth; decl = decl; first = length before; count = length vs })
 entry_short section ds before vs more at mid to depth decl order coded valued =
@@ -57,7 +52,7 @@ entry_short section ds before vs more at mid to depth decl order coded valued =
     record {
       values_at = mid;
       coded = coded;
-      valued = subst (λ (z : List Value). WrittenBetween section ((declared_at ds decl).columns) z mid (at + (to - at))) (sym (values_taken before vs more)) up;
+      valued = subst (λ (z : List Value). WrittenBetween section ((declared_at ds decl).columns) z mid (at + (to - at))) (sym (own_part before vs more)) up;
     }
 
 -- one more entry before others

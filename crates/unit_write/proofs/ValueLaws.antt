@@ -1,7 +1,6 @@
 -- What is written of one value.
 use Rattle.std.proofs.Common.{◌≡◌, ◌≢◌, ◌≤◌, ◌<◌, ◌-◌, ◌*◌, ◌^◌, ℕ, List, length, Bool, true, false, ◌∙◌, sym, ap, refl, subst, arith, inl, inr}
-use Rattle.std.specs.Prelude.{ℤ, pos, nat_le, if◌then◌else◌, zero, suc}
-use Rattle.std.specs.Int.{bytes_low_first}
+use Rattle.std.specs.Prelude.{ℤ, pos, nat_le, if◌then◌else◌}
 use Rattle.std.proofs.lemmas.Bool.{cases_Bool}
 use Rattle.spelled.specs.Spelled.{AreBytes}
 use Rattle.leb_codec.specs.Leb.{PaddedUnsigned, least_unsigned_len}
@@ -20,7 +19,8 @@ use Rattle.form_codec.specs.Forms.{Meaning, SpellsShape, SpellsValue, SpellsShor
 use Rattle.form_codec.specs.Forms.Meaning.{InUnit, InSection, SectionPlace, Bits, Whole}
 use Rattle.form_codec.specs.Written.{low_bytes}
 use Rattle.form_codec.proofs.Codes.{code_once}
-use Rattle.form_codec.proofs.WriteLaws.{low_len, number_low}
+use Rattle.form_codec.proofs.WriteLaws.{low_len, number_low, low_small}
+use Rattle.form_codec.proofs.FormLaws.{in_form}
 use Rattle.abbrev_tables.specs.declared.decl.Spec.{Spec}
 use Rattle.unit_write.specs.Values.{is_moving, with_number, IsWritten, HasSize, OneSize}
 use Rattle.unit_write.specs.Moved.{IsRoomy}
@@ -125,10 +125,6 @@ with_constant : (f : Form) (c d : ℤ) (m : Meaning) (bytes others : List ℕ) �
 with_constant form.ImplicitConst c d m bytes others p q = (p.0, q.1, q.2)
 with_constant f c d m bytes others p q = p
 
--- a spelling in the form with a code
-in_form : (code : ℕ) (f : Form) (c : ℤ) (m : Meaning) (bytes : List ℕ) → code_of f ≡ code → SpellsValue code c m bytes → SpellsShape (shape_of f c) m bytes
-in_form code f c m bytes known s = subst (λ (z : Form). SpellsShape (shape_of z c) m bytes) (code_once s.form f (s.known ∙ sym known)) s.spelled
-
 -- what doesn't move is written by its shortest bytes
 pub written_shortest : (column : Spec) (meaning : Meaning) (n : ℕ) (bytes others : List ℕ) → is_moving meaning ≡ false → SpellsValue column.form column.constant meaning others → SpellsShortest column.form meaning bytes → IsWritten column (with_number n meaning) bytes
 written_shortest column meaning n bytes others stays s shortest =
@@ -183,12 +179,6 @@ one_size column meaning m n (k, a, (p, inr (other, least)), e) (l, b, (q, inr (o
           sym (sym (size_kept column meaning n a stays (l, b, (q, inr (other2, least2)), g) first) ∙ sym e)
     ]
 
-all_low : (i m n : ℕ) → AreBytes (bytes_low_first i m n)
-all_low i zero n k lt = absurd (omega arith)
-all_low zero (suc m) n zero lt = omega arith
-all_low (suc i) (suc m) n zero lt = omega arith
-all_low i (suc m) n (suc k) lt = all_low (suc i) m n k (omega arith)
-
 -- a number in five bytes of LEB128
 written_leb : (column : Spec) (meaning : Meaning) (n : ℕ) (bytes : List ℕ) → column.form ≡ code_of form.RefUdata → meaning ≡ InUnit n → n < 2 ^ 32 → PaddedUnsigned 5 n bytes → IsWritten column meaning bytes
 written_leb column meaning n bytes leb means few put =
@@ -203,7 +193,7 @@ module _ (column : Spec) (meaning : Meaning) (n : ℕ) (bytes : List ℕ) (f : F
       record {
         form = f;
         known = known;
-        small = subst (λ (z : List ℕ). AreBytes z) (sym put) (all_low 0 (size_of w) n);
+        small = subst (λ (z : List ℕ). AreBytes z) (sym put) (low_small 0 (size_of w) n);
         spelled = subst (λ (z : Shape). SpellsShape z meaning bytes) (sym fixed) shape;
       }
 

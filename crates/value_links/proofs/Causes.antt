@@ -21,6 +21,7 @@ use Rattle.entry_arena.specs.Arena.{entry_at, value_at}
 use Rattle.entry_arena.specs.Trees.{declared_at}
 use Rattle.entry_read.specs.Units.{HeadAndForest, declarations_of}
 use Rattle.entry_arena.specs.Forests.{attributes_of}
+use Rattle.entry_arena.proofs.SpellingLaws.{attributes_count, attribute_at}
 use Rattle.value_links.specs.Attributes.{OffsetClass, offset_class, is_among, loclists_base, rnglists_base}
 use Rattle.value_links.specs.Attributes.OffsetClass.{LinePtr, RngList, LocList, RngListsPtr, LocListsPtr, AddrPtr, StrOffsetsPtr, MacPtr, Views, NoOffset}
 use Rattle.value_links.specs.Reading.{Reading, unit_at}
@@ -75,17 +76,6 @@ offset_place section v = refl
 place_of_offset : (section : List ℕ) (v : Value) → is_offset v ≡ true → (n : ℕ) × (meant_in section v ≡ SectionPlace n)
 place_of_offset section (value.Offset n) is = (n, refl)
 place_of_offset section v is = absurd (true≢false (sym is))
-
-attributes_count : (section : List ℕ) (columns : List Spec) (values : List Value) → length values ≡ length columns → length (attributes_of section columns values) ≡ length columns
-attributes_count section [] values same = refl
-attributes_count section (c ∷ cs) [] same = absurd (omega arith)
-attributes_count section (c ∷ cs) (v ∷ vs) same = let rest : length (attributes_of section cs vs) ≡ length cs = attributes_count section cs vs (omega arith) in omega arith
-
-attribute_at : (section : List ℕ) (columns : List Spec) (values : List Value) (k : ℕ) (d : ℕ × Meaning) → length values ≡ length columns → k < length columns → get_or (attributes_of section columns values) k d ≡ ((spec_at columns k).name, meant_in section (value_at values k))
-attribute_at section [] values k d same inside = absurd (omega arith)
-attribute_at section (c ∷ cs) [] k d same inside = absurd (omega arith)
-attribute_at section (c ∷ cs) (v ∷ vs) zero d same inside = refl
-attribute_at section (c ∷ cs) (v ∷ vs) (suc k) d same inside = attribute_at section cs vs k d (omega arith) (omega arith)
 
 base_contained : (attributes : List (ℕ × Meaning)) (name n : ℕ) → IsFirstBase attributes name n → Contains attributes (name, SectionPlace n)
 base_contained attributes name n h =

@@ -1,5 +1,5 @@
 -- The values of entries, by the numbers of their columns.
-use Rattle.std.proofs.Common.{◌≡◌, ◌≤◌, ◌<◌, ◌+◌, ◌++◌, ◌∙◌, ℕ, zero, suc, List, [], ◌∷◌, length, take, drop, sym, ap, subst, refl, arith}
+use Rattle.std.proofs.Common.{◌≡◌, ◌<◌, ◌+◌, ◌++◌, ◌∙◌, ℕ, List, ◌∷◌, length, take, drop, sym, ap, subst, refl, arith}
 use Rattle.std.specs.Prelude.{pos}
 use Rattle.std.proofs.Math.Seq.{get_or-append_seam}
 use Rattle.std.proofs.lemmas.List.{length-append, length-take-le, take-append-drop, drop_more}
@@ -10,7 +10,7 @@ use Rattle.form_codec.specs.Values.{meant_in}
 use Rattle.abbrev_tables.specs.declared.decl.Spec.{Spec}
 use Rattle.abbrev_tables.specs.Listings.{spec_at}
 use Rattle.entry_arena.specs.Arena.{value_at}
-use Rattle.entry_arena.specs.Trees.{ValuesBetween}
+use Rattle.entry_arena.proofs.StepLaws.{values_counted}
 use Rattle.entry_read.specs.Places.{HaveOwners, StandsAtColumn}
 use Rattle.value_links.specs.Reading.{UnitRead, declarations}
 use Rattle.value_links.specs.Values.{entry_of, declaration_of, values_of, HasValueAt}
@@ -18,30 +18,6 @@ use Rattle.value_links.proofs.Causes.{own_value, own_count}
 
 abbrev no_spec : Spec
 no_spec = record { name = 0; form = 0; constant = pos 0 }
-
--- as many values as columns
-counted_between : (section : List ℕ) (columns : List Spec) (values : List Value) (from to : ℕ) → ValuesBetween section columns values from to → length values ≡ length columns
-counted_between section [] [] from to same = refl
-counted_between section [] (v ∷ vs) from to none = absurd none
-counted_between section (c ∷ cs) [] from to none = absurd none
-counted_between section (c ∷ cs) (v ∷ vs) from to (next, spelled, placed, rest) = let later : length vs ≡ length cs = counted_between section cs vs next to rest in omega arith
-
--- values end in the section
-pub values_inside : (section : List ℕ) (columns : List Spec) (values : List Value) (from to : ℕ) → from ≤ length section → ValuesBetween section columns values from to → to ≤ length section
-values_inside section [] [] from to inside same = let here : from ≡ to = same in omega arith
-values_inside section [] (v ∷ vs) from to inside none = absurd none
-values_inside section (c ∷ cs) [] from to inside none = absurd none
-values_inside section (c ∷ cs) (v ∷ vs) from to inside (next, spelled, placed, rest) = values_inside section cs vs next to spelled.inside rest
-
--- the first values of columns end somewhere
-pub values_front : (section : List ℕ) (columns : List Spec) (values : List Value) (from to k : ℕ) → ValuesBetween section columns values from to → (mid : ℕ) × ValuesBetween section (take k columns) (take k values) from mid
-values_front section columns values from to zero valued = (from, refl)
-values_front section [] [] from to (suc k) same = (from, refl)
-values_front section [] (v ∷ vs) from to (suc k) none = absurd none
-values_front section (c ∷ cs) [] from to (suc k) none = absurd none
-values_front section (c ∷ cs) (v ∷ vs) from to (suc k) (next, spelled, placed, rest) =
-    let front = values_front section cs vs next to k rest in
-    (front.0, (next, spelled, placed, front.1))
 
 module _ (unit : UnitRead) (owned : HaveOwners (declarations unit) unit.forest) (id : ℕ) (known : id < length unit.forest.entries) where
   -- the value of a column stands where the code and the values before it end
@@ -75,7 +51,7 @@ module _ (unit : UnitRead) (owned : HaveOwners (declarations unit) unit.forest) 
   pub column_of : (number name : ℕ) (meaning : Meaning) (place : ℕ) → HasValueAt unit id number name meaning place → (k : ℕ) × (k < (entry_of unit id).count) × (name ≡ (spec_at (declaration_of unit id).columns k).name) × (meaning ≡ meant_in unit.forest.section (value_at unit.forest.values ((entry_of unit id).first + k)))
   column_of number name meaning place h =
       let k : ℕ = length h.earlier_columns in
-      let same : length h.earlier ≡ length h.earlier_columns = counted_between unit.forest.section h.earlier_columns h.earlier h.values_at place h.valued in
+      let same : length h.earlier ≡ length h.earlier_columns = values_counted unit.forest.section h.earlier_columns h.earlier h.values_at place h.valued in
       let whole : length (declaration_of unit id).columns ≡ length (h.earlier_columns ++ h.column ∷ h.later_columns) = ap length h.columns in
       let sum : length (h.earlier_columns ++ h.column ∷ h.later_columns) ≡ length h.earlier_columns + length (h.column ∷ h.later_columns) = length-append h.earlier_columns (h.column ∷ h.later_columns) in
       let count : (entry_of unit id).count ≡ length (declaration_of unit id).columns = owned.counted id known in
@@ -88,4 +64,4 @@ module _ (unit : UnitRead) (owned : HaveOwners (declarations unit) unit.forest) 
   pub column_numbered : (number name : ℕ) (meaning : Meaning) (place : ℕ) → (h : HasValueAt unit id number name meaning place) → number ≡ (entry_of unit id).first + (column_of number name meaning place h).0
   unfolding column_of
   column_numbered number name meaning place h =
-      h.numbered ∙ ap (λ (z : ℕ). (entry_of unit id).first + z) (counted_between unit.forest.section h.earlier_columns h.earlier h.values_at place h.valued)
+      h.numbered ∙ ap (λ (z : ℕ). (entry_of unit id).first + z) (values_counted unit.forest.section h.earlier_columns h.earlier h.values_at place h.valued)

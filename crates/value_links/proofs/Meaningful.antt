@@ -15,18 +15,13 @@ use Rattle.form_codec.specs.declared.value.Value.{Value}
 use Rattle.form_codec.specs.Forms.{Meaning}
 use Rattle.form_codec.specs.Values.{meant_in}
 use Rattle.abbrev_tables.specs.declared.decl.Spec.{Spec}
-use Rattle.abbrev_tables.specs.Tables.{Declared}
 use Rattle.entry_arena.specs.declared.entry.Entry.{Entry}
-use Rattle.entry_arena.specs.Arena.{Arena, entry_at}
+use Rattle.entry_arena.specs.Arena.{entry_at}
 use Rattle.entry_arena.specs.Forests.{Described, attributes_of, described_by}
-use Rattle.entry_arena.specs.Trees.{ValuesBetween, listed_to}
-use Rattle.entry_arena.specs.Standing.{StandsAs}
-use Rattle.entry_arena.proofs.StandingLaws.{entries_stand}
-use Rattle.entry_arena.proofs.TreeLaws.{trees_are_walks}
-use Rattle.entry_read.specs.declared.head.UnitHead.{UnitHead}
+use Rattle.entry_arena.specs.Trees.{ValuesBetween}
 use Rattle.entry_read.specs.Heads.{type_unit}
-use Rattle.entry_read.specs.Units.{entries_at, IsUnitHeld}
 use Rattle.entry_read.proofs.Parts.{values_push}
+use Rattle.entry_read.proofs.PlaceLaws.{entry_stands}
 use Rattle.value_links.specs.Sections.{offset_named, debug_info, debug_abbrev, debug_line, info_name}
 use Rattle.value_links.specs.Reading.{ProgramRead, Reading, line_heads, HasRows, no_unit, unit_at, declarations, IsUnitRead, IsReading}
 use Rattle.value_links.specs.Values.{entry_of, declaration_of, values_of, HasValueAt}
@@ -37,13 +32,6 @@ use Rattle.value_links.specs.Faults.Pass.{OfLinks}
 use Rattle.value_links.specs.Laws.{ValidFilesMean}
 use Rattle.value_links.specs.Parts.{LinkedFilesMean}
 use Rattle.value_links.proofs.Resolving.{search_below, resolved_or_faulty}
-
--- WHERE VALUES STAND
-
-pub entry_stands : (info : List ℕ) (head : UnitHead) (ds : List Declared) (f : Arena) → f.section ≡ info → IsUnitHeld info head ds f → (id : ℕ) → id < length f.entries → StandsAs f.section ds f.values (entry_at f.entries id)
-entry_stands info head ds f section (end, unit) id inside =
-    let whole = (trees_are_walks info ds (entries_at head) (listed_to f end)).0 unit.tree in
-    subst (λ (z : List ℕ). StandsAs z ds f.values (entry_at f.entries id)) (sym section) (entries_stand info ds (entries_at head) (listed_to f end) id whole inside)
 
 -- LISTS
 

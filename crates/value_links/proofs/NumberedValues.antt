@@ -5,8 +5,10 @@ use Rattle.form_codec.specs.declared.value.Value.{Value}
 use Rattle.form_codec.specs.Values.{meant_in}
 use Rattle.abbrev_tables.specs.Listings.{Listing, spec_at}
 use Rattle.entry_arena.specs.Arena.{Arena, entry_at, value_at}
+use Rattle.entry_arena.proofs.StepLaws.{values_front}
 use Rattle.entry_read.specs.Units.{HeadAndForest, declarations_of, IsTable}
 use Rattle.entry_read.specs.Places.{HaveOwners, StandsAtColumn}
+use Rattle.entry_read.proofs.PlaceLaws.{entry_stands}
 use Rattle.value_links.specs.declared.link.Link.{Link}
 use Rattle.value_links.specs.declared.units.NamedTable.{NamedTable}
 use Rattle.value_links.specs.Sections.{debug_info, debug_abbrev}
@@ -18,8 +20,8 @@ use Rattle.value_links.specs.Links.{resolved_by, held_at, HasLink}
 use Rattle.value_links.specs.World.{World, head_and_forest, own_table, Holds, IsWorldOf}
 use Rattle.value_links.proofs.HeldUnits.{unit_is, unit_owners, held_count, held_is}
 use Rattle.value_links.proofs.HeldLinks.{units_held_once}
-use Rattle.value_links.proofs.EntryValues.{values_front, stands_at}
-use Rattle.value_links.proofs.Meaningful.{entry_stands, valid_values}
+use Rattle.value_links.proofs.EntryValues.{stands_at}
+use Rattle.value_links.proofs.Meaningful.{valid_values}
 
 -- an entry of a unit that was read has each value that is among its own, as that of the attribute with the column's name
 module _ (info abbrevs : List ℕ) (unit : UnitRead) (is : IsUnitRead info abbrevs unit) (owned : HaveOwners (declarations unit) unit.forest) (id number : ℕ) (owner : IsOwner unit.forest.entries id number) where

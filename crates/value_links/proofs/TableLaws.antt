@@ -1,16 +1,15 @@
 -- The places of tables that units name, and the numbers of tables.
-use Rattle.std.proofs.Common.{◌≡◌, ◌≤◌, ◌<◌, ◌+◌, ◌-◌, ◌∙◌, ◌++◌, ◌⊎◌, inl, inr, eqb, ltb, true, false, ℕ, zero, suc, List, [], ◌∷◌, length, get_or, take, drop, sym, ap, subst, refl, arith}
+use Rattle.std.proofs.Common.{◌≡◌, ◌≤◌, ◌<◌, ◌+◌, ◌-◌, ◌∙◌, ◌++◌, ◌⊎◌, inl, inr, eqb, ℕ, zero, suc, List, [], ◌∷◌, length, get_or, take, drop, sym, ap, subst, refl, arith}
 use Rattle.std.specs.List.{All, Contains, dedup}
-use Rattle.std.specs.List.Sorted.{IsPermutation, IsSorted, IsStrictlyIncreasing, IsNonDecreasing, IsPartitionPoint}
+use Rattle.std.specs.List.Sorted.{IsPermutation, IsSorted, IsStrictlyIncreasing}
 use Rattle.std.specs.List.Retain.{IsFiltered, DiffersFromLast}
 use Rattle.std.specs.Ordering.{nat_cmp}
-use Rattle.std.proofs.lemmas.Bool.{cases_lt, ltb-true, ltb-false}
+use Rattle.std.proofs.lemmas.Bool.{cases_lt}
 use Rattle.std.proofs.lemmas.List.{get_or-map, get_or_default, length-map, length-append, length-drop}
 use Rattle.std.proofs.lemmas.List.Elements.{All-nil, All-cons, All-from_get_or}
 use Rattle.std.proofs.lemmas.List.Filters.{dedup_is}
 use Rattle.std.proofs.lemmas.List.Kept.{Contains-dedup_nat, Contains-from_dedup, AllPairs-from_increasing}
-use Rattle.std.proofs.lemmas.List.Sorted.{Contains-permutation, IsPermutation-sym, IsNonDecreasingBy-from_default}
-use Rattle.std.proofs.lemmas.Grind.{get_or_default_zero}
+use Rattle.std.proofs.lemmas.List.Sorted.{Contains-permutation, IsPermutation-sym}
 use Rattle.std.proofs.lemmas.Map.Keys.{IsStrictlyIncreasing-dedup}
 use Rattle.form_codec.specs.Forms.{code_of}
 use Rattle.form_codec.specs.declared.form.Form.TheVariants.{Ref1, Ref2}
@@ -98,30 +97,6 @@ pub unbuilt_fault : DeclarationsStand → (abbrevs : List ℕ) (place : ℕ) (t 
 unbuilt_fault stand abbrevs place t i at origin h inside short here =
     let (from, s) = stand abbrevs place t i h inside in
     ((decl_at t.decls i).at - place, omega arith, record { before = take i (declarations_in t.specs t.decls); d = declared_in t.specs (decl_at t.decls i); stands = s; unbuilt = short })
-
--- NUMBERS
-
-pub never_falls : (places : List ℕ) → ((i j : ℕ) → i < j → j < length places → get_or places i 0 < get_or places j 0) → IsNonDecreasing places
-never_falls places rising =
-    IsNonDecreasingBy-from_default (λ (x : ℕ). x) places 0 (λ i j le inside. elim (cases_lt i j) [
-      | inl less ↦ let h : get_or places i 0 < get_or places j 0 = rising i j less inside in omega arith
-      | inr more ↦ let same : i ≡ j = omega arith in let h : get_or places i 0 ≡ get_or places j 0 = ap (λ k. get_or places k 0) same in omega arith
-    ])
-
--- the first place that isn't below one of them is that one
-pub place_found : (places : List ℕ) (place n : ℕ) → ((i j : ℕ) → i < j → j < length places → get_or places i 0 < get_or places j 0) → Contains places place → IsPartitionPoint (λ y. ltb y place ≡ true) (λ y. ltb y place ≡ false) places n → (n < length places) × (get_or places n 0 ≡ place)
-place_found places place n rising (k, inside, is) (below, above) =
-    let here : get_or places k 0 ≡ place = sym (get_or_default_zero places k place inside) ∙ is in
-    elim (cases_lt k n) [
-      | inl less ↦ let low : get_or places k 0 < place = ltb-true (get_or places k 0) place (below k 0 (omega arith) less) in absurd (omega arith)
-      | inr more ↦ elim (cases_lt n k) [
-        | inl less ↦
-            let high : place ≤ get_or places n 0 = ltb-false (get_or places n 0) place (above n 0 (omega arith) (omega arith)) in
-            let rise : get_or places n 0 < get_or places k 0 = rising n k less inside in
-            absurd (omega arith)
-        | inr rest ↦ let same : n ≡ k = omega arith in (omega arith, ap (λ z. get_or places z 0) same ∙ here)
-      ]
-    ]
 
 -- TABLES WITH THEIR PLACES
 

@@ -13,7 +13,7 @@ use Rattle.value_links.specs.Parts.{AreParts}
 use Rattle.value_links.specs.Checks.{IsChecked, IsColumnLinked}
 use Rattle.value_links.proofs.TabledUnits.{entry_declared, entry_counted, entry_inside}
 use Rattle.value_links.proofs.Causes.{value_read}
-use Rattle.value_links.proofs.EntryValues.{values_inside}
+use Rattle.entry_arena.proofs.StepLaws.{values_inside}
 use Rattle.value_links.proofs.PartValues.{checked_column, column_fault}
 use Rattle.value_links.proofs.check.check_entry.Goals as goal
 
