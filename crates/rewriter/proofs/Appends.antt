@@ -17,7 +17,7 @@ use Rattle.value_links.specs.declared.units.NamedTable.{NamedTable}
 use Rattle.value_links.specs.World.{table_at}
 use Rattle.rewriter.specs.declared.uses.Uses.{Uses}
 use Rattle.rewriter.specs.declared.tables.NewTable.{NewTable}
-use Rattle.rewriter.specs.Tables.{TableAnew, AreColumnsChosen, TablesFollow, table_anew, new_table_at}
+use Rattle.rewriter.specs.Tables.{TableAnew, AreColumnsChosen, TablesStand, anew_at, table_anew, new_table_at}
 use Rattle.rewriter.specs.Counting.{counts_in}
 use Rattle.rewriter.specs.Appended.{StandsAnew, IsAppended, AreAppended}
 use Rattle.rewriter.proofs.Renumbers.{AreNumbersOf, seat, count_used}
@@ -63,7 +63,7 @@ stands_on section more old uses new s = record {
 }
 
 -- a table behind those that follow one another up to the end
-pub follow_more : (section more : List ℕ) (tables : List NewTable) (new : NewTable) (at : ℕ) (listing : Listing) → TablesFollow section tables at → new.at ≡ length section → IsTableAt (section ++ more) new.at listing → listing.end ≡ length (section ++ more) → TablesFollow (section ++ more) (tables ++ new ∷ []) at
+pub follow_more : (section more : List ℕ) (tables : List NewTable) (new : NewTable) (at : ℕ) (listing : Listing) → TablesStand section (map table_anew tables) at → new.at ≡ length section → IsTableAt (section ++ more) new.at listing → listing.end ≡ length (section ++ more) → TablesStand (section ++ more) (map table_anew (tables ++ new ∷ [])) at
 follow_more section more [] new at listing tiled place stands end =
     let e : new.at ≡ at = place ∙ sym tiled in
     (e, (listing, subst (λ (p : ℕ). IsTableAt (section ++ more) p listing) e stands, end))
@@ -71,7 +71,7 @@ follow_more section more (t ∷ tables) new at listing (here, (first, first_stan
     (here, (first, table_stays section more at first first_stands, follow_more section more tables new first.end listing rest place stands end))
 
 abbrev no_table : TableAnew
-no_table = record { at = 0; columns = []; numbers = [] }
+no_table = anew_at [] 0
 
 anew_before : (tables : List NewTable) (new : NewTable) (i : ℕ) → i < length tables → new_table_at (tables ++ new ∷ []) i ≡ new_table_at tables i
 anew_before tables new i inside =
@@ -85,7 +85,7 @@ anew_last tables new i last =
     ∙ get_or-append_seam (map table_anew tables) (table_anew new) [] no_table
 
 -- one table more
-pub appended_more : (units : List HeadAndForest) (tables : List NamedTable) (all : List Uses) (n : ℕ) (section whole : List ℕ) (done : List NewTable) (new : NewTable) → AreAppended units tables all n section done → IsAppended (table_at tables n).table (counts_in all n) section whole (table_anew new) → AreColumnsChosen units (table_at tables n) (counts_in all n) new.columns.items → AreAppended units tables all (n + 1) whole (done ++ new ∷ [])
+pub appended_more : (units : List HeadAndForest) (tables : List NamedTable) (all : List Uses) (n : ℕ) (section whole : List ℕ) (done : List NewTable) (new : NewTable) → AreAppended units tables all n section done → IsAppended (table_at tables n).table (counts_in all n) section whole (table_anew new) → AreColumnsChosen units (table_at tables n) new.columns.items → AreAppended units tables all (n + 1) whole (done ++ new ∷ [])
 appended_more units tables all n section whole done new now more chosen = subst (λ (bytes : List ℕ). AreAppended units tables all (n + 1) bytes (done ++ new ∷ [])) (sym more.grown) (record {
   count = omega (arith, length_push done new, now.count);
   tiled = follow_more section more.more done new 0 more.stands.listing now.tiled more.at (subst (λ (bytes : List ℕ). IsTableAt bytes new.at more.stands.listing) more.grown more.stands.stands) (more.end ∙ ap length more.grown);
@@ -101,11 +101,11 @@ appended_more units tables all n section whole done new now more chosen = subst 
   ];
   chosen = λ i below. elim (cases_lt i n) [
     | inl before ↦
-        subst (λ (t : TableAnew). AreColumnsChosen units (table_at tables i) (counts_in all i) t.columns) (sym (anew_before done new i (omega (arith, before, now.count)))) (now.chosen i before)
+        subst (λ (t : TableAnew). AreColumnsChosen units (table_at tables i) t.columns) (sym (anew_before done new i (omega (arith, before, now.count)))) (now.chosen i before)
     | inr last ↦
         let e : n ≡ i = omega (arith, last, below) in
-        let there : AreColumnsChosen units (table_at tables i) (counts_in all i) new.columns.items = subst (λ (k : ℕ). AreColumnsChosen units (table_at tables k) (counts_in all k) new.columns.items) e chosen in
-        subst (λ (t : TableAnew). AreColumnsChosen units (table_at tables i) (counts_in all i) t.columns) (sym (anew_last done new i (sym e ∙ sym now.count))) there
+        let there : AreColumnsChosen units (table_at tables i) new.columns.items = subst (λ (k : ℕ). AreColumnsChosen units (table_at tables k) new.columns.items) e chosen in
+        subst (λ (t : TableAnew). AreColumnsChosen units (table_at tables i) t.columns) (sym (anew_last done new i (sym e ∙ sym now.count))) there
   ];
 })
 

@@ -54,6 +54,6 @@ module _ (units : List HeadAndForest) (section : List ℕ) (old : NamedTable) (n
       All-from_get_or IsBuilt (declarations_of written.listing) (declared_at [] 0) (λ k below.
       let from = source k below in
       let decl : Decl = decl_at old.table.decls from.number in
-      let columns : IsBuilt (declared_in new.columns decl) = built_still units old written.uses new.columns written.columns from.number from.inside (built_at built from.number from.inside) in
+      let columns : IsBuilt (declared_in new.columns decl) = built_still units old new.columns written.columns from.number from.inside (built_at built from.number from.inside) in
       let numbered : IsBuilt (numbered_as (k + 1) decl (columns_of old.table new.columns from.number)) = columns in
       subst IsBuilt (sym from.same) numbered)

@@ -66,7 +66,7 @@ module _ (numbers_sized : NumbersHaveSizes) (others_sized : ShortestHaveSizes) (
       let unit : UnitRead = unit_at r u in
       let w = table_written read holds written u inside in
       let is = unit_is read holds written u inside in
-      new_columns_roomy world.units (named_by unit) w.uses (new_table u).columns w.columns is.table.is.adjacent (unit_built stand file reach r valid read u inside)
+      new_columns_roomy world.units (named_by unit) (new_table u).columns w.columns is.table.is.adjacent (unit_built stand file reach r valid read u inside)
 
   -- what a value of an entry means is one of the meanings of its column
   meaning_here : (u id j : ℕ) → u < length r.units → id < length (unit_at r u).forest.entries → Contains (column_meanings world.units (unit_at r u).head.table (decl_of u id) j) (meant_in (unit_at r u).forest.section (value_at (unit_at r u).forest.values ((entry_at (unit_at r u).forest.entries id).first + j)))
@@ -84,7 +84,7 @@ module _ (numbers_sized : NumbersHaveSizes) (others_sized : ShortestHaveSizes) (
       let d : Decl = decl_at unit.table.decls decl in
       let w = table_written read holds written u inside in
       let declared : decl < length unit.table.decls = decl_known read holds written u id inside known in
-      let size : length (columns_of unit.table (new_table u).columns decl) ≡ length (old_columns unit decl) = columns_count world.units (named_by unit) w.uses (new_table u).columns w.columns decl in
+      let size : length (columns_of unit.table (new_table u).columns decl) ≡ length (old_columns unit decl) = columns_count world.units (named_by unit) (new_table u).columns w.columns decl in
       let was = column_here unit.table.specs d.first d.count j among in
       let is = column_here (new_table u).columns d.first d.count j (omega (arith, size, among)) in
       let value = value_here unit.forest.values (entry_at unit.forest.entries id).first (entry_at unit.forest.entries id).count j here in
@@ -92,7 +92,7 @@ module _ (numbers_sized : NumbersHaveSizes) (others_sized : ShortestHaveSizes) (
       let means : meant_in unit.forest.section (value_at unit.forest.values ((entry_at unit.forest.entries id).first + j)) ≡ m = ap (meant_in unit.forest.section) (sym value.0) in
       let one : Contains (column_meanings world.units unit.head.table decl j) m = subst (λ (z : Meaning). Contains (column_meanings world.units unit.head.table decl j) z) means (meaning_here u id j inside known) in
       let old : IsSpelledBy (spec_at unit.table.specs (d.first + j)) m = subst (λ (z : Spec). IsSpelledBy z m) was.0 spelled in
-      subst (λ (z : Spec). IsSpelledBy z m) (sym is.0) (column_spelled world.units (named_by unit) w.uses (new_table u).columns w.columns decl j m declared was.1 one old)
+      subst (λ (z : Spec). IsSpelledBy z m) (sym is.0) (column_spelled world.units (named_by unit) (new_table u).columns w.columns decl j m declared was.1 one old)
 
   -- something can be written for an entry
   entry_sized : (u : ℕ) → u < length r.units → (id : ℕ) → id < length (unit_at r u).forest.entries → (size : ℕ) × EntrySize (unit_at r u).table (new_table u).columns (new_table u).numbers (unit_at r u).forest id size
@@ -107,7 +107,7 @@ module _ (numbers_sized : NumbersHaveSizes) (others_sized : ShortestHaveSizes) (
       let s = entry_stands (debug_info file) unit.head (declarations unit) unit.forest is.section is.entries id known in
       let end : ℕ = (entry_at unit.forest.entries id).at + (entry_at unit.forest.entries id).len in
       let valued : ValuesBetween unit.forest.section (old_columns unit decl) (values_in unit.forest id) s.values_at end = subst (λ (z : Declared). ValuesBetween unit.forest.section z.columns (values_in unit.forest id) s.values_at end) (declared_is unit.table decl declared) s.valued in
-      let size : length new ≡ length (old_columns unit decl) = columns_count world.units (named_by unit) w.uses (new_table u).columns w.columns decl in
+      let size : length new ≡ length (old_columns unit decl) = columns_count world.units (named_by unit) (new_table u).columns w.columns decl in
       let roomy : All IsRoomy new = All-take IsRoomy d.count (drop d.first (new_table u).columns) (All-drop IsRoomy d.first (new_table u).columns (columns_roomy u inside)) in
       let sized = values_sized numbers_sized others_sized unit.forest.section (old_columns unit decl) new (values_in unit.forest id) s.values_at end size roomy valued (λ j among here. value_spelled u id j inside known among here) in
       (least_unsigned_len (slice_index (new_table u).numbers decl) + sized.0, (sized.0, sized.1, refl))

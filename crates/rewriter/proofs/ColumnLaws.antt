@@ -1,8 +1,8 @@
 -- Columns of a table in their least forms: each has its name, spells its values, and is never DW_FORM_ref1 or DW_FORM_ref2.
 use Rattle.std.proofs.Common.{◌≡◌, ◌≢◌, ◌<◌, ◌+◌, ◌∙◌, ℕ, List, [], length, take, drop, get_or, true, false, sym, ap, subst, refl, arith, inl, inr}
-use Rattle.std.specs.Prelude.{◌⊎◌, slice_index}
+use Rattle.std.specs.Prelude.{◌⊎◌}
 use Rattle.std.specs.List.{All, Contains}
-use Rattle.std.proofs.lemmas.Bool.{cases_Bool, cases_eq}
+use Rattle.std.proofs.lemmas.Bool.{cases_Bool}
 use Rattle.std.proofs.lemmas.List.{get_or-map, length-map}
 use Rattle.std.proofs.lemmas.List.Elements.{All-contains, All-get_or, All-from_get_or}
 use Rattle.form_codec.specs.declared.form.Form.{Form}
@@ -83,7 +83,7 @@ spelled_still old meanings new m (inr least) among spelled = spelled_among new.f
 
 -- TABLES
 
-module _ (units : List HeadAndForest) (old : NamedTable) (uses : List ℕ) (columns : List Spec) (chosen : AreColumnsChosen units old uses columns) where
+module _ (units : List HeadAndForest) (old : NamedTable) (columns : List Spec) (chosen : AreColumnsChosen units old columns) where
   -- where the columns of a declaration begin, and how many there are
   abbrev first_of : ℕ → ℕ
   first_of number = (decl_at old.table.decls number).first
@@ -92,19 +92,11 @@ module _ (units : List HeadAndForest) (old : NamedTable) (uses : List ℕ) (colu
   count_of number = (decl_at old.table.decls number).count
 
   column_is : (number j : ℕ) → number < length old.table.decls → j < count_of number → IsKeptOrLeast (spec_at old.table.specs (first_of number + j)) (column_meanings units old.place number j) (spec_at columns (first_of number + j))
-  column_is number j inside below =
-      elim (cases_eq (slice_index uses number) 0) [
-        | inl none ↦ inl (chosen.unused number j inside none below)
-        | inr some ↦ chosen_is (spec_at old.table.specs (first_of number + j)) (column_meanings units old.place number j) (spec_at columns (first_of number + j)) (chosen.each number j inside some below)
-      ]
+  column_is number j inside below = chosen_is (spec_at old.table.specs (first_of number + j)) (column_meanings units old.place number j) (spec_at columns (first_of number + j)) (chosen.each number j inside below)
 
   -- each column has its name
   column_named : (number j : ℕ) → number < length old.table.decls → j < count_of number → (spec_at columns (first_of number + j)).name ≡ (spec_at old.table.specs (first_of number + j)).name
-  column_named number j inside below =
-      elim (cases_eq (slice_index uses number) 0) [
-        | inl none ↦ ap (λ (c : Spec). c.name) (chosen.unused number j inside none below)
-        | inr some ↦ (chosen.each number j inside some below).name
-      ]
+  column_named number j inside below = (chosen.each number j inside below).name
 
   -- what the old column spells of its values, the new one spells too
   pub column_spelled : (number j : ℕ) (m : Meaning) → number < length old.table.decls → j < count_of number → Contains (column_meanings units old.place number j) m → IsSpelledBy (spec_at old.table.specs (first_of number + j)) m → IsSpelledBy (spec_at columns (first_of number + j)) m

@@ -82,7 +82,7 @@ abbrev pub entry_count : HeadAndForest → ℕ
 entry_count unit = length unit.forest.entries
 
 -- Those units that have the table with a number name its place, and no others do. Their entries are by its declarations, all in one
--- section, and there are no more of them than a file may have.
+-- section, and there are no more of them than a file may have. Each of the declarations is that of an entry.
 pub record AreOfTable (units : List HeadAndForest) (table : NamedTable) (section : List ℕ) (table_of : List ℕ) (i : ℕ) : Type 0 where
   pub stands : IsTable table.table
   pub named : (u : ℕ) → u < length units → slice_index table_of u ≡ i → (unit_in units u).head.table ≡ table.place
@@ -90,6 +90,7 @@ pub record AreOfTable (units : List HeadAndForest) (table : NamedTable) (section
   pub lent : (u : ℕ) → u < length units → slice_index table_of u ≡ i → (unit_in units u).forest.section ≡ section
   pub held : (u : ℕ) → u < length units → slice_index table_of u ≡ i → IsUnitHeld section (unit_in units u).head (declarations_of table.table) (unit_in units u).forest
   pub few : sum_by entry_count units ≤ entry_limit
+  pub used : (number : ℕ) → number < length table.table.decls → 1 ≤ uses_of units table.place number
 
 -- what the values of a unit in a column mean, if it names the table
 abbrev pub term_of : ℕ → ℕ → ℕ → HeadAndForest → List Meaning

@@ -50,7 +50,7 @@ module _ {file : List ℕ} {world : World} {tables : List NewTable} {places : Li
       let declared : (entry_of (unit_at r u) id).decl < length (unit_at r u).table.decls = decl_known all.read all.holds all.tables_written u id inside known in
       ap (λ (z : Declared). z.columns) (declared_is (unit_at r u).table (entry_of (unit_at r u) id).decl declared)
 
-  -- since an entry has it, each of its columns is in the least form
+  -- each of its columns is in the least form
   chosen_column : (u id j : ℕ) → u < length r.units → id < length (unit_at r u).forest.entries → j < (decl_of u id).count → IsChosen (spec_at (unit_at r u).table.specs ((decl_of u id).first + j)) (column_meanings (map head_and_forest r.units) (unit_at r u).head.table (entry_of (unit_at r u) id).decl j) (spec_at (new_table u).columns ((decl_of u id).first + j))
   chosen_column u id j inside known below =
       let decl : ℕ = (entry_of (unit_at r u) id).decl in
@@ -58,10 +58,7 @@ module _ {file : List ℕ} {world : World} {tables : List NewTable} {places : Li
       let new : Spec = spec_at (new_table u).columns ((decl_of u id).first + j) in
       let w = table_written all.read all.holds all.tables_written u inside in
       let declared : decl < length (unit_at r u).table.decls = decl_known all.read all.holds all.tables_written u id inside known in
-      let counted : decl < length w.uses = subst (λ (z : ℕ). decl < z) (sym w.used.count) declared in
-      let positive : 1 ≤ slice_index (new_table u).numbers decl = decl_used all.read all.holds all.tables_written u id inside known in
-      let used : slice_index w.uses decl ≢ 0 = λ none. let off : slice_index (new_table u).numbers decl ≡ 0 = w.least.member.unused decl counted none in omega arith in
-      subst (λ (z : List HeadAndForest). IsChosen old (column_meanings z (unit_at r u).head.table decl j) new) all.holds.units (w.columns.each decl j declared used below)
+      subst (λ (z : List HeadAndForest). IsChosen old (column_meanings z (unit_at r u).head.table decl j) new) all.holds.units (w.columns.each decl j declared below)
 
   -- so the new declaration of each entry has its columns in their least forms
   pub least_columns : (u id : ℕ) → u < length r.units → id < length (unit_at r u).forest.entries → HasLeastColumns r s u id
@@ -73,7 +70,7 @@ module _ {file : List ℕ} {world : World} {tables : List NewTable} {places : Li
       let w = table_written all.read all.holds all.tables_written u inside in
       let old = old_columns u id inside known in
       let new = new_columns u id inside known in
-      let size : length (declared_in columns d).columns ≡ length (declared_in specs d).columns = columns_count world.units (named_by (unit_at r u)) w.uses columns w.columns decl in
+      let size : length (declared_in columns d).columns ≡ length (declared_in specs d).columns = columns_count world.units (named_by (unit_at r u)) columns w.columns decl in
       record {
         count = ap (λ (z : List Spec). length z) new ∙ size ∙ sym (ap (λ (z : List Spec). length z) old);
         each = λ j below.

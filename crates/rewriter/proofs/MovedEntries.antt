@@ -69,7 +69,7 @@ module _ {file : List ℕ} {world : World} {tables : List NewTable} {places : Li
       let here : declaration_of (unit_at s u) id ≡ declared_at ds (number - 1) = ap (λ (z : ℕ). declared_at ds z) (entry_moved u id inside known).decl in
       let old : declaration_of unit id ≡ declared_in unit.table.specs (decl_at unit.table.decls decl) = declared_is unit.table decl declared in
       let w = table_written all.read all.holds all.tables_written u inside in
-      let named : AreNamedAlike (columns_of unit.table unit.table.specs decl) (columns_of unit.table (new_table u).columns decl) = columns_named world.units (named_by unit) w.uses (new_table u).columns w.columns decl declared in
+      let named : AreNamedAlike (columns_of unit.table unit.table.specs decl) (columns_of unit.table (new_table u).columns decl) = columns_named world.units (named_by unit) (new_table u).columns w.columns decl declared in
       let by_old = subst (λ (z : Declared). AreNamedAlike z.columns (columns_of unit.table (new_table u).columns decl)) (sym old) named in
       record {
         code = ap (λ (z : Declared). z.code) (here ∙ is);

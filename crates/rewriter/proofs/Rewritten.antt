@@ -20,17 +20,17 @@ use Rattle.value_links.specs.Laws.{AreBuilt, HasNoUnread, IsImageInOrder, AreUni
 use Rattle.value_links.specs.Same.{Same}
 use Rattle.value_links.specs.World.{World, head_and_forest, table_at, named_by, Holds, IsWorldOf}
 use Rattle.rewriter.specs.declared.sections.NewSections.{NewSections}
-use Rattle.rewriter.specs.Tables.{TableAnew, AreUses, table_anew, new_table_at, IsTableWritten}
+use Rattle.rewriter.specs.Tables.{TableAnew, AreUses, TablesStand, table_anew, new_table_at, IsTableWritten}
 use Rattle.rewriter.specs.Sections.{HasSections}
 use Rattle.rewriter.specs.Anew.{AreAnew, HasLeastCodes, HaveLeastCodes, HaveLeastColumns}
 use Rattle.rewriter.specs.Follows.{AreReadAnew}
-use Rattle.rewriter.specs.Tidy.{TablesStand, IsTidy}
+use Rattle.rewriter.specs.Tidy.{IsTidy}
 use Rattle.rewriter.specs.Rewritten.{IsRewritten}
 use Rattle.rewriter.proofs.UsedDeclarations.{table_written}
 use Rattle.rewriter.proofs.MovedEntries.{same_declared}
 use Rattle.rewriter.proofs.Following.{links_follow}
 use Rattle.rewriter.proofs.NoneUnread.{none_is_unread}
-use Rattle.rewriter.proofs.TidyUnits.{tables_stand, tidy_unit}
+use Rattle.rewriter.proofs.TidyUnits.{tidy_unit}
 use Rattle.rewriter.proofs.LeastColumns.{least_columns}
 use Rattle.rewriter.proofs.ValidImages.{image_in_order}
 
@@ -141,7 +141,7 @@ module _ (file written : List ℕ) (world : World) (r s : Reading) (new : NewSec
         named = holds.tables;
         anew = tables;
         count = length-map anew.tables table_anew ∙ new_tables.count;
-        tiled = subst (λ (z : List ℕ). TablesStand z tables 0) (sym has.abbrevs) (tables_stand new.abbrevs.items anew.tables 0 new_tables.tiled);
+        tiled = subst (λ (z : List ℕ). TablesStand z tables 0) (sym has.abbrevs) new_tables.tiled;
         each = λ i inside.
             let written_here : IsTableWritten (map head_and_forest r.units) new.abbrevs.items (table_at world.tables i) (new_table_at anew.tables i) = subst (λ (z : List HeadAndForest). IsTableWritten z new.abbrevs.items (table_at world.tables i) (new_table_at anew.tables i)) holds.units (new_tables.each i inside) in
             subst (λ (z : List ℕ). IsTableWritten (map head_and_forest r.units) z (table_at world.tables i) (new_table_at anew.tables i)) (sym has.abbrevs) written_here;

@@ -189,12 +189,12 @@ module _ (world : World) (reach : Reach) (is : IsWorldOf world.image reach world
       omega (arith, same, most)
 
   -- a section with one table more has at most the bytes of that table more
-  pub table_more : (i : ℕ) → i < length world.tables → (before section : List ℕ) (new : TableAnew) → IsAppended (table_at world.tables i).table (counts_in all i) before section new → AreColumnsChosen world.units (table_at world.tables i) (counts_in all i) new.columns → length before ≤ total (tables_most world.tables all) i → length section ≤ total (tables_most world.tables all) (i + 1)
+  pub table_more : (i : ℕ) → i < length world.tables → (before section : List ℕ) (new : TableAnew) → IsAppended (table_at world.tables i).table (counts_in all i) before section new → AreColumnsChosen world.units (table_at world.tables i) new.columns → length before ≤ total (tables_most world.tables all) i → length section ≤ total (tables_most world.tables all) (i + 1)
   table_more i below before section new appended chosen few =
       let old : NamedTable = table_at world.tables i in
       let uses = counted.each i below in
       let stands = table_known world reach is i below in
-      let fine = columns_writable world.units old stands (counts_in all i) uses new.columns chosen in
+      let fine = columns_writable world.units old (debug_info world.image) world.table_of i (of_table world reach is i below) new.columns chosen in
       let grown = few_more old.table stands (counts_in all i) uses.count before section new fine appended in
       let next : suc i ≡ i + 1 = omega arith in
       subst (λ (n : ℕ). length section ≤ total (tables_most world.tables all) n) next (omega (arith, grown, few))

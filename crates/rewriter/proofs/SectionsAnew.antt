@@ -30,7 +30,7 @@ use Rattle.value_links.specs.World.{World, head_and_forest, Holds, IsWorldOf}
 use Rattle.value_links.proofs.SectionLaws.{sections_are_found}
 use Rattle.rewriter.specs.declared.tables.NewTable.{NewTable}
 use Rattle.rewriter.specs.declared.sections.NewSections.{NewSections}
-use Rattle.rewriter.specs.Tables.{TablesFollow, AreTablesWritten}
+use Rattle.rewriter.specs.Tables.{TablesStand, table_anew, AreTablesWritten}
 use Rattle.rewriter.specs.Placed.{PlacesAnew, places_anew, places_at, PlacesFollow, ArePlacesOf, AreWritable}
 use Rattle.rewriter.specs.Units.{AreUnitsWritten}
 use Rattle.rewriter.specs.Sections.{IsFor, AreFor}
@@ -73,7 +73,7 @@ units_empty : (section : List ℕ) (heads : List UnitHead) → length heads ≡ 
 units_empty section [] none tile = empty_list section (sym tile)
 units_empty section (head ∷ heads) none tile = absurd (omega (arith, none))
 
-tables_empty : (section : List ℕ) (tables : List NewTable) → length tables ≡ 0 → TablesFollow section tables 0 → section ≡ []
+tables_empty : (section : List ℕ) (tables : List NewTable) → length tables ≡ 0 → TablesStand section (map table_anew tables) 0 → section ≡ []
 tables_empty section [] none tile = empty_list section (sym tile)
 tables_empty section (table ∷ tables) none tile = absurd (omega (arith, none))
 

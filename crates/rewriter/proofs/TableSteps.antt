@@ -14,7 +14,7 @@ use Rattle.value_links.specs.Sections.{debug_info}
 use Rattle.value_links.specs.World.{World, table_at, IsWorldOf}
 use Rattle.rewriter.specs.declared.tables.NewTable.{NewTable}
 use Rattle.rewriter.specs.declared.uses.Uses.{Uses}
-use Rattle.rewriter.specs.Tables.{AreUses, AreColumnsChosen}
+use Rattle.rewriter.specs.Tables.{AreColumnsChosen}
 use Rattle.rewriter.specs.Counting.{AreCounted, counts_in}
 use Rattle.rewriter.specs.Columns.{units_with, values_of_units, AreUnitsOf}
 use Rattle.rewriter.proofs.ColumnMeanings.{AreOfTable}
@@ -48,29 +48,26 @@ module _ (world : World) (reach : Reach) (is : IsWorldOf world.image reach world
     pub units_stand : (section : List ℕ) × AreUnitsOf units old.table named section
     units_stand = (debug_info world.image, units_there)
 
-    module _ (columns : List Spec) (best : (section : List ℕ) → AreUnitsOf units old.table named section → AreBestFor section (values_of_units units old.table.decls named) old.table.specs columns) (uses : List ℕ) (used : AreUses world.units (table_at world.tables number) uses) where
+    module _ (columns : List Spec) (best : (section : List ℕ) → AreUnitsOf units old.table named section → AreBestFor section (values_of_units units old.table.decls named) old.table.specs columns) where
       best_there : AreBestFor (debug_info world.image) (values_of_units world.units old.table.decls (units_with world.table_of number (length world.units))) old.table.specs columns
       best_there =
           let listed = subst (λ (ns : List ℕ). AreBestFor (debug_info world.image) (values_of_units units old.table.decls ns) old.table.specs columns) named_are (best (debug_info world.image) units_there) in
           subst (λ (us : List HeadAndForest). AreBestFor (debug_info world.image) (values_of_units us old.table.decls (units_with world.table_of number (length world.units))) old.table.specs columns) units_are listed
 
-      used_there : AreUses world.units old uses
-      used_there = subst (λ (t : NamedTable). AreUses world.units t uses) table_there used
-
       -- the columns that are best for the values are those in their least forms
-      pub chosen_there : AreColumnsChosen world.units (table_at world.tables number) uses columns
-      chosen_there = subst (λ (t : NamedTable). AreColumnsChosen world.units t uses columns) (sym table_there) (columns_chosen world.units old (debug_info world.image) world.table_of number of_old uses used_there columns best_there)
+      pub chosen_there : AreColumnsChosen world.units (table_at world.tables number) columns
+      chosen_there = subst (λ (t : NamedTable). AreColumnsChosen world.units t columns) (sym table_there) (columns_chosen world.units old (debug_info world.image) world.table_of number of_old columns best_there)
 
       pub writable_there : All IsWritableColumn columns
-      writable_there = columns_writable world.units (table_at world.tables number) (table_known world reach is number known) uses used columns chosen_there
+      writable_there = columns_writable world.units (table_at world.tables number) (debug_info world.image) world.table_of number (of_table world reach is number known) columns chosen_there
 
       pub renewed_there : length columns ≡ length old.table.specs
       renewed_there = best_there.count
 
 -- the columns of a table that is written are those that were chosen
-pub chosen_still : (units : List HeadAndForest) (old : NamedTable) (uses : List ℕ) (columns : List Spec) (r : Result NewTable NoMemory) → AreColumnsChosen units old uses columns → IfOk r (λ new. new.columns.items ≡ columns) → IfOk r (λ new. AreColumnsChosen units old uses new.columns.items)
-chosen_still units old uses columns (Ok new) chosen same = subst (λ (cs : List Spec). AreColumnsChosen units old uses cs) (sym same) chosen
-chosen_still units old uses columns (Err e) chosen same = tt
+pub chosen_still : (units : List HeadAndForest) (old : NamedTable) (columns : List Spec) (r : Result NewTable NoMemory) → AreColumnsChosen units old columns → IfOk r (λ new. new.columns.items ≡ columns) → IfOk r (λ new. AreColumnsChosen units old new.columns.items)
+chosen_still units old columns (Ok new) chosen same = subst (λ (cs : List Spec). AreColumnsChosen units old cs) (sym same) chosen
+chosen_still units old columns (Err e) chosen same = tt
 
 -- THE USES OF A TABLE
 

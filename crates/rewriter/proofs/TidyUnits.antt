@@ -1,5 +1,5 @@
--- Tables and units that are written anew are tidy.
-use Rattle.std.proofs.Common.{◌≡◌, ◌<◌, ◌∙◌, ℕ, List, [], ◌∷◌, length, map, sym, ap, subst}
+-- Units that are written anew are tidy.
+use Rattle.std.proofs.Common.{◌≡◌, ◌<◌, ◌∙◌, ℕ, List, length, map, sym, ap, subst}
 use Rattle.std.specs.Prelude.{slice_index}
 use Rattle.std.proofs.lemmas.List.{length-map}
 use Rattle.abbrev_tables.specs.Listings.{Listing}
@@ -12,16 +12,11 @@ use Rattle.value_links.specs.declared.units.NamedTable.{NamedTable}
 use Rattle.value_links.specs.Reading.{UnitRead, Reading, unit_at}
 use Rattle.value_links.specs.World.{World, head_and_forest, table_at, Holds}
 use Rattle.rewriter.specs.declared.tables.NewTable.{NewTable}
-use Rattle.rewriter.specs.Tables.{TableAnew, table_anew, new_table_at, TablesFollow}
+use Rattle.rewriter.specs.Tables.{TableAnew, new_table_at}
 use Rattle.rewriter.specs.Placed.{PlacesAnew, places_at, unit_in, ArePlacesOf}
 use Rattle.rewriter.specs.Units.{IsUnitMoved}
-use Rattle.rewriter.specs.Tidy.{TablesStand, IsTidyUnit}
+use Rattle.rewriter.specs.Tidy.{IsTidyUnit}
 use Rattle.rewriter.proofs.Standing.{held_unit}
-
--- tables that follow one another stand so
-pub tables_stand : (section : List ℕ) (tables : List NewTable) (at : ℕ) → TablesFollow section tables at → TablesStand section (map table_anew tables) at
-tables_stand section [] at ends = ends
-tables_stand section (table ∷ tables) at (here, (listing, stands, rest)) = (here, (listing, stands, tables_stand section tables listing.end rest))
 
 -- a unit that stands at its places stands at those that its new header, entries and codes 0 have
 at_own_places : (unit : HeadAndForest) (old : Listing) (table : TableAnew) (places : PlacesAnew) (start : ℕ) (entries ends : List ℕ) (end : ℕ) → start ≡ places.start → entries ≡ places.entries → ends ≡ places.ends → end ≡ places.end → IsPlacedAt unit old table.columns table.numbers places.start places.entries places.ends places.end → IsPlacedAt unit old table.columns table.numbers start entries ends end

@@ -1,5 +1,5 @@
 -- A table that is written behind others.
-use Rattle.std.specs.Prelude.{◌≡◌, ◌<◌, ℕ, List, ◌++◌, length}
+use Rattle.std.specs.Prelude.{◌≡◌, ◌<◌, ℕ, List, ◌++◌, length, map}
 use Rattle.leb_codec.specs.Numbering.{IsLeastNumbering, RiseByFallingUses, AreFirstNumbers, used_count}
 use Rattle.abbrev_tables.specs.Listings.{Listing, IsTableAt}
 use Rattle.abbrev_tables.specs.Written.{IsWritten}
@@ -10,7 +10,7 @@ use Rattle.value_links.specs.declared.units.NamedTable.{NamedTable}
 use Rattle.value_links.specs.World.{table_at}
 use Rattle.rewriter.specs.declared.uses.Uses.{Uses}
 use Rattle.rewriter.specs.declared.tables.NewTable.{NewTable}
-use Rattle.rewriter.specs.Tables.{TableAnew, AreColumnsChosen, TablesFollow, new_table_at}
+use Rattle.rewriter.specs.Tables.{TableAnew, AreColumnsChosen, TablesStand, table_anew, new_table_at}
 use Rattle.rewriter.specs.Counting.{counts_in}
 
 -- The table stands in the section as these uses of its declarations ask.
@@ -37,6 +37,6 @@ pub record IsAppended (old : Listing) (uses : List ℕ) (before section : List �
 -- The first of the tables stand one after the other, and are all of the section. Each has its columns in their least forms.
 pub record AreAppended (units : List HeadAndForest) (tables : List NamedTable) (all : List Uses) (n : ℕ) (section : List ℕ) (new : List NewTable) : Type 0 where
   pub count : length new ≡ n
-  pub tiled : TablesFollow section new 0
+  pub tiled : TablesStand section (map table_anew new) 0
   pub each : (i : ℕ) → i < n → StandsAnew section (table_at tables i).table (counts_in all i) (new_table_at new i)
-  pub chosen : (i : ℕ) → i < n → AreColumnsChosen units (table_at tables i) (counts_in all i) (new_table_at new i).columns
+  pub chosen : (i : ℕ) → i < n → AreColumnsChosen units (table_at tables i) (new_table_at new i).columns

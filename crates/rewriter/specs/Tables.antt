@@ -1,5 +1,5 @@
 -- The abbreviation tables of a file written anew: one for each place that units name.
-use Rattle.std.specs.Prelude.{◌≡◌, ◌≢◌, ◌<◌, ◌+◌, ℕ, List, [], ◌∷◌, length, slice_index, slice_index_or, nat_eq, if◌then◌else◌, count_by, map, filter, flat_map}
+use Rattle.std.specs.Prelude.{◌≡◌, ◌<◌, ◌+◌, ℕ, List, [], ◌∷◌, length, slice_index, slice_index_or, nat_eq, if◌then◌else◌, count_by, map, filter, flat_map}
 use Rattle.std.specs.List.{sum_by}
 use Rattle.leb_codec.specs.Numbering.{IsLeastNumbering, RiseByFallingUses, AreFirstNumbers, used_count}
 use Rattle.form_codec.specs.declared.value.Value.{Value}
@@ -27,9 +27,13 @@ pub record TableAnew : Type 0 where
 abbrev pub table_anew : NewTable → TableAnew
 table_anew table = record { at = table.at; columns = table.columns.items; numbers = table.numbers.items }
 
--- the one with a number; past the end there is none, and an empty one stands for it
+-- the table with a number; past the end there is none, and an empty one stands for it
+abbrev pub anew_at : List TableAnew → ℕ → TableAnew
+anew_at tables i = slice_index_or tables i (record { at = 0; columns = []; numbers = [] })
+
+-- the same among tables that the code holds
 abbrev pub new_table_at : List NewTable → ℕ → TableAnew
-new_table_at tables i = slice_index_or (map table_anew tables) i (record { at = 0; columns = []; numbers = [] })
+new_table_at tables i = anew_at (map table_anew tables) i
 
 -- how many entries of a unit have the declaration with a number
 abbrev pub entries_with : ℕ → HeadAndForest → ℕ
@@ -55,12 +59,11 @@ abbrev pub column_meanings : List HeadAndForest → ℕ → ℕ → ℕ → List
 column_meanings units place number column =
     flat_map (λ (unit : HeadAndForest). if nat_eq unit.head.table place then map (meant_in unit.forest.section) (values_with number column unit) else []) units
 
--- The columns of a used declaration are the old ones, each but those of references in its least form for the values of all its
--- entries. Those of a declaration that no entry has are never written.
-pub record AreColumnsChosen (units : List HeadAndForest) (old : NamedTable) (uses : List ℕ) (columns : List Spec) : Type 0 where
+-- The columns are the old ones, each but those of references in its least form for the values of all entries that have its
+-- declaration.
+pub record AreColumnsChosen (units : List HeadAndForest) (old : NamedTable) (columns : List Spec) : Type 0 where
   pub count : length columns ≡ length old.table.specs
-  pub each : (number j : ℕ) → number < length old.table.decls → slice_index uses number ≢ 0 → j < (decl_at old.table.decls number).count → IsChosen (spec_at old.table.specs ((decl_at old.table.decls number).first + j)) (column_meanings units old.place number j) (spec_at columns ((decl_at old.table.decls number).first + j))
-  pub unused : (number j : ℕ) → number < length old.table.decls → slice_index uses number ≡ 0 → j < (decl_at old.table.decls number).count → spec_at columns ((decl_at old.table.decls number).first + j) ≡ spec_at old.table.specs ((decl_at old.table.decls number).first + j)
+  pub each : (number j : ℕ) → number < length old.table.decls → j < (decl_at old.table.decls number).count → IsChosen (spec_at old.table.specs ((decl_at old.table.decls number).first + j)) (column_meanings units old.place number j) (spec_at columns ((decl_at old.table.decls number).first + j))
 
 -- The table stands in the new section: its used declarations and no others, by rising code, each column but those of references
 -- in its least form, and each LEB128 number shortest. They are numbered so that the codes are those from 1 on and take the least bytes in the table and
@@ -68,7 +71,7 @@ pub record AreColumnsChosen (units : List HeadAndForest) (old : NamedTable) (use
 pub record IsTableWritten (units : List HeadAndForest) (section : List ℕ) (old : NamedTable) (new : TableAnew) : Type 0 where
   pub uses : List ℕ
   pub used : AreUses units old uses
-  pub columns : AreColumnsChosen units old uses new.columns
+  pub columns : AreColumnsChosen units old new.columns
   pub least : IsLeastNumbering uses new.numbers
   pub order : RiseByFallingUses uses new.numbers
   pub first : AreFirstNumbers uses new.numbers
@@ -79,13 +82,13 @@ pub record IsTableWritten (units : List HeadAndForest) (section : List ℕ) (old
   pub renumbered : IsRenumbered old.table new.columns new.numbers (declarations_of listing)
   pub only : length (declarations_of listing) ≡ used_count uses
 
--- the tables stand one after the other from a place on, up to the section's end
-abbrev pub TablesFollow : List ℕ → List NewTable → ℕ → Type 0
-TablesFollow section [] at = at ≡ length section
-TablesFollow section (table ∷ tables) at = (table.at ≡ at) × ((listing : Listing) × IsTableAt section at listing × TablesFollow section tables listing.end)
+-- tables stand at these places one after the other, from a place on up to the section's end
+abbrev pub TablesStand : List ℕ → List TableAnew → ℕ → Type 0
+TablesStand section [] at = at ≡ length section
+TablesStand section (table ∷ tables) at = (table.at ≡ at) × ((listing : Listing) × IsTableAt section at listing × TablesStand section tables listing.end)
 
 -- the section is the tables that units name, each written once, in the order of their places
 pub record AreTablesWritten (world : World) (section : List ℕ) (tables : List NewTable) : Type 0 where
   pub count : length tables ≡ length world.tables
-  pub tiled : TablesFollow section tables 0
+  pub tiled : TablesStand section (map table_anew tables) 0
   pub each : (i : ℕ) → i < length world.tables → IsTableWritten world.units section (table_at world.tables i) (new_table_at tables i)

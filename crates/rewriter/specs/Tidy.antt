@@ -1,7 +1,6 @@
 -- What .debug_abbrev and .debug_info of a written file hold, and that they hold nothing else.
-use Rattle.std.specs.Prelude.{◌≡◌, ◌<◌, ℕ, List, [], ◌∷◌, length, map, slice_index, slice_index_or}
+use Rattle.std.specs.Prelude.{◌≡◌, ◌<◌, ℕ, List, length, map, slice_index}
 use Rattle.std.specs.List.{AllZip}
-use Rattle.abbrev_tables.specs.Listings.{Listing, IsTableAt}
 use Rattle.entry_arena.specs.declared.entry.Entry.{Entry}
 use Rattle.entry_arena.specs.declared.entry.ChainEnd.{ChainEnd}
 use Rattle.entry_arena.specs.Arena.{entry_at}
@@ -11,16 +10,7 @@ use Rattle.value_links.specs.declared.units.NamedTable.{NamedTable}
 use Rattle.value_links.specs.Sections.{debug_abbrev}
 use Rattle.value_links.specs.Reading.{UnitRead, Reading, unit_at, declarations, IsReading}
 use Rattle.value_links.specs.World.{head_and_forest, table_at, AreTablesOf}
-use Rattle.rewriter.specs.Tables.{TableAnew, IsTableWritten}
-
--- tables stand at these places one after the other, from a place on up to the section's end
-abbrev pub TablesStand : List ℕ → List TableAnew → ℕ → Type 0
-TablesStand section [] at = at ≡ length section
-TablesStand section (table ∷ tables) at = (table.at ≡ at) × ((listing : Listing) × IsTableAt section at listing × TablesStand section tables listing.end)
-
--- the table with a number; past the end there is none, and an empty one stands for it
-abbrev pub anew_at : List TableAnew → ℕ → TableAnew
-anew_at tables i = slice_index_or tables i (record { at = 0; columns = []; numbers = [] })
+use Rattle.rewriter.specs.Tables.{TableAnew, TablesStand, anew_at, IsTableWritten}
 
 -- The new unit is its header and the entries of the old one, each with the declaration that corresponds, in as many bytes as its new code and its values take with
 -- shortest numbers, but for references in DW_FORM_ref_udata, which have five, and each code 0 in one byte. Nothing follows. So

@@ -86,7 +86,7 @@ fn append_numbered(
     requires uses { AreUses world.now.units (table_at world.now.tables number) uses.now.items }
     requires few { length uses.now.items < 2 ^ 32 }
     ensures appended { IfOk result (λ new. IsAppended (table_at world.now.tables number).table uses.now.items bytes.old.items bytes.new.items (table_anew new)) }
-    ensures chosen { IfOk result (λ new. AreColumnsChosen world.now.units (table_at world.now.tables number) uses.now.items new.columns.items) }
+    ensures chosen { IfOk result (λ new. AreColumnsChosen world.now.units (table_at world.now.tables number) new.columns.items) }
 {
     let old = &world.tables()[number].table;
     let columns = choose_columns(alloc, world.units(), named, old)?;

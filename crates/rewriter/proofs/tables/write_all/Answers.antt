@@ -2,7 +2,7 @@ use Rattle.std.proofs.Common.{◌≡◌, ◌≤◌, ◌<◌, ◌+◌, ◌++◌, 
 use Rattle.elf_place.proofs.Totals.{total}
 use Rattle.value_links.specs.World.{table_at}
 use Rattle.rewriter.specs.declared.tables.NewTable.{NewTable}
-use Rattle.rewriter.specs.Tables.{AreColumnsChosen, table_anew}
+use Rattle.rewriter.specs.Tables.{table_anew}
 use Rattle.rewriter.specs.Appended.{IsAppended, AreAppended}
 use Rattle.rewriter.proofs.Appends.{appended_more}
 use Rattle.rewriter.proofs.SectionSizes.{tables_most, tables_fit, table_more}
@@ -24,7 +24,7 @@ loop-i-preserved c =
     let grown : c.push.new.self.items ≡ c.loop-i.written.items ++ new ∷ [] = c.in_ok-push.ensures.items in
     let counts = counts_there world.units world.tables all c.requires.uses i inside c.index-in-loop-i.result.now c.index-in-loop-i.ensures in
     let appended = subst (λ (ns : List ℕ). IsAppended (table_at world.tables i).table ns c.loop-i.bytes.items c.append_numbered.new.bytes.items (table_anew new)) (sym counts) c.in_ok-new.ensures.appended in
-    let chosen = subst (λ (ns : List ℕ). AreColumnsChosen world.units (table_at world.tables i) ns new.columns.items) (sym counts) c.in_ok-new.ensures.chosen in
+    let chosen = c.in_ok-new.ensures.chosen in
     let here = appended_more world.units world.tables all i c.loop-i.bytes.items c.append_numbered.new.bytes.items c.loop-i.written.items new c.loop-i.invariant.appended appended chosen in
     record {
       appended = subst (λ (zs : List NewTable). AreAppended world.units world.tables all (i + 1) c.append_numbered.new.bytes.items zs) (sym grown) here;
