@@ -16,6 +16,7 @@ pub mod Searching
 pub mod LinkedValues
 pub mod TabledUnits
 pub mod Causes
+pub mod RootValues
 pub mod Types
 pub mod EntryValues
 pub mod PartValues
@@ -32,4 +33,5 @@ pub mod HeldLinks
 pub mod SectionBytes
 pub mod Owning
 pub mod NumberedValues
+pub mod ContextLaws
 pub mod LinksOnce

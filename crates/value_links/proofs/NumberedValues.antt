@@ -6,6 +6,7 @@ use Rattle.form_codec.specs.Values.{meant_in}
 use Rattle.abbrev_tables.specs.Listings.{Listing, spec_at}
 use Rattle.entry_arena.specs.Arena.{Arena, entry_at, value_at}
 use Rattle.entry_arena.proofs.StepLaws.{values_front}
+use Rattle.entry_read.specs.Heads.{IsHead}
 use Rattle.entry_read.specs.Units.{HeadAndForest, declarations_of, IsTable}
 use Rattle.entry_read.specs.Places.{HaveOwners, StandsAtColumn}
 use Rattle.entry_read.proofs.PlaceLaws.{entry_stands}
@@ -17,8 +18,10 @@ use Rattle.value_links.specs.Values.{entry_of, declaration_of, values_of, meanin
 use Rattle.value_links.specs.Resolved.{Resolved, Resolves}
 use Rattle.value_links.specs.Owners.{IsOwner, name_with}
 use Rattle.value_links.specs.Links.{resolved_by, held_at, HasLink}
+use Rattle.value_links.specs.Checks.{IsUnitWithTable}
 use Rattle.value_links.specs.World.{World, head_and_forest, own_table, Holds, IsWorldOf}
 use Rattle.value_links.proofs.HeldUnits.{unit_is, unit_owners, held_count, held_is}
+use Rattle.value_links.proofs.TabledUnits.{follow_head, read_with_table}
 use Rattle.value_links.proofs.HeldLinks.{units_held_once}
 use Rattle.value_links.proofs.EntryValues.{stands_at}
 use Rattle.value_links.proofs.Meaningful.{valid_values}
@@ -60,6 +63,13 @@ module _ (world : World) (reach : Reach) (is : IsWorldOf world.image reach world
   own_owners =
       subst (λ (t : Listing). HaveOwners (declarations_of t) (held_at world.units u).forest) (sym table_held)
       (subst (λ (z : HeadAndForest). HaveOwners (declarations (unit_at is.r u)) z.forest) (sym unit_held) owned)
+
+  pub own_with_table : IsUnitWithTable (held_at world.units u) (own_table world u)
+  own_with_table =
+      let head : IsHead (debug_info world.image) (unit_at is.r u).head = follow_head (debug_info world.image) is.r.units 0 (length (debug_info world.image)) u is.read.parts.units.tiled known in
+      let there = read_with_table (debug_info world.image) (debug_abbrev world.image) (unit_at is.r u) head unit_read in
+      subst (λ (z : HeadAndForest). IsUnitWithTable z (own_table world u)) (sym unit_held)
+      (subst (λ (t : Listing). IsUnitWithTable (head_and_forest (unit_at is.r u)) t) (sym table_held) there)
 
   -- an entry that has the value with a number, and the name of the attribute
   module _ (forest : Arena) (f : forest ≡ (held_at world.units u).forest) (table : Listing) (t : table ≡ own_table world u) (id number name : ℕ) (owner : IsOwner forest.entries id number) (n : name ≡ name_with (declarations_of table) (entry_at forest.entries id) number) (value : Value) (v : value ≡ value_at forest.values number) where

@@ -60,7 +60,8 @@ is_base (name, SectionPlace n) wanted = elim (cases_eq name wanted) [
 ]
 is_base (name, meaning) wanted = inr (λ (x : IsBase (name, meaning) wanted). true≢false (sym (ap (λ (z : ℕ × Meaning). is_place z.1) x.1)))
 
-split_first : (a : ℕ × Meaning) (attributes : List (ℕ × Meaning)) (name n : ℕ) (before after : List (ℕ × Meaning)) → a ∷ attributes ≡ before ++ (name, SectionPlace n) ∷ after → ((m : ℕ) → ¬ Contains before (name, SectionPlace m)) → IsBase a name ⊎ IsFirstBase attributes name n
+-- a first one is the head, or the first of the rest
+pub split_first : (a : ℕ × Meaning) (attributes : List (ℕ × Meaning)) (name n : ℕ) (before after : List (ℕ × Meaning)) → a ∷ attributes ≡ before ++ (name, SectionPlace n) ∷ after → ((m : ℕ) → ¬ Contains before (name, SectionPlace m)) → IsBase a name ⊎ IsFirstBase attributes name n
 split_first a attributes name n [] after parts first = inl (n, cc)
 split_first a attributes name n (b ∷ before) after parts first = inr (record { before = before; after = after; parts = cc; first = λ (m : ℕ) (x : Contains before (name, SectionPlace m)). first m (suc x.0, omega (arith, x.1), x.2) })
 

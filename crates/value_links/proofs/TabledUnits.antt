@@ -23,7 +23,7 @@ use Rattle.value_links.specs.Parts.{HoldUnits}
 use Rattle.value_links.specs.Checks.{AreSomeUnits, table_held, IsUnitWithTable}
 use Rattle.value_links.proofs.HeldUnits.{few_units, unit_is, held_count, held_is}
 
-follow_head : (section : List ℕ) (units : List UnitRead) (a e u : ℕ) → Follow section (unit_heads units) a e → u < length units → IsHead section (unit_among units u).head
+pub follow_head : (section : List ℕ) (units : List UnitRead) (a e u : ℕ) → Follow section (unit_heads units) a e → u < length units → IsHead section (unit_among units u).head
 follow_head section [] a e u f inside = absurd (omega arith)
 follow_head section (x ∷ units) a e zero (here, stands, rest) inside = stands
 follow_head section (x ∷ units) a e (suc u) (here, stands, rest) inside = follow_head section units (a + x.head.len) e u rest (omega arith)
@@ -33,7 +33,7 @@ pub table_is : (read : List UnitRead) (held : Units) (u : ℕ) → HoldUnits rea
 table_is read held u holds inside = ap (λ z. z.table) (holds.tables.each u inside)
 
 -- what is read is what is held, by a table
-read_with_table : (info abbrevs : List ℕ) (unit : UnitRead) → IsHead info unit.head → IsUnitRead info abbrevs unit → IsUnitWithTable (head_and_forest unit) unit.table
+pub read_with_table : (info abbrevs : List ℕ) (unit : UnitRead) → IsHead info unit.head → IsUnitRead info abbrevs unit → IsUnitWithTable (head_and_forest unit) unit.table
 read_with_table info abbrevs unit head is = record {
   table = (abbrevs, unit.head.table, is.table);
   head = subst (λ (z : List ℕ). IsHead z unit.head) (sym is.section) head;

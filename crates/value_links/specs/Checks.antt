@@ -1,5 +1,5 @@
 -- What the parts of the check of all values give.
-use Rattle.std.specs.Prelude.{◌≡◌, ◌<◌, ◌+◌, ◌⊎◌, ℕ, List, length, slice_index, Option, Some, None, Bool, true, false}
+use Rattle.std.specs.Prelude.{◌≡◌, ◌≢◌, ◌<◌, ◌+◌, ◌⊎◌, ℕ, List, ◌∷◌, length, drop, slice_index, Option, Some, None, Bool, true, false}
 use Rattle.dw_base.specs.declared.fault.Kind.{Kind}
 use Rattle.dw_base.specs.declared.fault.Kind.TheVariants.{Target as NoTarget, Pointer, NoBase}
 use Rattle.dw_base.specs.declared.fault.Fault.{Fault}
@@ -7,6 +7,7 @@ use Rattle.line_machine.specs.declared.head.Head.{Head}
 use Rattle.form_codec.specs.declared.value.Value.{Value}
 use Rattle.form_codec.specs.declared.value.Value.TheVariants as value
 use Rattle.form_codec.specs.Forms.{Meaning}
+use Rattle.form_codec.specs.Forms.Meaning.{SectionPlace}
 use Rattle.form_codec.specs.Values.{meant_in}
 use Rattle.abbrev_tables.specs.Tables.{Declared}
 use Rattle.abbrev_tables.specs.Listings.{Listing, spec_at}
@@ -45,14 +46,23 @@ pub record IsUnitWithTable (unit : HeadAndForest) (t : Listing) : Type 0 where
 abbrev pub root_attributes : Arena → List Declared → List (ℕ × Meaning)
 root_attributes forest ds = (described_by forest.section ds forest.values (entry_at forest.entries 0)).attributes
 
--- the value is a section offset
-abbrev pub is_offset : Value → Bool
-is_offset (value.Offset n) = true
-is_offset v = false
+-- the attribute with a number is this
+abbrev pub IsAttributeAt : List (ℕ × Meaning) → ℕ → ℕ × Meaning → Type 0
+IsAttributeAt attributes i attribute = drop i attributes ≡ attribute ∷ drop (i + 1) attributes
+
+-- what an attribute gives as a base of a name: a section offset, where it has the name
+abbrev pub IsBaseIn : ℕ × Meaning → ℕ → Option ℕ → Type 0
+IsBaseIn attribute name (Some n) = attribute ≡ (name, SectionPlace n)
+IsBaseIn attribute name None = (n : ℕ) → attribute ≢ (name, SectionPlace n)
 
 -- attributes have a base of a name, or none
 abbrev pub HasBase : List (ℕ × Meaning) → ℕ → Type 0
 HasBase attributes name = (n : ℕ) × IsFirstBase attributes name n
+
+-- the first base of a name, or none
+abbrev pub IsBaseFound : List (ℕ × Meaning) → ℕ → Option ℕ → Type 0
+IsBaseFound attributes name (Some n) = IsFirstBase attributes name n
+IsBaseFound attributes name None = ¬ HasBase attributes name
 
 -- why an index that counts from a base names nothing
 abbrev pub IsBaseCause : List (ℕ × Meaning) → ℕ → Kind → Type 0

@@ -1,5 +1,6 @@
 pub mod Sections
 pub mod Attributes
+pub mod Contexts
 pub mod Reading
 pub mod Values
 pub mod Resolved

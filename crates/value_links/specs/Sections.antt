@@ -54,6 +54,13 @@ aranges_name = codes ".debug_aranges"
 abbrev pub debug_aranges : List ℕ → List ℕ
 debug_aranges file = body_named file aranges_name
 
+-- address tables (DWARF 5 section 7.27)
+abbrev pub addr_name : List ℕ
+addr_name = codes ".debug_addr"
+
+abbrev pub debug_addr : List ℕ → List ℕ
+debug_addr file = body_named file addr_name
+
 -- range lists (DWARF 5 section 7.28) and location lists (section 7.29)
 abbrev pub rnglists_name : List ℕ
 rnglists_name = codes ".debug_rnglists"

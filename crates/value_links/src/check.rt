@@ -3,7 +3,7 @@ ghost use Rattle.std.specs.Prelude.{◌≡◌, ◌≤◌, ◌<◌, ◌+◌, ◌^
 ghost use Rattle.std.specs.List.{list_any};
 ghost use Rattle.dw_base.specs.Refusals.{IsFaultOf};
 ghost use Rattle.form_codec.specs.Values.{meant_in, LiesIn};
-ghost use Rattle.abbrev_tables.specs.Listings.{spec_at};
+ghost use Rattle.abbrev_tables.specs.Listings.{Listing, spec_at};
 ghost use Rattle.entry_arena.specs.Arena.{entry_at};
 ghost use Rattle.entry_arena.specs.Order.{IsInOrder};
 ghost use Rattle.entry_arena.specs.Trees.{declared_at};
@@ -12,7 +12,7 @@ ghost use Rattle.value_links.specs.Attributes.{is_among};
 ghost use Rattle.value_links.specs.Reading.{Reading, unit_at};
 ghost use Rattle.value_links.specs.Faults.{unread_opcodes, IsUnread, FaultAttribute};
 ghost use Rattle.value_links.specs.Links.{held_at};
-ghost use Rattle.value_links.specs.Checks.{AreSomeUnits, table_held, IsUnitWithTable, root_attributes, is_offset, HasBase, IsBaseCause, IsCause, NamesType, IsTyped, IsChecked, AreColumnsLinked, IsUnitLinked, InEach, IsUnitFault};
+ghost use Rattle.value_links.specs.Checks.{AreSomeUnits, table_held, IsUnitWithTable, root_attributes, IsAttributeAt, IsBaseIn, IsBaseFound, HasBase, IsBaseCause, IsCause, NamesType, IsTyped, IsChecked, AreColumnsLinked, IsUnitLinked, InEach, IsUnitFault};
 ghost use Rattle.value_links.specs.Parts.{AreUnitsHeld, AreParts, AreLinked, LinkFault};
 
 use crate::link::{local_target, resolve, unit_of};
@@ -83,14 +83,49 @@ fn is_unread(unit: &Unit<'_>, value: &Value) -> bool
     }
 }
 
-// Whether an attribute gives a base of this name: it has the name, and its value is a section offset.
-fn is_base(named: u64, value: &Value, name: u64) -> bool
-    ensures { IsTrue result ↔ ((named ≡ name) × (is_offset value.now ≡ true)) }
+// How many attributes the root of a unit has.
+pub(crate) fn root_count(unit: &Unit<'_>) -> u32
+    requires { (table : Listing) × IsUnitWithTable unit.now table }
+    ensures { (table : Listing) → IsUnitWithTable unit.now table → result ≡ length (root_attributes unit.now.forest (declarations_of table)) }
+{
+    unit.forest().entry(0).count
+}
+
+// The name and the value of the attribute of the root of a unit that has this number.
+pub(crate) fn root_attribute(unit: &Unit<'_>, table: &Table, column: u32) -> (u64, Value)
+    requires unit { IsUnitWithTable unit.now table.now }
+    requires column { column < length (root_attributes unit.now.forest (declarations_of table.now)) }
+    ensures { IsAttributeAt (root_attributes unit.now.forest (declarations_of table.now)) column (result.0, meant_in unit.now.forest.section result.1) }
+{
+    let forest = unit.forest();
+    let root = forest.entry(0);
+    let name = column_name(table, root.decl, column);
+    let value = forest.values()[root.first as usize + column as usize];
+    (name, value)
+}
+
+// The base of a name that an attribute gives: it has the name, and its value is a section offset.
+fn base_in(named: u64, value: &Value, name: u64) -> Option<u64>
+    ensures { (section : List ℕ) → IsBaseIn (named, meant_in section value.now) name result }
 {
     match *value {
-        Value::Offset(_) => named == name,
-        _ => false,
+        Value::Offset(place) if named == name => Some(place),
+        _ => None,
     }
+}
+
+// The first base of this name that the root of a unit gives.
+pub(crate) fn base_of(unit: &Unit<'_>, table: &Table, name: u64) -> Option<u64>
+    requires { IsUnitWithTable unit.now table.now }
+    ensures { IsBaseFound (root_attributes unit.now.forest (declarations_of table.now)) name result }
+{
+    for column in 0..root_count(unit) {
+        let (named, value) = root_attribute(unit, table, column);
+        if let Some(base) = base_in(named, &value, name) {
+            return Some(base);
+        }
+    }
+    None
 }
 
 // Whether the root of a unit gives a base of this name: the attribute with a section offset.
@@ -98,17 +133,7 @@ fn gives_base(unit: &Unit<'_>, table: &Table, name: u64) -> bool
     requires { IsUnitWithTable unit.now table.now }
     ensures { IsTrue result ↔ HasBase (root_attributes unit.now.forest (declarations_of table.now)) name }
 {
-    let forest = unit.forest();
-    let root = forest.entry(0);
-    let values = forest.values();
-    for column in 0..root.count {
-        let named = column_name(table, root.decl, column);
-        let value = values[root.first as usize + column as usize];
-        if is_base(named, &value, name) {
-            return true;
-        }
-    }
-    false
+    base_of(unit, table, name).is_some()
 }
 
 // Why an index that counts from a base names nothing.

@@ -3,6 +3,9 @@
 #![tactic(auto)]
 
 mod check;
+#[cfg(test)]
+mod context_tests;
+mod contexts;
 mod kept;
 mod laws;
 mod link;

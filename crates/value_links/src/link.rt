@@ -31,7 +31,7 @@ pub enum Link {
 const STMT_LIST: u64 = 0x10;
 
 // DW_AT_addr_base, DW_AT_str_offsets_base and DW_AT_macros, whose section offsets are kept.
-const ADDR_BASE: u64 = 0x73;
+pub(crate) const ADDR_BASE: u64 = 0x73;
 
 const STR_OFFSETS_BASE: u64 = 0x72;
 

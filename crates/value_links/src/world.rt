@@ -8,7 +8,9 @@ ghost use Rattle.entry_read.specs.Places.{HaveOwners};
 ghost use Rattle.entry_read.specs.Units.{declarations_of, IsTable};
 ghost use Rattle.line_write.specs.Readings.{AreRead};
 ghost use Rattle.companions.specs.Aranges.{SetsTile};
-ghost use Rattle.value_links.specs.Sections.{debug_info, debug_abbrev, debug_line, debug_aranges};
+ghost use Rattle.value_links.specs.Sections.{debug_info, debug_abbrev, debug_line, debug_aranges, debug_addr};
+ghost use Rattle.value_links.specs.Contexts.{IsContext};
+ghost use Rattle.value_links.specs.Values.{root_of};
 ghost use Rattle.value_links.specs.Reading.{Reading, unit_at};
 ghost use Rattle.value_links.specs.Resolved.{Resolved, Resolves};
 ghost use Rattle.value_links.specs.Faults.{NamesFault};
@@ -18,7 +20,8 @@ ghost use Rattle.value_links.specs.Passes.{starts_of, ArePartsInOrder, NamesLate
 ghost use Rattle.value_links.specs.World.{World, Holds, table_at, own_table, IsWorldOf};
 
 use crate::check::check_links;
-use crate::link::{Link, resolve};
+use crate::contexts::context_of;
+use crate::link::{Link, resolve, unit_of};
 use crate::owners::{attribute_name, owner_of};
 use crate::sections::{debug_section, list_section};
 use crate::units::{NamedTable, Units, read_units};
@@ -31,6 +34,7 @@ use entry_read::Unit;
 use form_codec::Value;
 use line_machine::Head;
 use line_write::read_lines;
+use list_model::Context;
 use std::alloc::Global;
 use std::marker::Model;
 
@@ -260,5 +264,22 @@ impl<'a> World<'a> {
             // Each value means something.
             None => unreachable!(),
         }
+    }
+
+    /// The context of the lists of the unit with this number, counted from 0 (DWARF 5 sections 2.6.2, 2.17.3 and 7.27). Its table
+    /// is the one of .debug_addr whose addresses begin where the root's first DW_AT_addr_base of form DW_FORM_sec_offset says. Its
+    /// base is the address of the root's first DW_AT_low_pc of form DW_FORM_addr or a form of addrx, which is looked up in this
+    /// table, or 0 where the root has none.
+    ///
+    /// Address tables aren't checked when a file is read. So the table is None where the root has no such DW_AT_addr_base, where
+    /// it names no table, and where the named table or one before it has a fault; and the base is 0 where there is no table for
+    /// the number of an address, or no address with this number in it. The tables of .debug_addr are walked up to the one that is
+    /// named. It takes no memory.
+    pub fn context(&self, unit: u32) -> Context
+        requires { unit < length self.now.units }
+        ensures { (file : List ℕ) (r : Reading) → Holds file self.now r → IsContext (debug_addr file) (root_of (unit_at r unit)).attributes result }
+    {
+        let addr = debug_section(self.image.whole(), &self.image, b".debug_addr".as_slice());
+        context_of(addr.bytes, unit_of(&self.units, unit), self.table(unit))
     }
 }

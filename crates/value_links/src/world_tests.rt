@@ -48,6 +48,19 @@ fn changed(alloc: Global, changes: &[(usize, u8)]) -> Result<Vec<u8>, AllocError
     Ok(file)
 }
 
+// The file with other bytes at some places, and with these behind it.
+pub(crate) fn extended(
+    alloc: Global,
+    changes: &[(usize, u8)],
+    pieces: &[&[u8]],
+) -> Result<Vec<u8>, AllocError> {
+    let mut file = changed(alloc, changes)?;
+    for piece in pieces {
+        file.extend_from_slice(piece)?;
+    }
+    Ok(file)
+}
+
 // The fault of a file, or none.
 fn fault_of(alloc: Global, file: &[u8]) -> Result<Option<Fault>, Fail> {
     match World::read(alloc, file, Reach::Narrow) {
@@ -105,10 +118,7 @@ fn with_units(alloc: Global) -> Result<Vec<u8>, AllocError> {
         (409, 2),
         (416, 51),
     ];
-    let mut file = changed(alloc, &places)?;
-    file.extend_from_slice(&TABLE)?;
-    file.extend_from_slice(&UNITS)?;
-    Ok(file)
+    extended(alloc, &places, &[&TABLE, &UNITS])
 }
 
 // The unit of a value, the number of the value, and what it refers to.

@@ -1,0 +1,101 @@
+// The context in which the lists of a unit are read: what its root gives (DWARF 5 sections 2.17.3, 3.1.1 and 7.27).
+ghost use Rattle.std.specs.Prelude.{◌≡◌, ◌<◌, ◌^◌, ◌∷◌, ℕ, List, [], length, IfSome, MatchOption};
+ghost use Rattle.form_codec.specs.Forms.{Meaning};
+ghost use Rattle.form_codec.specs.Forms.Meaning.{AddressNumber};
+ghost use Rattle.form_codec.specs.Values.{meant_in};
+ghost use Rattle.entry_read.specs.Units.{declarations_of};
+ghost use Rattle.list_model.specs.Addresses.{IsAddrTable};
+ghost use Rattle.value_links.specs.Checks.{IsUnitWithTable, root_attributes};
+ghost use Rattle.value_links.specs.Contexts.{is_low_pc, low_pcs, address_by, IsTableOf, IsContext};
+
+use crate::check::{base_of, root_attribute, root_count};
+use crate::link::ADDR_BASE;
+use abbrev_tables::Table;
+use entry_read::Unit;
+use form_codec::Value;
+use list_model::{AddrTable, Context, addr_table, address, addresses_have_one_table};
+
+// DW_AT_low_pc.
+const LOW_PC: u64 = 0x11;
+
+// Whether an attribute is a DW_AT_low_pc whose value is an address, or the number of one.
+fn gives_address(named: u64, value: &Value) -> bool
+    ensures { (section : List ℕ) → result ≡ is_low_pc (named, meant_in section value.now) }
+{
+    match *value {
+        Value::Addr(_) | Value::AddrIndex(_) => named == LOW_PC,
+        _ => false,
+    }
+}
+
+// The value of the first such attribute of the root of a unit.
+fn first_low_pc(unit: &Unit<'_>, table: &Table) -> Option<Value>
+    requires { IsUnitWithTable unit.now table.now }
+    ensures { MatchOption result (low_pcs (root_attributes unit.now.forest (declarations_of table.now)) ≡ []) (λ value. (rest : List Meaning) × (low_pcs (root_attributes unit.now.forest (declarations_of table.now)) ≡ meant_in unit.now.forest.section value ∷ rest)) }
+{
+    for column in 0..root_count(unit) {
+        let (named, value) = root_attribute(unit, table, column);
+        if gives_address(named, &value) {
+            return Some(value);
+        }
+    }
+    None
+}
+
+// The address with a number in a table, or 0 where there is none.
+fn address_or_zero(addr: &[u8], addresses: &Option<AddrTable>, index: u64) -> u64
+    requires { IfSome addresses.now (IsAddrTable addr.now) }
+    ensures { result ≡ address_by addr.now addresses.now (AddressNumber index) }
+{
+    let Some(table) = *addresses else {
+        return 0;
+    };
+    match address(addr, &table, index) {
+        Some(address) => address,
+        None => 0,
+    }
+}
+
+// The address that a value gives: the address itself, or the one with a number.
+fn address_for(addr: &[u8], addresses: &Option<AddrTable>, value: &Value) -> u64
+    requires { IfSome addresses.now (IsAddrTable addr.now) }
+    ensures { (section : List ℕ) → result ≡ address_by addr.now addresses.now (meant_in section value.now) }
+{
+    match *value {
+        Value::Addr(address) => address,
+        Value::AddrIndex(index) => address_or_zero(addr, addresses, index),
+        _ => 0,
+    }
+}
+
+// The address table that the root of a unit names.
+fn addresses_of(addr: &[u8], unit: &Unit<'_>, table: &Table) -> Option<AddrTable>
+    requires unit { IsUnitWithTable unit.now table.now }
+    requires room { length addr.now < 2 ^ 64 }
+    ensures { IsTableOf addr.now (root_attributes unit.now.forest (declarations_of table.now)) result }
+{
+    // A law, which costs nothing: no table up to one that has a base has a fault.
+    addresses_have_one_table();
+    let base = base_of(unit, table, ADDR_BASE)?;
+    match addr_table(addr, base, 0) {
+        Ok(found) => found,
+        Err(_) => None,
+    }
+}
+
+/// The context of the lists of a unit that was read by a table. `addr` is the body of .debug_addr.
+pub(crate) fn context_of(addr: &[u8], unit: &Unit<'_>, table: &Table) -> Context
+    requires unit { IsUnitWithTable unit.now table.now }
+    requires room { length addr.now < 2 ^ 64 }
+    ensures { IsContext addr.now (root_attributes unit.now.forest (declarations_of table.now)) result }
+{
+    let addresses = addresses_of(addr, unit, table);
+    let base = match first_low_pc(unit, table) {
+        Some(value) => address_for(addr, &addresses, &value),
+        None => 0,
+    };
+    Context {
+        base,
+        table: addresses,
+    }
+}
