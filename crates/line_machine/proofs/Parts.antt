@@ -4,7 +4,8 @@ use Rattle.std.proofs.lemmas.List.{take-append-drop, take-take, drop-take, lengt
 use Rattle.std.proofs.Math.Seq.{drop-cons}
 use Rattle.std.specs.Prelude.{slice_index}
 use Rattle.byteorder.specs.Numbers.{little_from-take}
-use Rattle.line_machine.specs.Numbers.{number_at, AreBytes}
+use Rattle.spelled.specs.Spelled.{AreBytes}
+use Rattle.fixed_width.specs.Numbers.{number, number_at}
 
 -- a front in two parts
 pub take_sum : (m n : ℕ) (l : List ℕ) → take (m + n) l ≡ take m l ++ take n (drop m l)
@@ -34,5 +35,5 @@ part_bytes at n l inside bytes = λ k lt.
 
 -- a number is that of the part in which it stands
 pub number_part : (n at : ℕ) (l : List ℕ) → number_at n at l ≡ number_at n 0 (take n (drop at l))
-unfolding number_at
+unfolding number
 number_part n at l = sym (little_from-take 0 n n (drop at l) (omega arith))

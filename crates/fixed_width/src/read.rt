@@ -1,10 +1,11 @@
-// Numbers of fixed width, the lowest byte first.
+// Numbers read where they stand.
 ghost use Rattle.std.specs.Prelude.{◌≡◌, ◌+◌, ◌≤◌, length};
-ghost use Rattle.line_machine.specs.Numbers.{number_at};
+ghost use Rattle.fixed_width.specs.Numbers.{number_at};
 
 use byteorder::{ByteOrder, LittleEndian};
 
-/// The number in the two bytes from a place on.
+/// The number in the two bytes from a place on, which counts from 0. They are to stand in `bytes`.
+#[inline]
 pub fn u16_at(bytes: &[u8], at: usize) -> u16
     requires { at + 2 ≤ length bytes.now }
     ensures { result ≡ number_at 2 at bytes.now }
@@ -12,7 +13,8 @@ pub fn u16_at(bytes: &[u8], at: usize) -> u16
     LittleEndian::read_u16(&bytes[at..])
 }
 
-/// The number in the four bytes from a place on.
+/// The number in the four bytes from a place on, which counts from 0. They are to stand in `bytes`.
+#[inline]
 pub fn u32_at(bytes: &[u8], at: usize) -> u32
     requires { at + 4 ≤ length bytes.now }
     ensures { result ≡ number_at 4 at bytes.now }
@@ -20,7 +22,8 @@ pub fn u32_at(bytes: &[u8], at: usize) -> u32
     LittleEndian::read_u32(&bytes[at..])
 }
 
-/// The number in the eight bytes from a place on.
+/// The number in the eight bytes from a place on, which counts from 0. They are to stand in `bytes`.
+#[inline]
 pub fn u64_at(bytes: &[u8], at: usize) -> u64
     requires { at + 8 ≤ length bytes.now }
     ensures { result ≡ number_at 8 at bytes.now }

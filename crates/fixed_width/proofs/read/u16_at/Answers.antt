@@ -1,0 +1,7 @@
+use Rattle.std.proofs.lemmas.List.{take_rest}
+use Rattle.fixed_width.specs.Numbers.{number}
+use Rattle.fixed_width.proofs.read.u16_at.Goals as goal
+
+pub returns : goal.returns
+unfolding number
+returns c = rw take_rest at c.read_u16.ensures
