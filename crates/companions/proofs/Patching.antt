@@ -5,8 +5,9 @@ use Rattle.std.specs.List.{All}
 use Rattle.std.proofs.lemmas.List.{drop_more, take_more}
 use Rattle.std.proofs.lemmas.List.Elements.{All-nil, All-cons}
 use Rattle.companions.specs.declared.set.ArangeSet.{ArangeSet}
-use Rattle.companions.specs.Aranges.{number_at, unit_length, version, debug_info_offset, set_end, IsSet, SetsFollow}
-use Rattle.companions.proofs.Numbers.{number_same}
+use Rattle.fixed_width.specs.Numbers.{number_at}
+use Rattle.companions.specs.Aranges.{unit_length, version, debug_info_offset, set_end, IsSet, SetsFollow}
+use Rattle.fixed_width.proofs.Numbers.{number_same}
 use Rattle.companions.proofs.Tiling.{follow_push, set_inside}
 
 -- the bytes from a place up to another are the same

@@ -1,13 +1,9 @@
 -- Sets of address ranges in .debug_aranges (DWARF 5 section 6.1.2), in the 32-bit format. Places count from the section's
 -- first byte, and `starts` are the places of the units of .debug_info, by their numbers.
-use Rattle.std.specs.Prelude.{◌≡◌, ◌≤◌, ◌<◌, ◌+◌, ◌⊎◌, ℕ, List, [], ◌∷◌, length, drop, slice_index}
+use Rattle.std.specs.Prelude.{◌≡◌, ◌≤◌, ◌<◌, ◌+◌, ◌⊎◌, ℕ, List, [], ◌∷◌, length, slice_index}
 use Rattle.std.specs.List.{All}
-use Rattle.form_codec.specs.Forms.{number}
+use Rattle.fixed_width.specs.Numbers.{number_at}
 use Rattle.companions.specs.declared.set.ArangeSet.{ArangeSet}
-
--- the number in n bytes from a place on, the lowest first
-abbrev pub number_at : ℕ → ℕ → List ℕ → ℕ
-number_at n at section = number n (drop at section)
 
 -- the fields of a set that stands at a place, as far as they are read
 abbrev pub unit_length : List ℕ → ℕ → ℕ

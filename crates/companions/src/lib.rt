@@ -2,7 +2,6 @@
 #![tactic(auto)]
 
 mod laws;
-mod number;
 mod patch;
 mod set;
 #[cfg(test)]

@@ -3,8 +3,8 @@ ghost use Rattle.std.specs.Prelude.{◌≡◌, ◌<◌, ◌^◌, ℕ, List, leng
 ghost use Rattle.std.specs.List.{All};
 ghost use Rattle.companions.specs.Aranges.{debug_info_offset, SetsTile, HaveUnits, IsOutside};
 
-use crate::number::put_u32;
 use crate::set::ArangeSet;
+use fixed_width::put_u32;
 
 /// Writes into `section`, the body of .debug_aranges (DWARF 5 section 6.1.2), where the units of its sets begin now.
 /// `sets` are all its sets, as they were read, and `starts` are the new places of the units in .debug_info, by their

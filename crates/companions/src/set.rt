@@ -5,8 +5,8 @@ ghost use Rattle.companions.specs.Aranges.{set_end, IsWhole, AreRising, BeginsAt
 ghost use Rattle.companions.specs.Faults.{LeavesSection, FaultSets};
 ghost use Rattle.dw_base.specs.Refusals.{IsFaultOf, IsFaulty, IsRefusedFor};
 
-use crate::number::{u16_at, u32_at};
 use dw_base::{Fault, Kind, NoMemory, Refusal};
+use fixed_width::{u16_at, u32_at};
 use std::alloc::Global;
 
 /// A set of address ranges (DWARF 5 section 6.1.2).

@@ -11,7 +11,8 @@ use Rattle.form_codec.specs.declared.form.Width.{Width}
 use Rattle.form_codec.specs.declared.form.Width.TheVariants.{Eight}
 use Rattle.form_codec.specs.declared.value.Value.{Value}
 use Rattle.form_codec.specs.declared.value.Value.TheVariants as value
-use Rattle.form_codec.specs.Forms.{Meaning, SpellsShape, SpellsValue, in_role, shape_of, size_of, number}
+use Rattle.fixed_width.specs.Numbers.{number}
+use Rattle.form_codec.specs.Forms.{Meaning, SpellsShape, SpellsValue, in_role, shape_of, size_of}
 use Rattle.form_codec.specs.Forms.Meaning.{Whole, Bits, SixteenBytes, Data, Expression, Text}
 use Rattle.form_codec.specs.Values.{meant_in, bytes_in, IsPlaced, LiesIn}
 use Rattle.entry_arena.specs.Arena.{span_of}

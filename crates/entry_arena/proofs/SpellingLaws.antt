@@ -15,7 +15,8 @@ use Rattle.form_codec.specs.declared.form.Role.{Role}
 use Rattle.form_codec.specs.declared.form.Role.TheVariants as role
 use Rattle.form_codec.specs.declared.form.Content.{Content}
 use Rattle.form_codec.specs.declared.form.Content.TheVariants as content
-use Rattle.form_codec.specs.Forms.{Meaning, SpellsShape, SpellsValue, shape_of, size_of, number, in_role, of_content}
+use Rattle.fixed_width.specs.Numbers.{number}
+use Rattle.form_codec.specs.Forms.{Meaning, SpellsShape, SpellsValue, shape_of, size_of, in_role, of_content}
 use Rattle.form_codec.specs.Values.{meant_in, bytes_in, IsPlaced}
 use Rattle.abbrev_tables.specs.declared.decl.Spec.{Spec}
 use Rattle.abbrev_tables.specs.Tables.{Declared}

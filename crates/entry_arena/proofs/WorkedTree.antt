@@ -5,7 +5,8 @@ use Rattle.std.specs.Prelude.{pos, true, false}
 use Rattle.spelled.specs.Spelled.{AreBytes}
 use Rattle.leb_codec.specs.Leb.{Uleb, IsLeb}
 use Rattle.form_codec.specs.declared.form.Form.TheVariants as form
-use Rattle.form_codec.specs.Forms.{Meaning, SpellsValue, number}
+use Rattle.fixed_width.specs.Numbers.{number}
+use Rattle.form_codec.specs.Forms.{Meaning, SpellsValue}
 use Rattle.abbrev_tables.specs.Tables.{Declared}
 use Rattle.entry_arena.specs.Forests.{Described}
 use Rattle.entry_arena.specs.Spellings.{SpellsForest}

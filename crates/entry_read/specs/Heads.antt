@@ -1,11 +1,7 @@
 -- The header of a unit of .debug_info (DWARF 5 section 7.5.1), in the 32-bit format.
-use Rattle.std.specs.Prelude.{◌≡◌, ◌≤◌, ◌<◌, ◌+◌, ◌-◌, ◌⊎◌, ℕ, List, [], ◌∷◌, length, drop, slice_index, slice_index_or, nat_eq, if◌then◌else◌}
-use Rattle.form_codec.specs.Forms.{number}
+use Rattle.std.specs.Prelude.{◌≡◌, ◌≤◌, ◌<◌, ◌+◌, ◌-◌, ◌⊎◌, ℕ, List, [], ◌∷◌, length, slice_index, slice_index_or, nat_eq, if◌then◌else◌}
+use Rattle.fixed_width.specs.Numbers.{number_at}
 use Rattle.entry_read.specs.declared.head.UnitHead.{UnitHead}
-
--- the number in n bytes from a place on, the lowest first
-abbrev pub number_at : ℕ → ℕ → List ℕ → ℕ
-number_at n at section = number n (drop at section)
 
 -- the fields that each header has, where the unit stands at a place
 abbrev pub unit_length : List ℕ → ℕ → ℕ

@@ -5,8 +5,8 @@ ghost use Rattle.entry_read.specs.Heads.{IsUnitType, header_size as size_of_head
 ghost use Rattle.entry_read.specs.Faults.{FaultHead, FaultHeads};
 ghost use Rattle.dw_base.specs.Refusals.{IsFaultOf, IsFaulty, IsRefusedFor};
 
-use crate::number::{u16_at, u32_at, u64_at};
 use dw_base::{Fault, Kind, NoMemory, Refusal};
+use fixed_width::{u16_at, u32_at, u64_at};
 use std::alloc::Global;
 
 /// The header of a unit (DWARF 5 section 7.5.1). Places count from the section's first byte.

@@ -4,7 +4,6 @@
 mod entries;
 mod head;
 mod laws;
-mod number;
 mod place;
 #[cfg(test)]
 mod tests;

@@ -15,17 +15,25 @@ from_same i (suc n) xs ys same =
     let rest : little_from (suc i) n xs ≡ little_from (suc i) n ys = from_same (suc i) n xs ys (λ k low high. same k (omega arith) (omega arith)) in
     rw (here, rest) refl
 
--- the same bytes are the same number
-pub number_same : (n at : ℕ) (xs ys : List ℕ) → ((k : ℕ) → at ≤ k → k < at + n → slice_index xs k ≡ slice_index ys k) → number_at n at xs ≡ number_at n at ys
+-- the same bytes are the same number, wherever they stand
+pub number_shift : (n p q : ℕ) (xs ys : List ℕ) → ((k : ℕ) → k < n → slice_index xs (p + k) ≡ slice_index ys (q + k)) → number_at n p xs ≡ number_at n q ys
 unfolding number
-number_same n at xs ys same =
-    from_same 0 n (drop at xs) (drop at ys) (λ k low high. get_or-drop at xs k 0 ∙ same (at + k) (omega arith) (omega arith) ∙ sym (get_or-drop at ys k 0))
+number_shift n p q xs ys same =
+    from_same 0 n (drop p xs) (drop q ys) (λ k low high. get_or-drop p xs k 0 ∙ same k (omega arith) ∙ sym (get_or-drop q ys k 0))
+
+-- and so at one place
+pub number_same : (n at : ℕ) (xs ys : List ℕ) → ((k : ℕ) → at ≤ k → k < at + n → slice_index xs k ≡ slice_index ys k) → number_at n at xs ≡ number_at n at ys
+number_same n at xs ys same = number_shift n at at xs ys (λ k low. same (at + k) (omega arith) (omega arith))
+
+-- the bytes of a number tell it, whatever follows
+pub number_back : (n value : ℕ) (rest : List ℕ) → value < 256 ^ n → number n (bytes_low_first 0 n value ++ rest) ≡ value
+unfolding number
+number_back n value rest fits = little_number-reads_back n value rest fits
 
 -- a number that was written is read
 pub number_put : (n at value : ℕ) (xs ys : List ℕ) → at + n ≤ length xs → (rest : List ℕ) → ys ≡ bytes_low_first 0 n value ++ rest → value < 256 ^ n → number_at n at (put_mid at n xs ys) ≡ value
-unfolding number
 number_put n at value xs ys inside rest e fits =
     let front : length (take at xs) ≡ at = length-take-le at xs (omega arith) in
     let tail : drop at (put_mid at n xs ys) ≡ ys ++ post_of at n xs = drop_at (take at xs) (ys ++ post_of at n xs) at front in
     let whole : ys ++ post_of at n xs ≡ bytes_low_first 0 n value ++ (rest ++ post_of at n xs) = ap (λ zs. zs ++ post_of at n xs) e ∙ append_assoc (bytes_low_first 0 n value) rest (post_of at n xs) in
-    ap (little_from 0 n) (tail ∙ whole) ∙ little_number-reads_back n value (rest ++ post_of at n xs) fits
+    ap (number n) (tail ∙ whole) ∙ number_back n value (rest ++ post_of at n xs) fits

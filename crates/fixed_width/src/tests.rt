@@ -1,24 +1,22 @@
 // Numbers read and written at their places.
-ghost use Rattle.std.specs.Prelude.{◌≡◌};
-
 use crate::{put_u32, put_u64, u16_at, u32_at, u64_at};
 
 const BYTES: [u8; 10] = [1, 2, 3, 4, 5, 6, 7, 8, 9, 10];
 
 #[test]
-fn the_lowest_byte_comes_first() {
-    assert_eq!(u16_at(&BYTES, 1), 0x0302);
-    assert_eq!(u32_at(&BYTES, 6), 0x0a09_0807);
-    assert_eq!(u64_at(&BYTES, 2), 0x0a09_0807_0605_0403);
+fn the_lowest_byte_comes_first(rt: HostRuntime) {
+    assert_eq!(rt; u16_at(&BYTES, 1), 0x0302);
+    assert_eq!(rt; u32_at(&BYTES, 6), 0x0a09_0807);
+    assert_eq!(rt; u64_at(&BYTES, 2), 0x0a09_0807_0605_0403);
 }
 
 #[test]
-fn no_other_byte_changes() {
+fn no_other_byte_changes(rt: HostRuntime) {
     let mut bytes = BYTES;
     put_u32(&mut bytes, 1, 0xa4a3_a2a1);
-    assert_eq!(bytes, [1, 0xa1, 0xa2, 0xa3, 0xa4, 6, 7, 8, 9, 10]);
+    assert_eq!(rt; bytes, [1, 0xa1, 0xa2, 0xa3, 0xa4, 6, 7, 8, 9, 10]);
     put_u64(&mut bytes, 2, 0xb8b7_b6b5_b4b3_b2b1);
-    assert_eq!(
+    assert_eq!(rt;
         bytes,
         [1, 0xa1, 0xb1, 0xb2, 0xb3, 0xb4, 0xb5, 0xb6, 0xb7, 0xb8]
     );

@@ -21,7 +21,8 @@ use Rattle.form_codec.specs.declared.value.Value.{Value}
 use Rattle.form_codec.specs.declared.value.Value.TheVariants as value
 use Rattle.form_codec.specs.declared.encoding.Encoding.{Encoding}
 use Rattle.form_codec.specs.declared.encoding.Encoding.TheVariants as encoding
-use Rattle.form_codec.specs.Forms.{Meaning, SpellsShape, SpellsValue, SpellsShortest, Admits, HasNoZero, code_of, shape_of, size_of, number, data_of, in_role, of_content, is_written, counted}
+use Rattle.fixed_width.specs.Numbers.{number}
+use Rattle.form_codec.specs.Forms.{Meaning, SpellsShape, SpellsValue, SpellsShortest, Admits, HasNoZero, code_of, shape_of, size_of, data_of, in_role, of_content, is_written, counted}
 use Rattle.form_codec.specs.Forms.Meaning.{Whole, Bits, Text, Expression, InUnit}
 use Rattle.form_codec.specs.Values.{meant_in, bytes_in, LiesIn, IsPlaced, IsClear, IsValueIn, IsReadValue}
 use Rattle.form_codec.specs.declared.value.ReadValue.{ReadValue}

@@ -17,7 +17,8 @@ use Rattle.form_codec.specs.declared.form.Width.{Width}
 use Rattle.form_codec.specs.declared.value.Value.{Value}
 use Rattle.form_codec.specs.declared.value.Value.TheVariants as value
 use Rattle.form_codec.specs.declared.value.ReadValue.{ReadValue}
-use Rattle.form_codec.specs.Forms.{SpellsShape, size_of, code_of, shape_of, number, in_role, of_content}
+use Rattle.fixed_width.specs.Numbers.{number}
+use Rattle.form_codec.specs.Forms.{SpellsShape, size_of, code_of, shape_of, in_role, of_content}
 use Rattle.form_codec.specs.Forms.Meaning.{Whole, SixteenBytes, Data, Expression, Text}
 use Rattle.form_codec.specs.Faults.{IsCutOff, FaultShape, FaultValue}
 use Rattle.form_codec.specs.Values.{meant_in, IsPlaced, IsReadShape, IsReadValue, IsFirstZero}

@@ -10,7 +10,8 @@ use Rattle.leb_codec.proofs.Fronts.{unique_u, leb_not_short, uleb_not_wide, sleb
 use Rattle.form_codec.specs.declared.form.Form.{Form}
 use Rattle.form_codec.specs.declared.form.Shape.{Shape}
 use Rattle.form_codec.specs.declared.form.Shape.TheVariants.{Constant, Present, Number, Uleb as ByUleb, Sleb as BySleb, Counted, UlebCounted, Sixteen, ZeroEnded}
-use Rattle.form_codec.specs.Forms.{Meaning, SpellsShape, SpellsValue, size_of, shape_of, number}
+use Rattle.fixed_width.specs.Numbers.{number}
+use Rattle.form_codec.specs.Forms.{Meaning, SpellsShape, SpellsValue, size_of, shape_of}
 use Rattle.form_codec.specs.Faults.{IsShapeShort, IsShapeWide, IsShapeUnended, FaultShape, FaultValue}
 use Rattle.form_codec.proofs.Codes.{code_once}
 

@@ -13,7 +13,8 @@ use Rattle.form_codec.specs.declared.form.Shape.{Shape}
 use Rattle.form_codec.specs.declared.form.Shape.TheVariants.{Constant, Present, Number, Uleb as ByUleb, Sleb as BySleb, Counted, UlebCounted, Sixteen, ZeroEnded}
 use Rattle.form_codec.specs.declared.form.Width.{Width}
 use Rattle.form_codec.specs.declared.form.Width.TheVariants.{Eight}
-use Rattle.form_codec.specs.Forms.{SpellsShape, SpellsValue, IsCounted, IsUlebCounted, IsZeroEnded, HasNoZero, size_of, shape_of, number, in_role, of_content}
+use Rattle.fixed_width.specs.Numbers.{number}
+use Rattle.form_codec.specs.Forms.{SpellsShape, SpellsValue, IsCounted, IsUlebCounted, IsZeroEnded, HasNoZero, size_of, shape_of, in_role, of_content}
 use Rattle.form_codec.specs.Forms.Meaning.{Whole, SixteenBytes, Data, Text}
 use Rattle.form_codec.proofs.Codes.{code_once}
 

@@ -4,7 +4,7 @@ use Rattle.std.proofs.lemmas.List.{append-nil, length-append, get_or_append_left
 use Rattle.std.proofs.lemmas.Bool.{cases_lt, le-leb}
 use Rattle.std.specs.Prelude.{ℤ, FitsSigned}
 use Rattle.std.specs.Int.{w64, bytes_low_first, byte_at}
-use Rattle.byteorder.specs.Numbers.{little_number-reads_back, length-bytes_low_first, little_from-lt}
+use Rattle.byteorder.specs.Numbers.{length-bytes_low_first, little_from-lt}
 use Rattle.dw_base.specs.declared.fault.Span.{Span}
 use Rattle.spelled.specs.Spelled.{AreBytes}
 use Rattle.spelled.proofs.Parts.{length_part, bytes_part, bytes_append}
@@ -21,7 +21,9 @@ use Rattle.form_codec.specs.declared.form.Width.TheVariants.{One, Two, Three, Fo
 use Rattle.form_codec.specs.declared.value.Value.{Value}
 use Rattle.form_codec.specs.declared.value.Value.TheVariants as value
 use Rattle.form_codec.specs.declared.encoding.Encoding.TheVariants as encoding
-use Rattle.form_codec.specs.Forms.{size_of, number, in_role, of_content}
+use Rattle.fixed_width.specs.Numbers.{number}
+use Rattle.fixed_width.proofs.Numbers.{number_back}
+use Rattle.form_codec.specs.Forms.{size_of, in_role, of_content}
 use Rattle.form_codec.specs.Forms.Meaning.{Whole, SixteenBytes, IsSet, Data, Text}
 use Rattle.form_codec.specs.Values.{meant_in, bytes_in, LiesIn}
 use Rattle.form_codec.specs.Written.{low_bytes, HasNoEncoding, IsEncoding}
@@ -31,8 +33,7 @@ pub low_len : (w : Width) (n : ℕ) → length (low_bytes w n) ≡ size_of w
 low_len w n = length-bytes_low_first 0 (size_of w) n
 
 pub number_low : (w : Width) (n : ℕ) → n < 256 ^ size_of w → number (size_of w) (low_bytes w n) ≡ n
-unfolding number
-number_low w n h = ap (number (size_of w)) (sym (append-nil (low_bytes w n))) ∙ little_number-reads_back (size_of w) n [] h
+number_low w n h = ap (number (size_of w)) (sym (append-nil (low_bytes w n))) ∙ number_back (size_of w) n [] h
 
 byte_small : (i n : ℕ) → byte_at i n < 256
 byte_small zero n = omega arith

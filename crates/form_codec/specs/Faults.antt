@@ -6,7 +6,8 @@ use Rattle.leb_codec.specs.Leb.{Uleb, IsShort, IsWideUnsigned, IsWideSigned}
 use Rattle.form_codec.specs.declared.form.Form.{Form}
 use Rattle.form_codec.specs.declared.form.Shape.{Shape}
 use Rattle.form_codec.specs.declared.form.Shape.TheVariants.{Constant, Present, Number, Uleb as ByUleb, Sleb as BySleb, Counted, UlebCounted, Sixteen, ZeroEnded}
-use Rattle.form_codec.specs.Forms.{size_of, code_of, shape_of, number, HasNoZero}
+use Rattle.fixed_width.specs.Numbers.{number}
+use Rattle.form_codec.specs.Forms.{size_of, code_of, shape_of, HasNoZero}
 
 -- a count that fits, and fewer bytes after it
 pub record IsCutOff (rest : List ℕ) : Type 0 where

@@ -1,7 +1,7 @@
 -- The forms of attribute values (DWARF 5 sections 7.5.5 and 7.5.6): which bytes spell which value.
 use Rattle.std.specs.Prelude.{◌≡◌, ◌≢◌, ◌≤◌, ◌<◌, ◌-◌, ◌*◌, ◌^◌, ℕ, List, [], ◌∷◌, ◌++◌, length, slice_index, Bool, true, false, nat_le, if◌then◌else◌, ℤ, pos, FitsSigned}
 use Rattle.std.specs.Int.{w64}
-use Rattle.byteorder.specs.Endian.{little_number}
+use Rattle.fixed_width.specs.Numbers.{number}
 use Rattle.spelled.specs.Spelled.{AreBytes}
 use Rattle.leb_codec.specs.Leb.{Uleb, Sleb}
 use Rattle.form_codec.specs.declared.form.Form.{Form}
@@ -168,10 +168,6 @@ in_role role.RangeIndex width n = RangeList n
 abbrev pub of_content : Content → List ℕ → Meaning
 of_content content.Data bytes = Data bytes
 of_content content.Expression bytes = Expression bytes
-
--- the number in n bytes, the lowest first
-unfoldable pub number : ℕ → List ℕ → ℕ
-number n bytes = little_number n bytes
 
 -- no byte is 0
 abbrev pub HasNoZero : List ℕ → Type 0

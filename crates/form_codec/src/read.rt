@@ -1,7 +1,8 @@
 // Values of all forms, read.
 ghost use Rattle.std.specs.Prelude.{◌≡◌, ◌≤◌, ◌<◌, ◌+◌, ◌-◌, ◌*◌, ◌%◌, ◌^◌, ℕ, ℤ, List, ◌↔◌, length, take, drop, IfOk, IfErr, IsTrue, MatchOption};
 ghost use Rattle.form_codec.specs.declared.form.Shape.TheVariants as shape;
-ghost use Rattle.form_codec.specs.Forms.{IsKnown, size_of, shape_of, number, data_of, in_role as meant_in_role, of_content as meant_content, HasNoZero};
+ghost use Rattle.fixed_width.specs.Numbers.{number};
+ghost use Rattle.form_codec.specs.Forms.{IsKnown, size_of, shape_of, data_of, in_role as meant_in_role, of_content as meant_content, HasNoZero};
 ghost use Rattle.form_codec.specs.Faults.{FaultShape, FaultValue};
 ghost use Rattle.form_codec.specs.Values.{meant_in, bytes_in, IsPlaced, IsReadShape, IsReadValue, IsValueIn, IsFirstZero};
 
@@ -62,7 +63,7 @@ fn of_content(content: Content, span: Span) -> Value
 }
 
 // The number at the front.
-#[tactic(auto, unfolding(crate::specs::Forms::number))]
+#[tactic(auto, unfolding(fixed_width::specs::Numbers::number))]
 fn number_of(rest: &[u8], width: Width) -> u64
     requires { size_of width ≤ length rest.now }
     ensures { result ≡ number (size_of width) rest.now }

@@ -8,7 +8,7 @@ use Rattle.dw_base.specs.declared.fault.Kind.TheVariants.{LebWide, Short, LineOp
 use Rattle.dw_base.specs.declared.fault.Fault.{Fault}
 use Rattle.line_machine.specs.declared.opcode.Opcode.{Opcode}
 use Rattle.line_machine.specs.declared.opcode.Opcode.TheVariants.{EndSequence, SetAddress, SetDiscriminator}
-use Rattle.line_machine.specs.Numbers.{number_at}
+use Rattle.fixed_width.specs.Numbers.{number_at}
 use Rattle.line_machine.specs.Opcodes.{WithUleb, WithFixed, SpellsOperation, SpellsExtended, SpellsOpcode}
 use Rattle.line_machine.specs.Faults.{FaultOpcode, IsSized, IsWrongCount}
 use Rattle.line_machine.specs.Readings.{FaultOperation}

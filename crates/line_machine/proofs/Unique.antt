@@ -7,7 +7,7 @@ use Rattle.spelled.proofs.Parts.{same_front}
 use Rattle.leb_codec.proofs.Fronts.{unique_u, unique_s}
 use Rattle.line_machine.specs.declared.opcode.Opcode.{Opcode}
 use Rattle.line_machine.specs.declared.opcode.Opcode.TheVariants.{Copy, AdvancePc, AdvanceLine, SetFile, SetColumn, NegateStmt, SetBasicBlock, ConstAddPc, FixedAdvancePc, SetPrologueEnd, SetEpilogueBegin, SetIsa, EndSequence, SetAddress, SetDiscriminator, Special}
-use Rattle.line_machine.specs.Numbers.{number_at}
+use Rattle.fixed_width.specs.Numbers.{number_at}
 use Rattle.line_machine.specs.Opcodes.{WithUleb, WithSleb, WithFixed, SpellsOperation, SpellsExtended, SpellsOpcode, IsBase}
 
 -- two numbers are one

@@ -2,7 +2,7 @@
 use Rattle.std.specs.Prelude.{◌≡◌, ◌≢◌, ◌≤◌, ◌<◌, ◌+◌, ◌-◌, ◌⊎◌, ℕ, ℤ, List, [], ◌∷◌, length, take, drop, slice_index, not, nat_eq}
 use Rattle.std.specs.Int.{w8, cast_signed}
 use Rattle.dw_base.specs.declared.fault.Span.{Span}
-use Rattle.line_machine.specs.Numbers.{number_at}
+use Rattle.fixed_width.specs.Numbers.{number_at}
 use Rattle.line_machine.specs.Opcodes.{IsBase}
 use Rattle.line_machine.specs.declared.head.Head.{Head}
 

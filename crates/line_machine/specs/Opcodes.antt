@@ -1,7 +1,7 @@
 -- The bytes of line opcodes (DWARF 5 sections 6.2.5 and 7.22). `base` is the opcode_base of the header.
 use Rattle.std.specs.Prelude.{◌≡◌, ◌<◌, ◌+◌, ℕ, ℤ, List, [], ◌∷◌, ◌++◌, length}
 use Rattle.leb_codec.specs.Leb.{Uleb, Sleb}
-use Rattle.line_machine.specs.Numbers.{number_at}
+use Rattle.fixed_width.specs.Numbers.{number_at}
 use Rattle.line_machine.specs.declared.opcode.Opcode.{Opcode}
 use Rattle.line_machine.specs.declared.opcode.Opcode.TheVariants.{Copy, AdvancePc, AdvanceLine, SetFile, SetColumn, NegateStmt, SetBasicBlock, ConstAddPc, FixedAdvancePc, SetPrologueEnd, SetEpilogueBegin, SetIsa, EndSequence, SetAddress, SetDiscriminator, Special}
 use Rattle.spelled.specs.Spelled.{AreBytes}

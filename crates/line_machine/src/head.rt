@@ -2,8 +2,8 @@
 ghost use Rattle.std.specs.Prelude.{◌≡◌, ◌≤◌, ◌<◌, ◌+◌, ◌^◌, ◌↔◌, length, IfOk, IfErr, MatchOption, IsTrue};
 ghost use Rattle.line_machine.specs.Heads.{LeavesSection, HasNumbers, HasLengths, HasHead, head_at, unit_end, between};
 
-use crate::number::{u16_at, u32_at};
 use dw_base::{Fault, Kind, Span};
+use fixed_width::{u16_at, u32_at};
 
 /// The header of a line number program (DWARF 5 section 6.2.4). Places count from the section's first byte.
 #[derive(Clone, Copy, Debug, PartialEq, Eq)]

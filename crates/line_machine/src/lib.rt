@@ -5,7 +5,6 @@ ghost use Rattle.line_machine.specs.Laws.{OpcodesEnd, OpcodesWhole, OneReading, 
 
 mod cursor;
 mod head;
-mod number;
 mod opcode;
 mod place;
 mod registers;

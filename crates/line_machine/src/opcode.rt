@@ -5,8 +5,8 @@ ghost use Rattle.line_machine.specs.Opcodes.{SpellsOpcode, SpellsOperation, With
 ghost use Rattle.line_machine.specs.Faults.{FaultOpcode};
 ghost use Rattle.line_machine.specs.Readings.{FaultLeb, FaultOperation};
 
-use crate::number::{u16_at, u64_at};
 use dw_base::{Fault, Kind};
+use fixed_width::{u16_at, u64_at};
 use leb_codec::{LebFault, ReadS, ReadU, read_s, read_u};
 
 /// One opcode with its operand (DWARF 5 sections 6.2.5.1 to 6.2.5.3).

@@ -4,8 +4,8 @@ use Rattle.std.specs.Prelude.{slice_index, ℤ, ⊤}
 use Rattle.std.proofs.lemmas.List.{length-append}
 use Rattle.leb_codec.specs.Leb.{least_unsigned_len, least_signed_len}
 use Rattle.leb_codec.proofs.SpellingLaws.{unsigned_spellings, signed_spellings}
-use Rattle.line_machine.specs.Numbers.{number_at}
 use Rattle.spelled.specs.Spelled.{AreBytes}
+use Rattle.fixed_width.specs.Numbers.{number, number_at}
 use Rattle.line_machine.specs.Opcodes.{SpellsOpcode, SpellsExtended, WithUleb, WithSleb, WithFixed}
 use Rattle.line_machine.specs.declared.opcode.Opcode.{Opcode}
 use Rattle.line_machine.specs.declared.opcode.Opcode.TheVariants.{Copy, AdvancePc, AdvanceLine, SetFile, SetColumn, NegateStmt, SetBasicBlock, ConstAddPc, FixedAdvancePc, SetPrologueEnd, SetEpilogueBegin, SetIsa, EndSequence, SetAddress, SetDiscriminator, Special}
@@ -79,7 +79,7 @@ spelled_bytes (SetDiscriminator value) bytes s =
 spelled_bytes (Special v) bytes s = one_bytes (13 + v) bytes s.1
 
 two_bytes : (value : ℕ) (operand : List ℕ) → length operand ≡ 2 → AreBytes operand → value ≡ number_at 2 0 operand → value ≤ 65535
-unfolding number_at
+unfolding number
 two_bytes value operand size bounded number =
     let low : slice_index operand 0 < 256 = bounded 0 (omega arith) in
     let high : slice_index operand 1 < 256 = bounded 1 (omega arith) in

@@ -5,8 +5,8 @@ use Rattle.std.specs.Int.{byte_at, bytes_low_first}
 use Rattle.std.proofs.lemmas.List.{append_assoc, append-nil}
 use Rattle.byteorder.specs.Numbers.{length-bytes_low_first, little_number-reads_back}
 use Rattle.byteorder.specs.Endian.{little_bytes, little_from}
-use Rattle.spelled.specs.Spelled.{AreBytes, Appends}
-use Rattle.line_machine.specs.Numbers.{number_at}
+use Rattle.spelled.specs.Spelled.{Appends, AreBytes}
+use Rattle.fixed_width.specs.Numbers.{number}
 use Rattle.line_machine.specs.Opcodes.{WithFixed}
 use Rattle.line_machine.specs.declared.opcode.Opcode.{Opcode}
 use Rattle.line_machine.specs.declared.opcode.Opcode.TheVariants.{SetAddress, SetDiscriminator}
@@ -24,7 +24,7 @@ low_bytes i (suc n) value (suc k) lt = low_bytes (suc i) n value k (omega arith)
 
 -- a code and the bytes of a number
 pub fixed_written : (code n value : ℕ) (operand bytes : List ℕ) → operand ≡ little_bytes n value → bytes ≡ code ∷ operand → value < 256 ^ n → WithFixed code n value bytes
-unfolding number_at
+unfolding number
 fixed_written code n value operand bytes e whole small = record {
   operand = operand;
   size = ap length e ∙ length-bytes_low_first 0 n value;

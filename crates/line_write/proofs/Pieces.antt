@@ -2,9 +2,9 @@
 use Rattle.std.proofs.Common.{◌≡◌, ◌≤◌, ◌<◌, ◌+◌, ◌^◌, ◌++◌, ◌∙◌, ℕ, List, [], length, take, drop, sym, ap, arith}
 use Rattle.std.specs.Prelude.{slice_index}
 use Rattle.std.proofs.lemmas.List.{append_assoc, append-nil, length-append, take-append-le, drop_at, take_all, get_or-take, get_or-drop, get_or_append_left}
-use Rattle.byteorder.specs.Endian.{little_bytes, little_from}
-use Rattle.byteorder.specs.Numbers.{little_number-reads_back}
-use Rattle.line_machine.specs.Numbers.{number_at}
+use Rattle.byteorder.specs.Endian.{little_bytes}
+use Rattle.fixed_width.specs.Numbers.{number, number_at}
+use Rattle.fixed_width.proofs.Numbers.{number_back as number_before}
 use Rattle.line_machine.proofs.Parts.{number_part}
 
 -- The piece stands in the bytes at a place.
@@ -65,5 +65,4 @@ part_byte n at k l lt = get_or-take n (drop at l) k 0 lt ∙ get_or-drop at l k 
 
 -- a number that was written is read back
 pub number_back : (n value : ℕ) → value < 256 ^ n → number_at n 0 (little_bytes n value) ≡ value
-unfolding number_at
-number_back n value small = ap (little_from 0 n) (sym (append-nil (little_bytes n value))) ∙ little_number-reads_back n value [] small
+number_back n value small = ap (number n) (sym (append-nil (little_bytes n value))) ∙ number_before n value [] small

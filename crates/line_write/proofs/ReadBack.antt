@@ -6,7 +6,7 @@ use Rattle.std.proofs.lemmas.Int.{ints, to_z-of_z}
 use Rattle.std.proofs.lemmas.List.{length-append, take-take}
 use Rattle.byteorder.specs.Endian.{little_bytes}
 use Rattle.byteorder.specs.Numbers.{length-bytes_low_first}
-use Rattle.line_machine.specs.Numbers.{number_at}
+use Rattle.fixed_width.specs.Numbers.{number_at}
 use Rattle.line_machine.specs.Heads.{unit_length, version, header_length, minimum_instruction_length, default_is_stmt, line_base, line_range, opcode_base, standard_opcode_lengths, operand_counts, unit_end, tables_at, program_at, LeavesSection, HasNumbers, HasHead, head_at, program_of}
 use Rattle.line_machine.specs.Class.{Encoding, IsPair}
 use Rattle.line_machine.proofs.Parts.{number_part}

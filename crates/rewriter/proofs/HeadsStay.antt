@@ -1,25 +1,15 @@
 -- A header of a unit stands in a section that has more bytes behind.
-use Rattle.std.proofs.Common.{◌≡◌, ◌≤◌, ◌<◌, ◌+◌, ◌-◌, ◌*◌, ◌++◌, ℕ, zero, suc, List, length, slice_index, get_or, drop, ◌∙◌, sym, ap, refl, subst, arith}
+use Rattle.std.proofs.Common.{◌≡◌, ◌≤◌, ◌<◌, ◌+◌, ◌-◌, ◌*◌, ◌++◌, ℕ, List, length, slice_index, ◌∙◌, sym, ap, refl, subst, arith}
 use Rattle.std.specs.Prelude.{Bool, true, false, nat_eq, if◌then◌else◌}
-use Rattle.std.proofs.lemmas.List.{length-append, get_or-drop}
+use Rattle.std.proofs.lemmas.List.{length-append}
 use Rattle.std.proofs.Math.ListN.{get_or-append}
-use Rattle.byteorder.specs.Endian.{little_from}
-use Rattle.form_codec.specs.Forms.{number}
+use Rattle.fixed_width.specs.Numbers.{number_at}
+use Rattle.fixed_width.proofs.Numbers.{number_same}
 use Rattle.entry_read.specs.declared.head.UnitHead.{UnitHead}
-use Rattle.entry_read.specs.Heads.{number_at, unit_length, version, unit_type, address_size, debug_abbrev_offset, signature, type_offset, header_size, unit_end, IsUnitType, type_unit, skeleton_unit, HasHead, extra_at, type_at, head_at, IsHead}
-
--- a number of some bytes is told by these
-from_same : (i n : ℕ) (xs ys : List ℕ) → ((k : ℕ) → k < i + n → get_or xs k 0 ≡ get_or ys k 0) → little_from i n xs ≡ little_from i n ys
-from_same i zero xs ys same = refl
-from_same i (suc n) xs ys same =
-    let here : get_or xs i 0 ≡ get_or ys i 0 = same i (omega arith) in
-    let rest : little_from (suc i) n xs ≡ little_from (suc i) n ys = from_same (suc i) n xs ys (λ k below. same k (omega arith)) in
-    ap (λ (z : ℕ). z + 256 * little_from (suc i) n xs) here ∙ ap (λ (z : ℕ). get_or ys i 0 + 256 * z) rest
+use Rattle.entry_read.specs.Heads.{unit_length, version, unit_type, address_size, debug_abbrev_offset, signature, type_offset, header_size, unit_end, IsUnitType, type_unit, skeleton_unit, HasHead, extra_at, type_at, head_at, IsHead}
 
 number_stays : (n at : ℕ) (section more : List ℕ) → at + n ≤ length section → number_at n at (section ++ more) ≡ number_at n at section
-unfolding number
-number_stays n at section more inside =
-    from_same 0 n (drop at (section ++ more)) (drop at section) (λ k below. get_or-drop at (section ++ more) k 0 ∙ get_or-append section more 0 (at + k) (omega arith) ∙ sym (get_or-drop at section k 0))
+number_stays n at section more inside = number_same n at (section ++ more) section (λ k low high. get_or-append section more 0 k (omega arith))
 
 byte_stays : (at : ℕ) (section more : List ℕ) → at < length section → slice_index (section ++ more) at ≡ slice_index section at
 byte_stays at section more inside = get_or-append section more 0 at inside

@@ -9,7 +9,8 @@ use Rattle.form_codec.specs.declared.form.Form.{Form}
 use Rattle.form_codec.specs.declared.form.Form.TheVariants as form
 use Rattle.form_codec.specs.declared.value.Value.{Value}
 use Rattle.form_codec.specs.declared.value.Value.TheVariants as value
-use Rattle.form_codec.specs.Forms.{SpellsShape, SpellsValue, number, shape_of}
+use Rattle.fixed_width.specs.Numbers.{number}
+use Rattle.form_codec.specs.Forms.{SpellsShape, SpellsValue, shape_of}
 use Rattle.form_codec.specs.Forms.Meaning.{SectionPlace}
 use Rattle.form_codec.specs.Values.{meant_in}
 use Rattle.abbrev_tables.specs.declared.decl.Spec.{Spec}

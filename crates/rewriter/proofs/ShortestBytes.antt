@@ -17,7 +17,8 @@ use Rattle.form_codec.specs.declared.form.Content.{Content}
 use Rattle.form_codec.specs.declared.form.Content.TheVariants as content
 use Rattle.form_codec.specs.declared.form.Width.{Width}
 use Rattle.form_codec.specs.declared.form.Width.TheVariants.{Eight}
-use Rattle.form_codec.specs.Forms.{Meaning, SpellsShape, SpellsValue, SpellsShortest, code_of, shape_of, number, in_role, of_content}
+use Rattle.fixed_width.specs.Numbers.{number}
+use Rattle.form_codec.specs.Forms.{Meaning, SpellsShape, SpellsValue, SpellsShortest, code_of, shape_of, in_role, of_content}
 use Rattle.form_codec.specs.Forms.Meaning.{AddressNumber, Whole, Data, Expression, InUnit, IsSet, Text, StringNumber, LocationList, RangeList}
 use Rattle.form_codec.proofs.Codes.{code_once}
 use Rattle.form_codec.proofs.FormLaws.{in_form}

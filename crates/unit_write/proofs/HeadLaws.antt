@@ -3,21 +3,17 @@ use Rattle.std.proofs.Common.{◌≡◌, ◌≢◌, ◌≤◌, ◌<◌, ◌+◌,
 use Rattle.std.specs.Prelude.{nat_eq, if◌then◌else◌, true}
 use Rattle.std.specs.Int.{bytes_low_first}
 use Rattle.std.proofs.lemmas.List.{append-nil, append_assoc, length-append, drop_at, get_or_at}
-use Rattle.byteorder.specs.Numbers.{little_number-reads_back}
 use Rattle.form_codec.specs.declared.form.Width.TheVariants.{Two, Four, Eight}
-use Rattle.form_codec.specs.Forms.{number}
+use Rattle.fixed_width.specs.Numbers.{number, number_at}
+use Rattle.fixed_width.proofs.Numbers.{number_back}
 use Rattle.form_codec.specs.Written.{low_bytes}
 use Rattle.entry_read.specs.declared.head.UnitHead.{UnitHead}
-use Rattle.entry_read.specs.Heads.{number_at, unit_length, version, unit_type, address_size, debug_abbrev_offset, signature, type_offset, type_unit, IsUnitType, header_size, unit_end, least_reserved, extra_at, type_at, IsHead}
+use Rattle.entry_read.specs.Heads.{unit_length, version, unit_type, address_size, debug_abbrev_offset, signature, type_offset, type_unit, IsUnitType, header_size, unit_end, least_reserved, extra_at, type_at, IsHead}
 use Rattle.unit_write.specs.Puts.{own_bytes, header_bytes}
-
-read_back : (n v : ℕ) (rest : List ℕ) → v < 256 ^ n → number n (bytes_low_first 0 n v ++ rest) ≡ v
-unfolding number
-read_back n v rest few = little_number-reads_back n v rest few
 
 number_there : (n v at : ℕ) (section front rest : List ℕ) → length front ≡ at → section ≡ front ++ (bytes_low_first 0 n v ++ rest) → v < 256 ^ n → number_at n at section ≡ v
 number_there n v at section front rest size whole few =
-    ap (λ (z : List ℕ). number n (drop at z)) whole ∙ ap (number n) (drop_at front (bytes_low_first 0 n v ++ rest) at size) ∙ read_back n v rest few
+    ap (λ (z : List ℕ). number n (drop at z)) whole ∙ ap (number n) (drop_at front (bytes_low_first 0 n v ++ rest) at size) ∙ number_back n v rest few
 
 byte_there : (b at : ℕ) (section front rest : List ℕ) → length front ≡ at → section ≡ front ++ (b ∷ rest) → get_or section at 0 ≡ b
 byte_there b at section front rest size whole = ap (λ (z : List ℕ). get_or z at 0) whole ∙ get_or_at front b rest 0 at size

@@ -18,7 +18,8 @@ use Rattle.form_codec.specs.declared.form.Content.TheVariants as content
 use Rattle.form_codec.specs.declared.form.Width.{Width}
 use Rattle.form_codec.specs.declared.form.Width.TheVariants.{One, Two, Three, Four, Eight}
 use Rattle.form_codec.specs.declared.value.Value.{Value}
-use Rattle.form_codec.specs.Forms.{Meaning, SpellsShape, SpellsValue, IsUlebCounted, shape_of, size_of, number, in_role, of_content}
+use Rattle.fixed_width.specs.Numbers.{number}
+use Rattle.form_codec.specs.Forms.{Meaning, SpellsShape, SpellsValue, IsUlebCounted, shape_of, size_of, in_role, of_content}
 use Rattle.form_codec.specs.Forms.Meaning.{Bits, Whole, SixteenBytes, Data, Expression, Text, InUnit, InSection, SectionPlace}
 use Rattle.form_codec.specs.Values.{meant_in}
 use Rattle.abbrev_tables.specs.declared.decl.Spec.{Spec}

@@ -15,7 +15,8 @@ use Rattle.form_codec.specs.declared.form.Shape.TheVariants.{Constant, Present, 
 use Rattle.form_codec.specs.declared.form.Content.TheVariants as content
 use Rattle.form_codec.specs.declared.form.Width.{Width}
 use Rattle.form_codec.specs.declared.form.Width.TheVariants.{One, Two, Three, Four, Eight}
-use Rattle.form_codec.specs.Forms.{Meaning, SpellsShape, SpellsValue, SpellsShortest, Admits, is_written, code_of, shape_of, size_of, number, in_role}
+use Rattle.fixed_width.specs.Numbers.{number}
+use Rattle.form_codec.specs.Forms.{Meaning, SpellsShape, SpellsValue, SpellsShortest, Admits, is_written, code_of, shape_of, size_of, in_role}
 use Rattle.form_codec.specs.Forms.Meaning.{InUnit, InSection, SectionPlace, Bits, Whole}
 use Rattle.form_codec.specs.Written.{low_bytes}
 use Rattle.form_codec.proofs.Codes.{code_once}

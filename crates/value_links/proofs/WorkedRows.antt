@@ -4,7 +4,7 @@ use Rattle.std.specs.Prelude.{true, false, pos}
 use Rattle.dw_base.specs.declared.fault.Kind.TheVariants.{UnitHead as AHead}
 use Rattle.leb_codec.specs.Leb.{Uleb}
 use Rattle.entry_read.specs.Faults.{FaultHead}
-use Rattle.form_codec.specs.Forms.{number}
+use Rattle.fixed_width.specs.Numbers.{number}
 use Rattle.entry_read.specs.Heads.{unit_end, version, HasHead}
 use Rattle.value_links.specs.Values.{HasValueAt}
 use Rattle.form_codec.specs.declared.value.Value.TheVariants.{LocalRef}

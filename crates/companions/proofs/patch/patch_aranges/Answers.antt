@@ -2,7 +2,8 @@ use Rattle.std.proofs.Common.{◌≡◌, ◌<◌, ◌≤◌, ◌+◌, ◌⊎◌,
 use Rattle.std.specs.Prelude.{slice_index}
 use Rattle.std.proofs.lemmas.List.{take_all, get_or_default}
 use Rattle.companions.specs.declared.set.ArangeSet.{ArangeSet}
-use Rattle.companions.specs.Aranges.{number_at, SetsFollow}
+use Rattle.fixed_width.specs.Numbers.{number_at}
+use Rattle.companions.specs.Aranges.{SetsFollow}
 use Rattle.companions.proofs.Patching.{patched_next, follow_named}
 use Rattle.companions.proofs.patch.patch_aranges.Goals as goal
 
