@@ -42,6 +42,16 @@ pub enum Stop {
     NoMemory,
 }
 
+impl From<NoMemory> for Stop {
+    ghost use Rattle.abbrev_tables.specs.declared.read.Stop.TheVariants.{NoMemory};
+
+    ghost from_gives = { λ _ e. e ≡ NoMemory };
+
+    fn from(_: NoMemory) -> Self {
+        Stop::NoMemory
+    }
+}
+
 /// What a declaration has before its columns.
 #[derive(Clone, Copy)]
 pub struct Head {
@@ -192,10 +202,7 @@ fn read_columns(specs: &mut Vec<Spec>, rest: &[u8]) -> Result<usize, Stop>
         match read_step(&rest[at..]) {
             Ok(read) => match read.step {
                 Step::Column(column) => {
-                    match push(specs, column) {
-                        Ok(()) => {}
-                        Err(_) => return Err(Stop::NoMemory),
-                    }
+                    push(specs, column)?;
                     at += read.end;
                 }
                 Step::End => return Ok(at + read.end),

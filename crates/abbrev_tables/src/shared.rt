@@ -121,14 +121,8 @@ fn read_new(alloc: Global, section: &[u8], place: u64, shelf: &mut Shelf) -> Res
     ensures table { IfOk result (IsNext section.now place shelf.old shelf.new) }
     ensures fault { IfErr result (IsStop FaultTable (drop place section.now)) }
 {
-    let read = match read_stretch(alloc, &section[place as usize..], place, &shelf.known) {
-        Ok(read) => read,
-        Err(stop) => return Err(stop),
-    };
-    let rest = match table_behind(alloc, &shelf.stretches, read.behind) {
-        Ok(rest) => rest,
-        Err(_) => return Err(Stop::NoMemory),
-    };
+    let read = read_stretch(alloc, &section[place as usize..], place, &shelf.known)?;
+    let rest = table_behind(alloc, &shelf.stretches, read.behind)?;
     match shared_code(read.stretch.decls(), &rest) {
         Some(later) => {
             return Err(Stop::Fault(FaultAt {
@@ -144,10 +138,7 @@ fn read_new(alloc: Global, section: &[u8], place: u64, shelf: &mut Shelf) -> Res
             fresh: 0,
         });
     }
-    match shelve(alloc, shelf, read.stretch, rest) {
-        Ok(table) => Ok(table),
-        Err(_) => Err(Stop::NoMemory),
-    }
+    Ok(shelve(alloc, shelf, read.stretch, rest)?)
 }
 
 // Reads the table at a place.
@@ -163,10 +154,10 @@ fn read_next(
     ensures fault { IfErr result (IsStop FaultTable (drop place section.now)) }
 {
     match shelf.known.get(&place).copied() {
-        Some(known) => match table_from(alloc, &shelf.stretches, known) {
-            Ok(table) => Ok(TableRead { table, fresh: 0 }),
-            Err(_) => Err(Stop::NoMemory),
-        },
+        Some(known) => {
+            let table = table_from(alloc, &shelf.stretches, known)?;
+            Ok(TableRead { table, fresh: 0 })
+        }
         None => read_new(alloc, section, place, shelf),
     }
 }

@@ -192,10 +192,9 @@ pub(crate) fn read_stretch(
             return Ok(stretch_read(decls, specs, others, Behind::End(end)));
         };
         let decl = declaration(start + at as u64, head, first, last);
-        match add(&mut decls, &mut others, decl) {
-            Ok(true) => {}
-            Ok(false) => return Err(fault_at(Kind::CodeTwice, at)),
-            Err(_) => return Err(Stop::NoMemory),
+        let is_new = add(&mut decls, &mut others, decl)?;
+        if !is_new {
+            return Err(fault_at(Kind::CodeTwice, at));
         }
         at += read.end;
     }

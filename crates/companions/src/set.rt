@@ -122,10 +122,7 @@ pub fn read_aranges(
         let Some(set) = parse(section, starts, at, end) else {
             return Err(refused(Kind::Aranges, origin, at));
         };
-        match push(&mut sets, set) {
-            Ok(()) => {}
-            Err(_) => return Err(Refusal::NoMemory),
-        }
+        push(&mut sets, set)?;
         at = end;
     }
     Ok(sets)

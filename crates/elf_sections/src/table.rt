@@ -121,10 +121,8 @@ fn read_section(
     if !lies_in(file, body.at, body.len) {
         return Err(torn);
     }
-    let name = match read_name(file, names, ends, i) {
-        Ok(Some(name)) => name,
-        Ok(None) => return Err(torn),
-        Err(_) => return Err(Refusal::NoMemory),
+    let Some(name) = read_name(file, names, ends, i)? else {
+        return Err(torn);
     };
     Ok(Section {
         name,
@@ -154,13 +152,9 @@ fn read_sections(alloc: Global, file: &[u8]) -> Result<Vec<Section>, Refusal>
     let mut ends = BTreeSet::new(alloc);
     let mut sections = Vec::new(alloc);
     for i in 0..count {
-        match read_section(file, names, &mut ends, i) {
-            Ok(section) => {
-                if sections.push(section).is_err() {
-                    return Err(Refusal::NoMemory);
-                }
-            }
-            Err(refusal) => return Err(refusal),
+        let section = read_section(file, names, &mut ends, i)?;
+        if sections.push(section).is_err() {
+            return Err(Refusal::NoMemory);
         }
     }
     Ok(sections)

@@ -122,10 +122,7 @@ fn read_values<'a>(
             Ok(read) => read,
             Err(fault) => return Err(Refusal::Refused(fault)),
         };
-        match forest.push_value(read.value) {
-            Ok(_) => {}
-            Err(_) => return Err(Refusal::NoMemory),
-        }
+        forest.push_value(read.value)?;
         at = read.end;
     }
     Ok(at)
@@ -165,10 +162,7 @@ fn read_entry<'a>(
 {
     let first = forest.value_count();
     let columns = columns_of(table, start.number);
-    let to = match read_values(forest, info, start.values_at, end, columns, origin) {
-        Ok(to) => to,
-        Err(refusal) => return Err(refusal),
-    };
+    let to = read_values(forest, info, start.values_at, end, columns, origin)?;
     let entry = Entry {
         at: start.at as u64,
         len: (to - start.at) as u64,
@@ -177,10 +171,8 @@ fn read_entry<'a>(
         first,
         count: forest.value_count() - first,
     };
-    match forest.push_entry(entry) {
-        Ok(_) => Ok(to),
-        Err(_) => Err(Refusal::NoMemory),
-    }
+    forest.push_entry(entry)?;
+    Ok(to)
 }
 
 // Lets the children of an entry come next, where it has some.
@@ -226,17 +218,12 @@ fn add_entry<'a>(
         number,
         depth: chains.len() as u32,
     };
-    let to = match read_entry(forest, info, table, start, scope.end(), scope.origin) {
-        Ok(to) => to,
-        Err(refusal) => return Err(refusal),
-    };
+    let to = read_entry(forest, info, table, start, scope.end(), scope.origin)?;
     if !is_within(scope.before, forest.len(), forest.value_count()) {
         return Err(scope.refused(Kind::Limit, at));
     }
-    match open_chain(chains, id, table.decl(number).children) {
-        Ok(()) => Ok(to),
-        Err(_) => Err(Refusal::NoMemory),
-    }
+    open_chain(chains, id, table.decl(number).children)?;
+    Ok(to)
 }
 
 // Reads the entry or the code 0 at a place, and gives the place after it.
@@ -272,10 +259,8 @@ fn read_next<'a>(
     let Some(id) = chains.pop() else {
         return Err(scope.refused(Kind::Tree, scope.head.at as usize));
     };
-    match forest.push_chain_end(id, at as u64) {
-        Ok(()) => Ok(code.end),
-        Err(_) => Err(Refusal::NoMemory),
-    }
+    forest.push_chain_end(id, at as u64)?;
+    Ok(code.end)
 }
 
 /// Reads the entries of a unit, and gives the place after their tree.
@@ -298,10 +283,7 @@ pub fn read_entries<'a>(
     let mut chains: Vec<u32> = Vec::new(alloc);
     let mut at = scope.head.at as usize + header_size(scope.head.kind);
     loop {
-        at = match read_next(forest, &mut chains, info, table, scope, at) {
-            Ok(to) => to,
-            Err(refusal) => return Err(refusal),
-        };
+        at = read_next(forest, &mut chains, info, table, scope, at)?;
         if chains.is_empty() {
             return Ok(at);
         }

@@ -143,10 +143,7 @@ pub fn heads(alloc: Global, info: &[u8], origin: u64) -> Result<Vec<UnitHead>, R
                 }));
             }
         };
-        match push(&mut heads, head) {
-            Ok(()) => {}
-            Err(_) => return Err(Refusal::NoMemory),
-        }
+        push(&mut heads, head)?;
         at += head.len as usize;
     }
     Ok(heads)

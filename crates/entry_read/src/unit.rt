@@ -113,10 +113,7 @@ pub fn read_unit<'a>(
         origin,
     };
     let mut forest = Forest::new(alloc, info);
-    let end = match read_entries(alloc, &mut forest, info, table, &scope) {
-        Ok(end) => end,
-        Err(refusal) => return Err(refusal),
-    };
+    let end = read_entries(alloc, &mut forest, info, table, &scope)?;
     if !is_padding(&info[end..scope.end()]) {
         return Err(scope.refused(Kind::Tree, head.at as usize));
     }

@@ -107,12 +107,10 @@ pub fn pass_to_row(head: &Head, program: &[u8], start: Place) -> Result<Step, Fa
 {
     let mut place = start;
     while place.at < program.len() {
-        match pass_one(head, program, place) {
-            Ok(step) => match step.row {
-                Some(_) => return Ok(step),
-                None => place = step.place,
-            },
-            Err(fault) => return Err(fault),
+        let step = pass_one(head, program, place)?;
+        match step.row {
+            Some(_) => return Ok(step),
+            None => place = step.place,
         }
     }
     Ok(Step { place, row: None })

@@ -61,10 +61,7 @@ pub fn rows(alloc: Global, section: &[u8], head: &Head, origin: u64) -> Result<V
         if rows.len() >= ROW_LIMIT {
             return Err(Refusal::Refused(too_long(head, origin)));
         }
-        match push(&mut rows, row) {
-            Ok(()) => {}
-            Err(_) => return Err(Refusal::NoMemory),
-        }
+        push(&mut rows, row)?;
         place = step.place;
     }
 }
@@ -82,15 +79,14 @@ pub fn count_rows(section: &[u8], head: &Head, origin: u64) -> Result<usize, Fau
     let mut cursor = Cursor::new(head, origin);
     let mut count = 0;
     loop {
-        match cursor.next(section) {
-            Ok(None) => return Ok(count),
-            Ok(Some(_)) => {
+        match cursor.next(section)? {
+            None => return Ok(count),
+            Some(_) => {
                 if count >= ROW_LIMIT {
                     return Err(too_long(head, origin));
                 }
                 count += 1;
             }
-            Err(fault) => return Err(fault),
         }
     }
 }

@@ -50,9 +50,7 @@ pub fn read_lines(alloc: Global, section: &[u8], origin: u64) -> Result<Vec<Head
                 place: origin + at,
             }));
         }
-        let Ok(()) = push(&mut heads, head) else {
-            return Err(Refusal::NoMemory);
-        };
+        push(&mut heads, head)?;
         at += head.len;
     }
     Ok(heads)

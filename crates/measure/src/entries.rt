@@ -55,30 +55,19 @@ fn with_unit(
         entries: totals.entries,
         values: totals.values,
     };
-    match read_unit(alloc, info, head, table, before, 0) {
-        Ok(unit) => Ok(with_forest(totals, unit.forest())),
-        Err(refusal) => Err(refusal),
-    }
+    let unit = read_unit(alloc, info, head, table, before, 0)?;
+    Ok(with_forest(totals, unit.forest()))
 }
 
 /// The totals of all units of .debug_info, which have one table.
 pub fn totals_of_entries(alloc: Global, info: &[u8], table: &[u8]) -> Result<Totals, Refusal>
     requires { 0 < length table.now }
 {
-    let table = match Table::read(alloc, table, 0, 0) {
-        Ok(table) => table,
-        Err(refusal) => return Err(refusal),
-    };
-    let heads = match heads(alloc, info, 0) {
-        Ok(heads) => heads,
-        Err(refusal) => return Err(refusal),
-    };
+    let table = Table::read(alloc, table, 0, 0)?;
+    let heads = heads(alloc, info, 0)?;
     let mut totals = Totals::default();
     for head in heads.iter() {
-        totals = match with_unit(alloc, totals, info, head, &table) {
-            Ok(totals) => totals,
-            Err(refusal) => return Err(refusal),
-        };
+        totals = with_unit(alloc, totals, info, head, &table)?;
     }
     Ok(totals)
 }

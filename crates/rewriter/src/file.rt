@@ -56,9 +56,6 @@ pub fn rewrite(alloc: Global, file: &[u8]) -> Result<Vec<u8>, Refusal>
     ensures placed { IfOk result (λ written. IsPlaced file.now written.items) }
     ensures refused { IfErr result (λ refusal. NamesFault file.now Narrow refusal) }
 {
-    let world = match World::read(alloc, file, Reach::Narrow) {
-        Ok(world) => world,
-        Err(refusal) => return Err(refusal),
-    };
+    let world = World::read(alloc, file, Reach::Narrow)?;
     Ok(write_anew(alloc, &world)?)
 }

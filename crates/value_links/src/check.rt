@@ -240,10 +240,7 @@ fn check_unit(held: &Units<'_>, programs: &Vec<Head>, number: u32) -> Result<(),
 {
     let unit = unit_of(held, number);
     for id in 0..unit.forest().len() {
-        match check_entry(held, programs, number, id) {
-            Ok(()) => {}
-            Err(fault) => return Err(fault),
-        }
+        check_entry(held, programs, number, id)?;
     }
     if !is_typed(unit) {
         return Err(Fault {

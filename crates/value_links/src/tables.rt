@@ -102,20 +102,14 @@ pub(crate) fn read_named_tables(
 {
     // A law, which costs nothing: each declaration stands at its place.
     listings();
-    let tables = match read_tables(alloc, abbrevs, places, origin) {
-        Ok(tables) => tables,
-        Err(refusal) => return Err(refusal),
-    };
+    let tables = read_tables(alloc, abbrevs, places, origin)?;
     if let Some(place) = unbuilt_in(&tables) {
         return Err(Refusal::Refused(Fault {
             kind: Kind::Unbuilt,
             place: origin + place,
         }));
     }
-    match named(alloc, places, tables) {
-        Ok(named) => Ok(named),
-        Err(_) => Err(Refusal::NoMemory),
-    }
+    Ok(named(alloc, places, tables)?)
 }
 
 // The number of a place among places that rise, which is one of them.

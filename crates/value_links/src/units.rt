@@ -68,10 +68,7 @@ fn named_heads(
     ensures inside { IfOk result (λ all. (u : ℕ) → u < length all.items → (head_numbered all.items u).table < length abbrevs.now) }
     ensures fault { IfErr result (IsRefusedFor (IsFaultOf (InfoFault info.now abbrevs.now) origin)) }
 {
-    let all = match heads(alloc, info, origin) {
-        Ok(all) => all,
-        Err(refusal) => return Err(refusal),
-    };
+    let all = heads(alloc, info, origin)?;
     match check_offsets(&all, abbrevs.len(), origin) {
         Ok(()) => Ok(all),
         Err(fault) => Err(Refusal::Refused(fault)),
@@ -120,14 +117,9 @@ fn read_each<'a>(
     };
     for (number, head) in heads.iter().enumerate() {
         let table = &tables[numbers[number] as usize].table;
-        let unit = match read_unit(alloc, info, head, table, before, origin) {
-            Ok(unit) => unit,
-            Err(refusal) => return Err(refusal),
-        };
+        let unit = read_unit(alloc, info, head, table, before, origin)?;
         before = counted(before, &unit);
-        let Ok(()) = push_unit(&mut units, unit) else {
-            return Err(Refusal::NoMemory);
-        };
+        push_unit(&mut units, unit)?;
     }
     Ok(units)
 }
@@ -150,30 +142,15 @@ pub fn read_units<'a>(
     ensures read { IfOk result (λ units. AreUnitsHeld info.entry.now abbrevs.now units) }
     ensures fault { IfErr result (IsRefusedFor (IsUnitsFault info.entry.now abbrevs.now info_origin abbrev_origin)) }
 {
-    let all = match named_heads(alloc, info, abbrevs, info_origin) {
-        Ok(all) => all,
-        Err(refusal) => return Err(refusal),
-    };
-    let Ok(places) = table_places(alloc, &all) else {
-        return Err(Refusal::NoMemory);
-    };
+    let all = named_heads(alloc, info, abbrevs, info_origin)?;
+    let places = table_places(alloc, &all)?;
     if places.len() > MOST_TABLES {
         return Err(Refusal::NoMemory);
     }
-    let whole = match read_named_tables(alloc, &places, abbrevs, abbrev_origin) {
-        Ok(whole) => whole,
-        Err(refusal) => return Err(refusal),
-    };
-    let Ok(table_of) = table_numbers(alloc, &all, &places) else {
-        return Err(Refusal::NoMemory);
-    };
-    let mut units = match read_each(alloc, info, &all, &whole, &table_of, info_origin) {
-        Ok(units) => units,
-        Err(refusal) => return Err(refusal),
-    };
-    let Ok(tables) = keep_used(alloc, &mut units, &whole, &table_of) else {
-        return Err(Refusal::NoMemory);
-    };
+    let whole = read_named_tables(alloc, &places, abbrevs, abbrev_origin)?;
+    let table_of = table_numbers(alloc, &all, &places)?;
+    let mut units = read_each(alloc, info, &all, &whole, &table_of, info_origin)?;
+    let tables = keep_used(alloc, &mut units, &whole, &table_of)?;
     Ok(Units {
         units,
         tables,

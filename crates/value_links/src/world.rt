@@ -45,10 +45,7 @@ fn read_image<'a>(alloc: Global, file: &'a [u8], reach: Reach) -> Result<Image<'
     ensures order { OnOk result (IsImageInOrder file.entry.now reach) }
     ensures refused { IfErr result (λ refusal. NamesFault file.entry.now reach refusal) }
 {
-    let image = match Image::read(alloc, file, reach) {
-        Ok(image) => image,
-        Err(refusal) => return Err(refusal),
-    };
+    let image = Image::read(alloc, file, reach)?;
     if let Some(place) = list_section(&image) {
         return Err(Refusal::Refused(Fault {
             kind: Kind::Unbuilt,
@@ -84,10 +81,7 @@ fn read_linked<'a>(
 {
     let info = debug_section(file, image, b".debug_info".as_slice());
     let abbrev = debug_section(file, image, b".debug_abbrev".as_slice());
-    let units = match read_units(alloc, info.bytes, abbrev.bytes, info.origin, abbrev.origin) {
-        Ok(units) => units,
-        Err(refusal) => return Err(refusal),
-    };
+    let units = read_units(alloc, info.bytes, abbrev.bytes, info.origin, abbrev.origin)?;
     match check_links(&units, programs, info.bytes, abbrev.bytes, info.origin) {
         Ok(()) => Ok(units),
         Err(fault) => Err(Refusal::Refused(fault)),
@@ -116,9 +110,7 @@ fn read_sets<'a>(
     ensures sets { IfOk result (λ sets. SetsTile (debug_aranges file.now) (starts_of units.now.units.items) sets.items) }
     ensures refused { IfErr result (NamesLaterFault file.now) }
 {
-    let Ok(starts) = unit_starts(alloc, &units.units) else {
-        return Err(Refusal::NoMemory);
-    };
+    let starts = unit_starts(alloc, &units.units)?;
     let aranges = debug_section(file, image, b".debug_aranges".as_slice());
     read_aranges(alloc, aranges.bytes, &starts, aranges.origin)
 }
@@ -153,22 +145,10 @@ impl<'a> World<'a> {
         ensures world { IfOk result (λ world. IsWorldOf file.entry.now reach world) }
         ensures refused { IfErr result (λ refusal. NamesFault file.entry.now reach refusal) }
     {
-        let image = match read_image(alloc, file, reach) {
-            Ok(image) => image,
-            Err(refusal) => return Err(refusal),
-        };
-        let programs = match read_programs(alloc, file, &image) {
-            Ok(programs) => programs,
-            Err(refusal) => return Err(refusal),
-        };
-        let units = match read_linked(alloc, file, &image, &programs) {
-            Ok(units) => units,
-            Err(refusal) => return Err(refusal),
-        };
-        let sets = match read_sets(alloc, file, &image, &programs, &units) {
-            Ok(sets) => sets,
-            Err(refusal) => return Err(refusal),
-        };
+        let image = read_image(alloc, file, reach)?;
+        let programs = read_programs(alloc, file, &image)?;
+        let units = read_linked(alloc, file, &image, &programs)?;
+        let sets = read_sets(alloc, file, &image, &programs, &units)?;
         Ok(World {
             image,
             programs,

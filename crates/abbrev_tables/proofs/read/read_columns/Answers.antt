@@ -8,7 +8,7 @@ use Rattle.abbrev_tables.proofs.read.read_columns.Goals as goal
 pub loop-at-preserved : goal.loop-at-preserved
 loop-at-preserved c =
     let read = rw take_rest at c.in-Ok.ensures.read in
-    let more = step_more c.args.specs.now.items c.loop-at.specs.items c.push.new.specs.items c.args.rest.now c.in-Column.column c.loop-at.at c.in-Ok.read.end c.in-Ok.read.step c.loop-at.invariant.inside c.loop-at.invariant.spelled read.0 read.2 c.in-Column.is c.in-Ok-push.ensures in
+    let more = step_more c.args.specs.now.items c.loop-at.specs.items c.push.new.specs.items c.args.rest.now c.in-Column.column c.loop-at.at c.in-Ok.read.end c.in-Ok.read.step c.loop-at.invariant.inside c.loop-at.invariant.spelled read.0 read.2 c.in-Column.is c.in_ok-push-in-Column.ensures in
     record { inside = more.0; spelled = more.1 }
 
 pub returns-in-End-clause-read : goal.returns-in-End-clause-read

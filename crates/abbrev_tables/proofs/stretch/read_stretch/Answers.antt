@@ -16,10 +16,10 @@ returns-in-Err-Fault-clause-fault c =
     subst (λ (f : FaultAt). (f.at ≤ length c.args.rest.now) × FaultTable f.kind f.at c.args.rest.now) (sym c.fault_after.ensures)
     (front_fails c.args.rest.now c.args.start c.loop-at.at c.in-Err-Fault.fault.at c.in-Err-Fault.fault.kind c.loop-at.decls.items c.loop-at.specs.items c.loop-at.invariant.front fault.0 fault.1)
 
-pub returns-in-Ok-false-clause-fault : goal.returns-in-Ok-false-clause-fault
-returns-in-Ok-false-clause-fault c =
-    let t : c.in-Ok-false.field-0 ≡ false = search rules in
-    let added = is_added c.loop-at.decls.items c.add.new.decls.items c.declaration-decl.result c.add.new.others c.in-Ok-false.field-0 false t c.in-Ok-false.ensures in
+pub returns-then-not-is_new-clause-fault : goal.returns-then-not-is_new-clause-fault
+returns-then-not-is_new-clause-fault c =
+    let t : c.in_ok-is_new.is_new ≡ false = search rules in
+    let added = is_added c.loop-at.decls.items c.add.new.decls.items c.declaration-decl.result c.add.new.others c.in_ok-is_new.is_new false t c.in_ok-is_new.ensures in
     let e : c.declaration-decl.result.code ≡ c.in-Some-head.head.code = ap (λ z. z.code) c.declaration-decl.ensures in
     subst (λ (z : Stop). IsStop FaultTable c.args.rest.now z) (sym c.fault_at.ensures)
     (front_again c.args.rest.now c.args.start c.loop-at.at c.loop-at.decls.items c.loop-at.specs.items c.read_declared.new.specs.items c.in-Ok.read c.in-Some-head.head c.loop-at.invariant.front (rw take_rest at c.in-Ok.ensures.read) c.in-Some-head.is
@@ -27,8 +27,8 @@ returns-in-Ok-false-clause-fault c =
 
 pub loop-at-preserved : goal.loop-at-preserved
 loop-at-preserved c =
-    let t : c.in-Ok-true.field-0 ≡ true = search rules in
-    let added = is_added c.loop-at.decls.items c.add.new.decls.items c.declaration-decl.result c.add.new.others c.in-Ok-true.field-0 true t c.in-Ok-true.ensures in
+    let t : c.in_ok-is_new.is_new ≡ true = search rules in
+    let added = is_added c.loop-at.decls.items c.add.new.decls.items c.declaration-decl.result c.add.new.others c.in_ok-is_new.is_new true t c.in_ok-is_new.ensures in
     let first : c.len-first.result ≡ length c.loop-at.specs.items = search rules in
     let last : c.len-last.result ≡ length c.read_declared.new.specs.items = search rules in
     record {

@@ -25,7 +25,7 @@ loop-at-preserved c =
     let inside : set_end section at ≤ length section = c.in-Some.ensures.0.inside in
     let stands : IsSet section starts set = subst (λ (z : List ℕ). IsSet section z set) c.deref.ensures.value c.in-Some-parse.ensures.1 in
     let more = follow_push section starts c.loop-at.sets.items set 0 at c.loop-at.invariant.front c.in-Some-parse.ensures.0 stands in
-    let held = subst (λ (z : List ArangeSet). SetsFollow section starts z 0 (set_end section at)) (sym c.in-Ok.ensures) more in
+    let held = subst (λ (z : List ArangeSet). SetsFollow section starts z 0 (set_end section at)) (sym c.in_ok-push.ensures) more in
     record { inside = omega arith; front = subst (λ (z : ℕ). SetsFollow section starts c.push.new.sets.items 0 z) (sym ends) held }
 
 pub returns-clause-whole : goal.returns-clause-whole

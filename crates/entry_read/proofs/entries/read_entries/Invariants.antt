@@ -5,11 +5,11 @@ use Rattle.entry_read.specs.Units.{declarations_of, end_of}
 use Rattle.entry_read.specs.Readings.{HasFront}
 use Rattle.entry_read.proofs.entries.read_entries.Given as goal
 
-abbrev pub invariant-loop-to : goal.invariant-loop-to
-invariant-loop-to l = record {
+abbrev pub invariant-loop-chains : goal.invariant-loop-chains
+invariant-loop-chains l = record {
   front : HasFront l.info l.scope.head (declarations_of l.table) l.scope.before l.forest (reverse l.chains.items) l.at;
   going : IsGoing (listed_to l.forest l.at) (reverse l.chains.items);
 }
 
-abbrev pub decreases-loop-to : goal.decreases-loop-to
-decreases-loop-to l = end_of l.scope.head - l.at
+abbrev pub decreases-loop-chains : goal.decreases-loop-chains
+decreases-loop-chains l = end_of l.scope.head - l.at

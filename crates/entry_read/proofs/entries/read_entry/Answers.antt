@@ -8,33 +8,33 @@ use Rattle.entry_read.proofs.entries.read_entry.Goals as goal
 
 pub overflow_sub-entry : goal.overflow_sub-entry
 overflow_sub-entry c =
-    let a = c.in-Ok.ensures.read in
-    let rise : c.args.start.values_at ≤ c.in-Ok.to = values_rise c.args.info.now c.columns_of-columns.result.now a.values c.args.start.values_at c.in-Ok.to a.valued in
+    let a = c.in_ok-to.ensures.read in
+    let rise : c.args.start.values_at ≤ c.in_ok-to.to = values_rise c.args.info.now c.columns_of-columns.result.now a.values c.args.start.values_at c.in_ok-to.to a.valued in
     omega (arith, c.requires.some)
 
 pub push_entry-requires : goal.push_entry-requires
 push_entry-requires c =
     let start = c.args.start in
     let w = c.requires.walked in
-    let adds = subst (λ (z : List Spec). AddsValues c.args.info.now z c.args.forest.now start.values_at c.read_values.new.forest c.in-Ok.to) c.columns_of-columns.ensures.columns c.in-Ok.ensures.read in
-    pushed_entry c.args.info.now (declarations_of c.args.table.now) c.args.forest.now c.read_values.new.forest w.0 start.depth start.number start.at start.values_at c.in-Ok.to c.value_count-first.result c.value_count.result w.2 w.1 c.requires.number c.requires.coded adds c.value_count-first.ensures c.value_count.ensures
+    let adds = subst (λ (z : List Spec). AddsValues c.args.info.now z c.args.forest.now start.values_at c.read_values.new.forest c.in_ok-to.to) c.columns_of-columns.ensures.columns c.in_ok-to.ensures.read in
+    pushed_entry c.args.info.now (declarations_of c.args.table.now) c.args.forest.now c.read_values.new.forest w.0 start.depth start.number start.at start.values_at c.in_ok-to.to c.value_count-first.result c.value_count.result w.2 w.1 c.requires.number c.requires.coded adds c.value_count-first.ensures c.value_count.ensures
 
-pub returns-in-Ok-push_entry-clause-within : goal.returns-in-Ok-push_entry-clause-within
-returns-in-Ok-push_entry-clause-within c =
-    let a = c.in-Ok.ensures.read in
-    let rise : c.args.start.values_at ≤ c.in-Ok.to = values_rise c.args.info.now c.columns_of-columns.result.now a.values c.args.start.values_at c.in-Ok.to a.valued in
-    (omega (arith, c.requires.some), c.in-Ok.ensures.within)
+pub returns-clause-within : goal.returns-clause-within
+returns-clause-within c =
+    let a = c.in_ok-to.ensures.read in
+    let rise : c.args.start.values_at ≤ c.in_ok-to.to = values_rise c.args.info.now c.columns_of-columns.result.now a.values c.args.start.values_at c.in_ok-to.to a.valued in
+    (omega (arith, c.requires.some), c.in_ok-to.ensures.within)
 
-pub returns-in-Ok-push_entry-clause-section : goal.returns-in-Ok-push_entry-clause-section
-returns-in-Ok-push_entry-clause-section c =
+pub returns-clause-section : goal.returns-clause-section
+returns-clause-section c =
     let start = c.args.start in
     let w = c.requires.walked in
-    let adds = subst (λ (z : List Spec). AddsValues c.args.info.now z c.args.forest.now start.values_at c.read_values.new.forest c.in-Ok.to) c.columns_of-columns.ensures.columns c.in-Ok.ensures.read in
-    (listed_entry c.args.info.now (declarations_of c.args.table.now) c.args.forest.now c.read_values.new.forest w.0 start.depth start.number start.at start.values_at c.in-Ok.to c.value_count-first.result c.value_count.result w.2 w.1 c.requires.number c.requires.coded adds c.value_count-first.ensures c.value_count.ensures c.push_entry.new.self c.in-Ok-push_entry.ensures.pushed.1).0
+    let adds = subst (λ (z : List Spec). AddsValues c.args.info.now z c.args.forest.now start.values_at c.read_values.new.forest c.in_ok-to.to) c.columns_of-columns.ensures.columns c.in_ok-to.ensures.read in
+    (listed_entry c.args.info.now (declarations_of c.args.table.now) c.args.forest.now c.read_values.new.forest w.0 start.depth start.number start.at start.values_at c.in_ok-to.to c.value_count-first.result c.value_count.result w.2 w.1 c.requires.number c.requires.coded adds c.value_count-first.ensures c.value_count.ensures c.push_entry.new.self c.in_ok-push_entry.ensures.pushed.1).0
 
-pub returns-in-Ok-push_entry-clause-read : goal.returns-in-Ok-push_entry-clause-read
-returns-in-Ok-push_entry-clause-read c =
+pub returns-clause-read : goal.returns-clause-read
+returns-clause-read c =
     let start = c.args.start in
     let w = c.requires.walked in
-    let adds = subst (λ (z : List Spec). AddsValues c.args.info.now z c.args.forest.now start.values_at c.read_values.new.forest c.in-Ok.to) c.columns_of-columns.ensures.columns c.in-Ok.ensures.read in
-    (listed_entry c.args.info.now (declarations_of c.args.table.now) c.args.forest.now c.read_values.new.forest w.0 start.depth start.number start.at start.values_at c.in-Ok.to c.value_count-first.result c.value_count.result w.2 w.1 c.requires.number c.requires.coded adds c.value_count-first.ensures c.value_count.ensures c.push_entry.new.self c.in-Ok-push_entry.ensures.pushed.1).1
+    let adds = subst (λ (z : List Spec). AddsValues c.args.info.now z c.args.forest.now start.values_at c.read_values.new.forest c.in_ok-to.to) c.columns_of-columns.ensures.columns c.in_ok-to.ensures.read in
+    (listed_entry c.args.info.now (declarations_of c.args.table.now) c.args.forest.now c.read_values.new.forest w.0 start.depth start.number start.at start.values_at c.in_ok-to.to c.value_count-first.result c.value_count.result w.2 w.1 c.requires.number c.requires.coded adds c.value_count-first.ensures c.value_count.ensures c.push_entry.new.self c.in_ok-push_entry.ensures.pushed.1).1

@@ -23,12 +23,12 @@ push_chain_end-requires c =
     let coded = subst (λ (z : ℕ). SpellsBetween (Uleb z) c.args.info.now c.args.at c.in-Ok.code.end) c.if-code-ne0.false c.in-Ok.ensures.read.2 in
     pushed_end c.args.info.now scope.head ds scope.before c.args.forest.now (reverse c.args.chains.now.items) (reverse c.pop.new.self.items) c.in-Some.id c.args.at c.in-Ok.code.end c.requires.front chains coded
 
-pub returns-in-Ok-push_chain_end-clause-front : goal.returns-in-Ok-push_chain_end-clause-front
-returns-in-Ok-push_chain_end-clause-front c =
+pub returns-clause-front : goal.returns-clause-front
+returns-clause-front c =
     let scope = c.args.scope.now in
     let ds = declarations_of c.args.table.now in
     let end : c.end-end.result ≡ end_of scope.head = c.end-end.ensures in
     let inside : c.in-Ok.code.end ≤ c.end-end.result = c.in-Ok.ensures.read.1 in
     let chains = innermost c.args.chains.now.items c.pop.new.self.items c.in-Some.id c.in-Some.ensures.items in
     let coded = subst (λ (z : ℕ). SpellsBetween (Uleb z) c.args.info.now c.args.at c.in-Ok.code.end) c.if-code-ne0.false c.in-Ok.ensures.read.2 in
-    front_end c.args.info.now scope.head ds scope.before c.args.forest.now (reverse c.args.chains.now.items) (reverse c.pop.new.self.items) c.in-Some.id c.args.at c.in-Ok.code.end c.requires.front chains coded c.push_chain_end.new.self c.in-Ok-push_chain_end.ensures.pushed (omega arith)
+    front_end c.args.info.now scope.head ds scope.before c.args.forest.now (reverse c.args.chains.now.items) (reverse c.pop.new.self.items) c.in-Some.id c.args.at c.in-Ok.code.end c.requires.front chains coded c.push_chain_end.new.self c.in_ok-push_chain_end.ensures.pushed (omega arith)

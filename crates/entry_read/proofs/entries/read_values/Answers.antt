@@ -16,7 +16,7 @@ loop-column-preserved c =
     let read = simp to_z-of_z at c.in-Ok.ensures.read in
     record {
       inside = read.inside;
-      adds = value_added c.args.info.now c.args.forest.now c.loop-column.forest c.push_value.new.self c.args.from c.loop-column.at c.args.end c.loop-column.column-index c.args.columns.now c.in-Ok.read c.loop-column-test.true c.loop-column.invariant.adds read c.requires.inside c.in-Ok-push_value.ensures.pushed.1;
+      adds = value_added c.args.info.now c.args.forest.now c.loop-column.forest c.push_value.new.self c.args.from c.loop-column.at c.args.end c.loop-column.column-index c.args.columns.now c.in-Ok.read c.loop-column-test.true c.loop-column.invariant.adds read c.requires.inside c.in_ok-push_value.ensures.pushed.1;
     }
 
 pub returns-in-Err-clause-fault : goal.returns-in-Err-clause-fault

@@ -14,7 +14,7 @@ loop-at-preserved c =
     let all = follow_push info c.loop-at.heads.items head 0 c.loop-at.at c.loop-at.invariant.front r.0 r.1 in
     record {
       inside = omega arith;
-      front = subst (λ (z : List UnitHead). Follow info z 0 (c.loop-at.at + head.len)) (sym c.in-Ok-push.ensures) all;
+      front = subst (λ (z : List UnitHead). Follow info z 0 (c.loop-at.at + head.len)) (sym c.in_ok-push.ensures) all;
     }
 
 pub returns-clause-whole : goal.returns-clause-whole

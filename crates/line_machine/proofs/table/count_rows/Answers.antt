@@ -1,4 +1,4 @@
-use Rattle.std.proofs.Common.{refl, sym, subst, arith}
+use Rattle.std.proofs.Common.{refl, sym, subst, arith, rules}
 use Rattle.dw_base.specs.declared.fault.Fault.{Fault}
 use Rattle.dw_base.specs.Refusals.{IsFaultOf}
 use Rattle.line_machine.specs.Faults.{ProgramFault}
@@ -11,31 +11,32 @@ loop-count-init c = record {
   few = omega arith;
 }
 
-pub returns-in-Ok-None-clause-counted : goal.returns-in-Ok-None-clause-counted
-returns-in-Ok-None-clause-counted c =
-    let row = rw c.in-Ok-None.field-0-is at c.in-Ok-None.ensures.row in
+pub returns-in-None-clause-counted : goal.returns-in-None-clause-counted
+returns-in-None-clause-counted c =
+    let row = rw c.in-None.is at c.in_ok-next.ensures.row in
     counting_all c.args.section.now c.args.head.now c.args.origin c.loop-count.cursor c.loop-count.count c.loop-count.invariant.counting c.next.new.self row
 
-pub returns-in-Ok-None-clause-whole : goal.returns-in-Ok-None-clause-whole
-returns-in-Ok-None-clause-whole c =
-    let row = rw c.in-Ok-None.field-0-is at c.in-Ok-None.ensures.row in
+pub returns-in-None-clause-whole : goal.returns-in-None-clause-whole
+returns-in-None-clause-whole c =
+    let row = rw c.in-None.is at c.in_ok-next.ensures.row in
     counted_whole c.args.section.now c.args.head.now c.loop-count.count c.requires.head (counting_all c.args.section.now c.args.head.now c.args.origin c.loop-count.cursor c.loop-count.count c.loop-count.invariant.counting c.next.new.self row) c.loop-count.invariant.few
 
 pub loop-count-preserved : goal.loop-count-preserved
 loop-count-preserved c =
-    let row = rw c.in-Ok-Some.field-0-is at c.in-Ok-Some.ensures.row in
+    let row = rw c.in-Some.is at c.in_ok-next.ensures.row in
     record {
-      counting = counting_on c.args.section.now c.args.head.now c.args.origin c.loop-count.cursor c.loop-count.count c.loop-count.invariant.counting c.next.new.self c.in-Ok-Some.field-0-0 c.next.ensures.stands c.next.ensures.head c.next.ensures.origin row;
+      counting = counting_on c.args.section.now c.args.head.now c.args.origin c.loop-count.cursor c.loop-count.count c.loop-count.invariant.counting c.next.new.self c.in-Some.field-0 c.next.ensures.stands c.next.ensures.head c.next.ensures.origin row;
       few = omega arith;
     }
 
 pub returns-then-count-ge-ROW_LIMIT-clause-fault : goal.returns-then-count-ge-ROW_LIMIT-clause-fault
 returns-then-count-ge-ROW_LIMIT-clause-fault c =
     let head = c.args.head.now in
-    let row = rw c.in-Ok-Some.field-0-is at c.in-Ok-Some.ensures.row in
-    let long = counting_long c.args.section.now head c.args.origin c.loop-count.cursor c.loop-count.count c.loop-count.invariant.counting c.next.new.self c.in-Ok-Some.field-0-0 row (omega arith) in
+    let row = rw c.in-Some.is at c.in_ok-next.ensures.row in
+    let long = counting_long c.args.section.now head c.args.origin c.loop-count.cursor c.loop-count.count c.loop-count.invariant.counting c.next.new.self c.in-Some.field-0 row (omega arith) in
     subst (λ (f : Fault). IsFaultOf (ProgramFault c.args.section.now head) c.args.origin f) (sym c.too_long.ensures) (head.at, refl, (refl, long))
 
-pub returns-in-Err-clause-fault : goal.returns-in-Err-clause-fault
-returns-in-Err-clause-fault c =
-    counting_fault c.args.section.now c.args.head.now c.args.origin c.loop-count.cursor c.loop-count.count c.loop-count.invariant.counting c.in-Err.fault c.in-Err.ensures.fault
+pub returns-in_err-next-clause-fault : goal.returns-in_err-next-clause-fault
+returns-in_err-next-clause-fault c =
+    let counted = counting_fault c.args.section.now c.args.head.now c.args.origin c.loop-count.cursor c.loop-count.count c.loop-count.invariant.counting c.in_err-next.field-0.0 c.in_err-next.ensures.fault in
+    search (rules, counted)

@@ -53,11 +53,11 @@ loop-step-preserved c =
     let program = program_of c.args.section.now head in
     let passed = subst (λ (z : Option Row). PassesOn head program c.loop-step.place c.in-Ok.step.place (rows_in z)) c.in-Some.is c.in-Ok.ensures.passed in
     let all = listed_on head program c.loop-step.place c.in-Ok.step.place c.loop-step.rows.items (c.in-Some.row ∷ []) c.loop-step.invariant.listed passed in
-    let size : length c.push.new.rows.items ≡ length c.loop-step.rows.items + 1 = ap length c.in-Ok-push.ensures ∙ length-append c.loop-step.rows.items (c.in-Some.row ∷ []) in
+    let size : length c.push.new.rows.items ≡ length c.loop-step.rows.items + 1 = ap length c.in_ok-push.ensures ∙ length-append c.loop-step.rows.items (c.in-Some.row ∷ []) in
     record {
       inside = c.in-Ok.ensures.within.1;
       near = c.in-Ok.ensures.near;
-      listed = subst (λ (z : List Row). Listed head program c.in-Ok.step.place z) (sym c.in-Ok-push.ensures) all;
+      listed = subst (λ (z : List Row). Listed head program c.in-Ok.step.place z) (sym c.in_ok-push.ensures) all;
       few = omega (arith, c.len.ensures);
     }
 

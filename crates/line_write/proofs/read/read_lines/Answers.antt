@@ -19,7 +19,7 @@ returns-then-total-gt-TOTAL_LIMIT-clause-fault c = (
 
 pub loop-at-preserved : goal.loop-at-preserved
 loop-at-preserved c = record {
-  reading = reading_on c.args.section.now c.args.origin c.loop-at.at c.loop-at.total c.loop-at.heads.items c.loop-at.invariant.reading c.in-Ok.head c.in-Ok.ensures.place c.in-Ok.ensures.head c.in-Ok-count_rows.count c.push.new.heads.items c.in-Ok-count_rows.ensures.counted c.in-Ok-count_rows.ensures.few c.if-total-gt-TOTAL_LIMIT.false c.in-Ok-push.ensures;
+  reading = reading_on c.args.section.now c.args.origin c.loop-at.at c.loop-at.total c.loop-at.heads.items c.loop-at.invariant.reading c.in-Ok.head c.in-Ok.ensures.place c.in-Ok.ensures.head c.in-Ok-count_rows.count c.push.new.heads.items c.in-Ok-count_rows.ensures.counted c.in-Ok-count_rows.ensures.few c.if-total-gt-TOTAL_LIMIT.false c.in_ok-push.ensures;
 }
 
 pub returns-clause-read : goal.returns-clause-read

@@ -1,19 +1,19 @@
 use Rattle.rewriter.proofs.file.rewrite.Goals as goal
 
 pub returns-clause-same : goal.returns-clause-same
-returns-clause-same c = (rw c.in-Ok.ensures.world.holds.image at c.in_ok-write_anew.ensures.rewritten).same
+returns-clause-same c = (rw c.in_ok-world.ensures.world.holds.image at c.in_ok-write_anew.ensures.rewritten).same
 
 pub returns-clause-still_valid : goal.returns-clause-still_valid
-returns-clause-still_valid c = (rw c.in-Ok.ensures.world.holds.image at c.in_ok-write_anew.ensures.rewritten).still_valid
+returns-clause-still_valid c = (rw c.in_ok-world.ensures.world.holds.image at c.in_ok-write_anew.ensures.rewritten).still_valid
 
 pub returns-clause-least : goal.returns-clause-least
-returns-clause-least c = (rw c.in-Ok.ensures.world.holds.image at c.in_ok-write_anew.ensures.rewritten).least
+returns-clause-least c = (rw c.in_ok-world.ensures.world.holds.image at c.in_ok-write_anew.ensures.rewritten).least
 
 pub returns-clause-order : goal.returns-clause-order
-returns-clause-order c = (rw c.in-Ok.ensures.world.holds.image at c.in_ok-write_anew.ensures.rewritten).order
+returns-clause-order c = (rw c.in_ok-world.ensures.world.holds.image at c.in_ok-write_anew.ensures.rewritten).order
 
 pub returns-clause-tidy : goal.returns-clause-tidy
-returns-clause-tidy c = (rw c.in-Ok.ensures.world.holds.image at c.in_ok-write_anew.ensures.rewritten).tidy
+returns-clause-tidy c = (rw c.in_ok-world.ensures.world.holds.image at c.in_ok-write_anew.ensures.rewritten).tidy
 
 pub returns-clause-codes : goal.returns-clause-codes
-returns-clause-codes c = (rw c.in-Ok.ensures.world.holds.image at c.in_ok-write_anew.ensures.rewritten).codes
+returns-clause-codes c = (rw c.in_ok-world.ensures.world.holds.image at c.in_ok-write_anew.ensures.rewritten).codes

@@ -19,7 +19,7 @@ pub loop-id-preserved : goal.loop-id-preserved
 loop-id-preserved c = λ (file : List ℕ) (r : Reading) (parts : AreParts file r c.args.held.now c.args.programs.now.items).
     let all : c.len-id-end.result ≡ length (held_at c.args.held.now.units.items c.args.number).forest.entries = c.len-id-end.ensures ∙ ap (λ z. length z.entries) (c.forest.ensures ∙ ap (λ z. z.forest) c.unit_of-unit.ensures) in
     let known : c.loop-id.id < length (held_at c.args.held.now.units.items c.args.number).forest.entries = subst (λ (z : ℕ). c.loop-id.id < z) all c.loop-id-test.true in
-    let here = entry_linked file r c.args.held.now c.args.programs.now.items parts c.args.number c.requires.number c.loop-id.id known (c.in-Ok.ensures.linked file r parts) in
+    let here = entry_linked file r c.args.held.now c.args.programs.now.items parts c.args.number c.requires.number c.loop-id.id known (c.in_ok-check_entry.ensures.linked file r parts) in
     below_more (λ (id : ℕ). AreColumnsLinked r c.args.number id (entry_of (unit_at r c.args.number) id).count) c.loop-id.id (c.loop-id.invariant file r parts) here
 
 -- what is known of the unit where it isn't typed

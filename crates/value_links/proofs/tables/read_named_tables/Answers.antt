@@ -1,4 +1,4 @@
-use Rattle.std.proofs.Common.{◌≤◌, ◌<◌, ◌+◌, ◌^◌, ◌∙◌, ℕ, List, length, get_or, ap, sym, subst, arith}
+use Rattle.std.proofs.Common.{◌≤◌, ◌<◌, ◌+◌, ◌^◌, ◌∙◌, ℕ, List, length, get_or, ap, sym, subst, arith, rules}
 use Rattle.std.specs.List.{All}
 use Rattle.std.proofs.lemmas.List.{get_or_default}
 use Rattle.std.proofs.lemmas.Grind.{get_or_default_zero}
@@ -13,14 +13,16 @@ use Rattle.value_links.proofs.tables.read_named_tables.Goals as goal
 pub read_tables-requires : goal.read_tables-requires
 read_tables-requires c = record { inside = λ k d inside. c.requires.inside (get_or c.args.places.now k d) (k, inside, get_or_default c.args.places.now k (get_or c.args.places.now k d) d inside) }
 
-pub returns-in-Err-clause-fault : goal.returns-in-Err-clause-fault
-returns-in-Err-clause-fault c = tables_refused c.args.abbrevs.now c.args.places.now c.args.origin c.in-Err.refusal c.requires.inside c.requires.room c.in-Err.ensures.fault
+pub returns-in_err-tables-clause-fault : goal.returns-in_err-tables-clause-fault
+returns-in_err-tables-clause-fault c =
+    let refused = tables_refused c.args.abbrevs.now c.args.places.now c.args.origin c.in_err-tables.field-0.0 c.requires.inside c.requires.room c.in_err-tables.ensures.fault in
+    search (rules, refused)
 
 pub overflow_add-result : goal.overflow_add-result
 overflow_add-result c =
     let places = c.args.places.now in
-    let tables = c.in-Ok.tables.items in
-    let are = c.in-Ok.ensures.tables in
+    let tables = c.in_ok-tables.tables.items in
+    let are = c.in_ok-tables.ensures.tables in
     let (i, i_in, (number, (inside, short), at)) = subst (λ (z : List TableRead). (i : ℕ) × (i < length z) × IsUnbuiltPlace (read_at z i) c.in-Some.place) c.deref.ensures.value c.in-Some.ensures in
     let here : i < length places = omega (arith, i_in, are.count) in
     let named : get_or places i 0 < length c.args.abbrevs.now = c.requires.inside (get_or places i 0) (i, here, get_or_default_zero places i (get_or places i 0) here) in
@@ -32,22 +34,22 @@ overflow_add-result c =
 pub returns-in-Some-clause-fault : goal.returns-in-Some-clause-fault
 returns-in-Some-clause-fault c =
     let places = c.args.places.now in
-    let tables = c.in-Ok.tables.items in
-    let are = c.in-Ok.ensures.tables in
+    let tables = c.in_ok-tables.tables.items in
+    let are = c.in_ok-tables.ensures.tables in
     let (i, i_in, (number, (inside, short), at)) = subst (λ (z : List TableRead). (i : ℕ) × (i < length z) × IsUnbuiltPlace (read_at z i) c.in-Some.place) c.deref.ensures.value c.in-Some.ensures in
     let here : i < length places = omega (arith, i_in, are.count) in
     (get_or places i 0, (i, here, get_or_default_zero places i (get_or places i 0) here), unbuilt_fault c.listings.ensures.stand c.args.abbrevs.now (get_or places i 0) (read_at tables i).table number c.in-Some.place c.args.origin (are.stands i here) inside short at)
 
-pub returns-in-Ok-named-clause-places : goal.returns-in-Ok-named-clause-places
-returns-in-Ok-named-clause-places c = ap places_of c.in-Ok-named.ensures ∙ with_places_are c.args.places.now c.in-Ok.tables.items c.in-Ok.ensures.tables.count
+pub returns-clause-places : goal.returns-clause-places
+returns-clause-places c = ap places_of c.in_ok-named.ensures ∙ with_places_are c.args.places.now c.in_ok-tables.tables.items c.in_ok-tables.ensures.tables.count
 
-pub returns-in-Ok-named-clause-each : goal.returns-in-Ok-named-clause-each
-returns-in-Ok-named-clause-each c =
+pub returns-clause-each : goal.returns-clause-each
+returns-clause-each c =
     let places = c.args.places.now in
-    let tables = c.in-Ok.tables.items in
-    let are = c.in-Ok.ensures.tables in
+    let tables = c.in_ok-tables.tables.items in
+    let are = c.in_ok-tables.ensures.tables in
     let fresh = subst (λ (z : List TableRead). (i : ℕ) → i < length z → IsFreshBuilt (read_at z i)) c.deref.ensures.value c.in_default.ensures in
-    subst (All (IsNamed c.args.abbrevs.now)) (sym c.in-Ok-named.ensures) (with_places_have (IsNamed c.args.abbrevs.now) places tables are.count (λ i less.
+    subst (All (IsNamed c.args.abbrevs.now)) (sym c.in_ok-named.ensures) (with_places_have (IsNamed c.args.abbrevs.now) places tables are.count (λ i less.
     let here : i < length places = omega (arith, less, are.count) in
     record {
       inside = c.requires.inside (get_or places i 0) (i, here, get_or_default_zero places i (get_or places i 0) here);

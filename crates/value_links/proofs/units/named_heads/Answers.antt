@@ -4,8 +4,8 @@ use Rattle.entry_read.specs.Heads.{Tile}
 use Rattle.value_links.proofs.Fronts.{offset_fault}
 use Rattle.value_links.proofs.units.named_heads.Goals as goal
 
-pub returns-in-Err-check_offsets-clause-fault : goal.returns-in-Err-check_offsets-clause-fault
-returns-in-Err-check_offsets-clause-fault c =
+pub returns-in-Err-clause-fault : goal.returns-in-Err-clause-fault
+returns-in-Err-clause-fault c =
     let info = c.args.info.now in
-    let (u, inside, past, is) = c.in-Err-check_offsets.ensures.fault in
-    offset_fault info c.args.abbrevs.now c.deref.result.now u c.args.origin c.in-Err-check_offsets.fault (subst (λ (z : List UnitHead). Tile info z) (sym c.deref.ensures.value) c.in-Ok.ensures.tiled) inside past is
+    let (u, inside, past, is) = c.in-Err.ensures.fault in
+    offset_fault info c.args.abbrevs.now c.deref.result.now u c.args.origin c.in-Err.fault (subst (λ (z : List UnitHead). Tile info z) (sym c.deref.ensures.value) c.in_ok-all.ensures.tiled) inside past is

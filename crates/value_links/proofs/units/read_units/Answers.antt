@@ -1,6 +1,7 @@
-use Rattle.std.proofs.Common.{◌∙◌, inl, inr, ℕ, List, length, sym, subst}
+use Rattle.std.proofs.Common.{◌∙◌, inl, inr, ℕ, List, length, sym, subst, rules}
 use Rattle.std.specs.List.{All, Contains}
 use Rattle.std.specs.Vec.{with_items}
+use Rattle.std.proofs.lemmas.Result.{err_from_is_err_and}
 use Rattle.abbrev_tables.proofs.WholeParts.{whole_part}
 use Rattle.entry_read.specs.declared.head.UnitHead.{UnitHead}
 use Rattle.entry_read.specs.Heads.{Tile}
@@ -15,49 +16,51 @@ use Rattle.value_links.proofs.units.read_units.Goals as goal
 
 pub read_named_tables-requires-clause-inside : goal.read_named_tables-requires-clause-inside
 read_named_tables-requires-clause-inside c = λ place among.
-    let all = c.in-Ok.all.items in
-    let places = c.in-Ok-table_places.places.items in
-    let are = subst (λ (z : List UnitHead). AreTablePlaces z places) c.deref.ensures.value c.in-Ok-table_places.ensures in
-    places_inside all places (length c.args.abbrevs.now) place are c.in-Ok.ensures.inside (subst (λ (z : List ℕ). Contains z place) c.deref-2.ensures.value among)
+    let all = c.in_ok-all.all.items in
+    let places = c.in_ok-places.places.items in
+    let are = subst (λ (z : List UnitHead). AreTablePlaces z places) c.deref.ensures.value c.in_ok-places.ensures in
+    places_inside all places (length c.args.abbrevs.now) place are c.in_ok-all.ensures.inside (subst (λ (z : List ℕ). Contains z place) c.deref-2.ensures.value among)
 
-pub returns-in-Err-read_named_tables-clause-fault : goal.returns-in-Err-read_named_tables-clause-fault
-returns-in-Err-read_named_tables-clause-fault c =
+pub returns-in_err-whole-clause-fault : goal.returns-in_err-whole-clause-fault
+returns-in_err-whole-clause-fault c =
     let info = c.args.info.now in
     let abbrevs = c.args.abbrevs.now in
-    let all = c.in-Ok.all.items in
-    let places = c.in-Ok-table_places.places.items in
-    let are = subst (λ (z : List UnitHead). AreTablePlaces z places) c.deref.ensures.value c.in-Ok-table_places.ensures in
-    refused_more _ _ (λ fault f. named_fault info abbrevs all places c.args.info_origin c.args.abbrev_origin fault c.in-Ok.ensures.tiled are c.in-Ok.ensures.inside (f.0, subst (λ (z : List ℕ). Contains z f.0) c.deref-2.ensures.value f.1, f.2)) c.in-Err-read_named_tables.refusal c.in-Err-read_named_tables.ensures.fault
+    let all = c.in_ok-all.all.items in
+    let places = c.in_ok-places.places.items in
+    let are = subst (λ (z : List UnitHead). AreTablePlaces z places) c.deref.ensures.value c.in_ok-places.ensures in
+    let refused = refused_more _ _ (λ fault f. named_fault info abbrevs all places c.args.info_origin c.args.abbrev_origin fault c.in_ok-all.ensures.tiled are c.in_ok-all.ensures.inside (f.0, subst (λ (z : List ℕ). Contains z f.0) c.deref-2.ensures.value f.1, f.2)) c.in_err-whole.field-0.0 c.in_err-whole.ensures.fault in
+    search (rules, refused)
 
 pub read_each-requires-clause-tables : goal.read_each-requires-clause-tables
 read_each-requires-clause-tables c = λ k d inside.
     let abbrevs = c.args.abbrevs.now in
-    let named = subst (λ (z : List NamedTable). All (IsNamed abbrevs) z) (sym c.deref-6.ensures.value) c.in-Ok-read_named_tables.ensures.each in
+    let named = subst (λ (z : List NamedTable). All (IsNamed abbrevs) z) (sym c.deref-6.ensures.value) c.in_ok-whole.ensures.each in
     (abbrevs, _, whole_part abbrevs _ _ (named k d inside).stands)
 
-pub returns-in-Err-read_each-clause-fault : goal.returns-in-Err-read_each-clause-fault
-returns-in-Err-read_each-clause-fault c =
+pub returns-in_err-units-clause-fault : goal.returns-in_err-units-clause-fault
+returns-in_err-units-clause-fault c =
     let info = c.args.info.now in
     let abbrevs = c.args.abbrevs.now in
-    let tile = subst (λ (z : List UnitHead). Tile info z) (sym c.deref-5.ensures.value) c.in-Ok.ensures.tiled in
-    let named = subst (λ (z : List NamedTable). All (IsNamed abbrevs) z) (sym c.deref-6.ensures.value) c.in-Ok-read_named_tables.ensures.each in
-    refused_more _ _ (λ fault f. inl (f.0, f.1, inr (inr f.2))) c.in-Err-read_each.refusal (c.in-Err-read_each.ensures.fault abbrevs tile named)
+    let tile = subst (λ (z : List UnitHead). Tile info z) (sym c.deref-5.ensures.value) c.in_ok-all.ensures.tiled in
+    let named = subst (λ (z : List NamedTable). All (IsNamed abbrevs) z) (sym c.deref-6.ensures.value) c.in_ok-whole.ensures.each in
+    let p = err_from_is_err_and c.from_residual-in_err-units.result c.from_residual-in_err-units.ensures.1 in
+    rw (p.1, p.2) (refused_more _ _ (λ fault f. inl (f.0, f.1, inr (inr f.2))) c.in_err-units.field-0.0 (c.in_err-units.ensures.fault abbrevs tile named))
 
 pub keep_used-requires : goal.keep_used-requires
 keep_used-requires c =
     let info = c.args.info.now in
     let abbrevs = c.args.abbrevs.now in
-    let all = c.in-Ok.all.items in
-    let places = c.in-Ok-table_places.places.items in
-    let whole = c.in-Ok-read_named_tables.whole.items in
-    let numbers = c.in-Ok-table_numbers.table_of.items in
-    let units = c.in-Ok-read_each.units.items in
-    let are = subst (λ (z : List UnitHead). AreTablePlaces z places) c.deref.ensures.value c.in-Ok-table_places.ensures in
-    let by_heads = subst (λ (z : List UnitHead). AreNumbers z c.deref-4.result.now numbers) c.deref-3.ensures.value c.in-Ok-table_numbers.ensures in
+    let all = c.in_ok-all.all.items in
+    let places = c.in_ok-places.places.items in
+    let whole = c.in_ok-whole.whole.items in
+    let numbers = c.in_ok-table_of.table_of.items in
+    let units = c.in_ok-units.units.items in
+    let are = subst (λ (z : List UnitHead). AreTablePlaces z places) c.deref.ensures.value c.in_ok-places.ensures in
+    let by_heads = subst (λ (z : List UnitHead). AreNumbers z c.deref-4.result.now numbers) c.deref-3.ensures.value c.in_ok-table_of.ensures in
     let numbered = subst (λ (z : List ℕ). AreNumbers all z numbers) c.deref-4.ensures.value by_heads in
-    let named = c.in-Ok-read_named_tables.ensures.each in
-    let front = c.in-Ok-read_each.ensures.read abbrevs (subst (λ (z : List NamedTable). All (IsNamed abbrevs) z) (sym c.deref-6.ensures.value) named) in
-    let read = read_whole info abbrevs all c.deref-5.result.now places whole c.deref-6.result.now numbers c.deref-7.result.now units are (c.in-Ok-read_named_tables.ensures.places ∙ c.deref-2.ensures.value) numbered c.deref-5.ensures.value c.deref-6.ensures.value c.deref-7.ensures.value front in
+    let named = c.in_ok-whole.ensures.each in
+    let front = c.in_ok-units.ensures.read abbrevs (subst (λ (z : List NamedTable). All (IsNamed abbrevs) z) (sym c.deref-6.ensures.value) named) in
+    let read = read_whole info abbrevs all c.deref-5.result.now places whole c.deref-6.result.now numbers c.deref-7.result.now units are (c.in_ok-whole.ensures.places ∙ c.deref-2.ensures.value) numbered c.deref-5.ensures.value c.deref-6.ensures.value c.deref-7.ensures.value front in
     let have = have_whole info abbrevs all whole numbers units named read in
     let over_units = subst (λ (z : List HeadAndForest). HaveWholeTables z whole numbers) (sym c.deref_mut.ensures.value) have in
     let over_tables = subst (λ (z : List NamedTable). HaveWholeTables c.deref_mut.result.now z numbers) (sym c.deref-8.ensures.value) over_units in
@@ -67,21 +70,21 @@ pub returns-clause-read : goal.returns-clause-read
 returns-clause-read c =
     let info = c.args.info.now in
     let abbrevs = c.args.abbrevs.now in
-    let all = c.in-Ok.all.items in
-    let places = c.in-Ok-table_places.places.items in
-    let whole = c.in-Ok-read_named_tables.whole.items in
-    let numbers = c.in-Ok-table_numbers.table_of.items in
-    let units = c.in-Ok-read_each.units.items in
-    let are = subst (λ (z : List UnitHead). AreTablePlaces z places) c.deref.ensures.value c.in-Ok-table_places.ensures in
-    let by_heads = subst (λ (z : List UnitHead). AreNumbers z c.deref-4.result.now numbers) c.deref-3.ensures.value c.in-Ok-table_numbers.ensures in
+    let all = c.in_ok-all.all.items in
+    let places = c.in_ok-places.places.items in
+    let whole = c.in_ok-whole.whole.items in
+    let numbers = c.in_ok-table_of.table_of.items in
+    let units = c.in_ok-units.units.items in
+    let are = subst (λ (z : List UnitHead). AreTablePlaces z places) c.deref.ensures.value c.in_ok-places.ensures in
+    let by_heads = subst (λ (z : List UnitHead). AreNumbers z c.deref-4.result.now numbers) c.deref-3.ensures.value c.in_ok-table_of.ensures in
     let numbered = subst (λ (z : List ℕ). AreNumbers all z numbers) c.deref-4.ensures.value by_heads in
-    let named = c.in-Ok-read_named_tables.ensures.each in
-    let front = c.in-Ok-read_each.ensures.read abbrevs (subst (λ (z : List NamedTable). All (IsNamed abbrevs) z) (sym c.deref-6.ensures.value) named) in
-    let read = read_whole info abbrevs all c.deref-5.result.now places whole c.deref-6.result.now numbers c.deref-7.result.now units are (c.in-Ok-read_named_tables.ensures.places ∙ c.deref-2.ensures.value) numbered c.deref-5.ensures.value c.deref-6.ensures.value c.deref-7.ensures.value front in
-    let parts = c.in-Ok-keep_used.tables in
+    let named = c.in_ok-whole.ensures.each in
+    let front = c.in_ok-units.ensures.read abbrevs (subst (λ (z : List NamedTable). All (IsNamed abbrevs) z) (sym c.deref-6.ensures.value) named) in
+    let read = read_whole info abbrevs all c.deref-5.result.now places whole c.deref-6.result.now numbers c.deref-7.result.now units are (c.in_ok-whole.ensures.places ∙ c.deref-2.ensures.value) numbered c.deref-5.ensures.value c.deref-6.ensures.value c.deref-7.ensures.value front in
+    let parts = c.in_ok-tables.tables in
     let new = c.keep_used.new.units in
-    let over_tables = subst (λ (z : List NamedTable). AreKept z c.deref-9.result.now c.deref_mut.result.now new parts.items) c.deref-8.ensures.value c.in-Ok-keep_used.ensures in
+    let over_tables = subst (λ (z : List NamedTable). AreKept z c.deref-9.result.now c.deref_mut.result.now new parts.items) c.deref-8.ensures.value c.in_ok-tables.ensures in
     let over_numbers = subst (λ (z : List ℕ). AreKept whole z c.deref_mut.result.now new parts.items) c.deref-9.ensures.value over_tables in
     let kept = subst (λ (z : List HeadAndForest). AreKept whole numbers z new parts.items) c.deref_mut.ensures.value over_numbers in
-    let all_new = subst (λ (z : List HeadAndForest). AreKept whole numbers units z parts.items) (sym (written_whole c.in-Ok-read_each.units.len new units kept.units.count c.in-Ok-read_each.units.ok.0)) kept in
-    units_held info abbrevs all whole units (record { units = with_items c.in-Ok-read_each.units new; tables = parts; table_of = c.in-Ok-table_numbers.table_of }) read all_new c.in-Ok.ensures.tiled
+    let all_new = subst (λ (z : List HeadAndForest). AreKept whole numbers units z parts.items) (sym (written_whole c.in_ok-units.units.len new units kept.units.count c.in_ok-units.units.ok.0)) kept in
+    units_held info abbrevs all whole units (record { units = with_items c.in_ok-units.units new; tables = parts; table_of = c.in_ok-table_of.table_of }) read all_new c.in_ok-all.ensures.tiled
