@@ -17,8 +17,8 @@ use Rattle.entry_arena.proofs.TreeLaws.{trees_are_walks}
 use Rattle.entry_read.specs.Units.{HeadAndForest, declarations_of, IsTable, IsUnitHeld}
 use Rattle.value_links.specs.declared.units.NamedTable.{NamedTable}
 use Rattle.value_links.specs.Sections.{debug_info, debug_abbrev}
-use Rattle.value_links.specs.Reading.{UnitRead, Reading, declarations, unit_among, unit_at, no_unit, HasEntryWith, IsUnitRead}
-use Rattle.value_links.specs.World.{World, head_and_forest, table_at, named_by, Holds, IsWorldOf}
+use Rattle.value_links.specs.Reading.{UnitRead, declarations, unit_among, no_unit, HasEntryWith, IsUnitRead}
+use Rattle.value_links.specs.World.{World, head_and_forest, table_at, named_by, IsWorldOf}
 use Rattle.rewriter.specs.Tables.{uses_of}
 use Rattle.rewriter.specs.Placed.{unit_in}
 use Rattle.rewriter.specs.Counting.{AreCountable}

@@ -1,5 +1,5 @@
 -- The attributes of the root of a unit, one by one, and the first of them that gives a base or an address.
-use Rattle.std.proofs.Common.{◌≡◌, ◌≢◌, ◌≤◌, ◌<◌, ◌+◌, ◌∙◌, ◌++◌, inl, inr, take, drop, ℕ, zero, suc, List, [], ◌∷◌, length, get_or, sym, ap, subst, refl, arith}
+use Rattle.std.proofs.Common.{◌≡◌, ◌≢◌, ◌≤◌, ◌<◌, ◌+◌, ◌∙◌, ◌++◌, inl, inr, take, drop, ℕ, List, [], ◌∷◌, length, get_or, sym, ap, subst, arith}
 use Rattle.std.specs.Prelude.{◌↔◌, Bool, true, false, filter, map, if◌then◌else◌}
 use Rattle.std.specs.List.{Contains}
 use Rattle.std.proofs.lemmas.List.{drop_more, at_drop_all, length-append}
@@ -7,7 +7,6 @@ use Rattle.form_codec.specs.declared.value.Value.{Value}
 use Rattle.form_codec.specs.Forms.{Meaning}
 use Rattle.form_codec.specs.Forms.Meaning.{SectionPlace}
 use Rattle.form_codec.specs.Values.{meant_in}
-use Rattle.abbrev_tables.specs.declared.decl.Spec.{Spec}
 use Rattle.abbrev_tables.specs.Listings.{Listing, spec_at}
 use Rattle.entry_arena.specs.declared.entry.Entry.{Entry}
 use Rattle.entry_arena.specs.Arena.{entry_at, value_at}
