@@ -2,10 +2,13 @@
 """Writes an ELF file whose units name abbreviation tables that overlap: one table of N declarations, and for each of them a unit
 whose table begins there and so has all later declarations too.
 
-  bench/make_overlapping_tables.py FILE [--units N] [--used K]
+  bench/make_overlapping_tables.py FILE [--units N] [--used K] [--columns M]
 
 Each unit has an entry for each of the last K declarations (1 if left out). A program that reads each table for itself takes time
 and memory with the square of N: with 8,000 units 32 million declarations are read in a file of 160 KB.
+
+With --columns the tables begin inside one declaration of M columns instead, two bytes from each other, and each unit has the one
+entry whose declaration follows that. So each table has a declaration of its own, which no entry has, with the rest of the columns.
 """
 import argparse
 import struct
@@ -38,6 +41,14 @@ def sections(count, used):
     return b"".join(struct.pack("<I", len(unit)) + unit for unit in units), bytes(abbrevs)
 
 
+def sections_inside(count, columns):
+    """The same for tables inside one declaration, which has the code 1, the tag 1, children, and the attribute 1 in the form 1."""
+    if count > columns:
+        raise SystemExit("there are to be at least as many columns as units")
+    abbrevs = b"\1\1\1" + b"\1\1" * columns + b"\0\0" + b"\2\x11\0\0\0" + b"\0"
+    return b"".join(struct.pack("<IHBBI", 9, 5, 1, 8, 2 * unit) + b"\2" for unit in range(count)), abbrevs
+
+
 def elf_file(bodies):
     """A file with these sections, given by their names, and their names' own."""
     names = b"\0" + b"".join(name + b"\0" for name, _ in bodies) + b".shstrtab\0"
@@ -61,8 +72,12 @@ def main():
     parser.add_argument("file")
     parser.add_argument("--units", type=int, default=4000)
     parser.add_argument("--used", type=int, default=1)
+    parser.add_argument("--columns", type=int)
     options = parser.parse_args()
-    info, abbrevs = sections(options.units, options.used)
+    if options.columns is None:
+        info, abbrevs = sections(options.units, options.used)
+    else:
+        info, abbrevs = sections_inside(options.units, options.columns)
     with open(options.file, "wb") as file:
         file.write(elf_file([(b".debug_info", info), (b".debug_abbrev", abbrevs)]))
 

@@ -108,8 +108,8 @@ fn place_of(table: &AddrTable, index: u64) -> usize
 /// An error comes exactly where a table that is met has a fault, and its place is an offset in the file, in which the section
 /// begins at `origin`. A table that leaves the section, or whose length is a reserved one, from 0xfffffff0 on, is Short at its
 /// first byte. One that is whole is ListEntry there where its header has another version than 5, another address size than 8 or
-/// another segment selector size than 0, or doesn't fit in the length. Where the header is in order and the last address is cut,
-/// that is Short at this address. It takes no memory.
+/// another segment selector size than 0, and Short or ListEntry there where it is too short for its header. Where the header is in
+/// order and the last address is cut, that is Short at this address. It takes no memory.
 #[tactic(auto, using(crate::proofs::Walking::base_whole))]
 pub fn addr_table(addr: &[u8], base: u64, origin: u64) -> Result<Option<AddrTable>, Fault>
     requires room { origin + length addr.now < 2 ^ 64 }
