@@ -1,33 +1,55 @@
--- The faults of address tables, as conditions on the bytes. Places count from the section's first byte.
+-- The faults of address tables and of contributions, as conditions on the bytes. Places count from the section's first byte.
 use Rattle.std.specs.Prelude.{◌≡◌, ◌≤◌, ◌<◌, ◌+◌, ◌⊎◌, ℕ, List, length}
 use Rattle.dw_base.specs.declared.fault.Kind.{Kind}
 use Rattle.dw_base.specs.declared.fault.Kind.TheVariants.{Short, ListEntry}
-use Rattle.list_model.specs.Addresses.{unit_length, table_end, least_reserved, addresses_at, address_place, IsWhole, IsHeader, IsMet}
+use Rattle.list_model.specs.Headers.{unit_end, IsWhole, LeavesSection, IsHeader, IsHeaderCut}
+use Rattle.list_model.specs.Addresses.{table_header_size, address_place, IsMet}
+use Rattle.list_model.specs.Contributions.{part_header_size, offset_size, offset_entry_count, offset_place, ContributionsFollow}
+use Rattle.list_model.specs.declared.contribution.Contribution.{Contribution}
 
--- The table at a place leaves the section: its length field does, or its last byte, or the length is a reserved one.
-abbrev pub LeavesSection : List ℕ → ℕ → Type 0
-LeavesSection section at = (length section < at + 4) ⊎ ((least_reserved ≤ unit_length section at) ⊎ (length section < table_end section at))
+-- The header at a place, which has so many bytes, has a fault. It is Short where the thing leaves the section or ends inside its
+-- header, and ListEntry where the thing is whole and its header isn't one that is understood.
+abbrev pub FaultHeader : ℕ → List ℕ → ℕ → Kind → ℕ → Type 0
+FaultHeader size section at Short place = (place ≡ at) × (LeavesSection section at ⊎ IsHeaderCut size section at)
+FaultHeader size section at ListEntry place = (place ≡ at) × IsWhole section at × (¬ IsHeader size section at)
+FaultHeader size section at _ place = ⊥
 
 -- An address of the table at a place begins inside the table, at the other place, and ends past it.
 pub record IsAddressCut (section : List ℕ) (at place : ℕ) : Type 0 where
   pub index : ℕ
   pub begins : place ≡ address_place at index
-  pub inside : place < table_end section at
-  pub outside : table_end section at < place + 8
+  pub inside : place < unit_end section at
+  pub outside : unit_end section at < place + 8
 
--- The table at a place is whole, and its length ends inside its header.
-abbrev pub IsHeaderCut : List ℕ → ℕ → Type 0
-IsHeaderCut section at = IsWhole section at × (table_end section at < addresses_at at)
-
--- The table at a place has a fault. It is Short at the table where that leaves the section or its header is cut, and at an address
--- that is cut; and ListEntry at the table where it is whole and its header isn't one that is understood.
+-- The table at a place has a fault: in its header, or, where that is in order, Short at an address that is cut.
 abbrev pub FaultTable : List ℕ → ℕ → Kind → ℕ → Type 0
-FaultTable section at Short place = ((place ≡ at) × (LeavesSection section at ⊎ IsHeaderCut section at)) ⊎ (IsWhole section at × IsHeader section at × IsAddressCut section at place)
-FaultTable section at ListEntry place = (place ≡ at) × IsWhole section at × (¬ IsHeader section at)
-FaultTable section at _ place = ⊥
+FaultTable section at Short place = FaultHeader table_header_size section at Short place ⊎ (IsWhole section at × IsHeader table_header_size section at × IsAddressCut section at place)
+FaultTable section at kind place = FaultHeader table_header_size section at kind place
 
 -- A table that is met on the way to a base has a fault.
 pub record FaultBefore (section : List ℕ) (base : ℕ) (kind : Kind) (place : ℕ) : Type 0 where
   pub at : ℕ
   pub met : IsMet section base at
   pub fault : FaultTable section at kind place
+
+-- An offset of the contribution at a place would begin inside it or at its end, at the other place, and ends past it.
+pub record IsOffsetCut (section : List ℕ) (at place : ℕ) : Type 0 where
+  pub slot : ℕ
+  pub counted : slot < offset_entry_count section at
+  pub begins : place ≡ offset_place at slot
+  pub inside : place ≤ unit_end section at
+  pub outside : unit_end section at < place + offset_size
+
+-- The contribution at a place has a fault: in its header, or, where that is in order, Short at the first of its offsets that
+-- doesn't end inside it.
+abbrev pub FaultContribution : List ℕ → ℕ → Kind → ℕ → Type 0
+FaultContribution section at Short place = FaultHeader part_header_size section at Short place ⊎ (IsWhole section at × IsHeader part_header_size section at × IsOffsetCut section at place)
+FaultContribution section at kind place = FaultHeader part_header_size section at kind place
+
+-- After contributions that are the section's front, another begins at a place and has a fault.
+pub record FaultContributions (section : List ℕ) (kind : Kind) (place : ℕ) : Type 0 where
+  pub parts : List Contribution
+  pub at : ℕ
+  pub front : ContributionsFollow section parts 0 at
+  pub inside : at < length section
+  pub fault : FaultContribution section at kind place

@@ -1,3 +1,9 @@
 pub mod Addresses
+pub mod Contributions
+pub mod Entries
 pub mod Faults
+pub mod Headers
+pub mod Items
 pub mod Laws
+pub mod Reading
+pub mod Steps

@@ -1,11 +1,12 @@
 // Address tables, and the addresses in them.
-ghost use Rattle.std.specs.Prelude.{◌≡◌, ◌≤◌, ◌<◌, ◌+◌, ◌^◌, ◌↔◌, length, IsTrue, OnOk, IfOk, IfErr, MatchOption};
+ghost use Rattle.std.specs.Prelude.{◌≡◌, ◌≤◌, ◌<◌, ◌+◌, ◌^◌, length, OnOk, IfOk, IfErr, MatchOption};
 ghost use Rattle.dw_base.specs.Refusals.{IsFaultOf, IsFaulty};
-ghost use Rattle.list_model.specs.Addresses.{table_end, address_place, address_of, IsWhole, IsHeader, IsAddrTable, HasBase};
-ghost use Rattle.list_model.specs.Faults.{LeavesSection, FaultTable, FaultBefore};
+ghost use Rattle.list_model.specs.Addresses.{address_place, address_of, IsAddrTable, HasBase};
+ghost use Rattle.list_model.specs.Faults.{FaultTable, FaultBefore};
 
+use crate::header::{ADDRESS_SIZE, end_of, fault_at, has_header};
 use dw_base::{Fault, Kind};
-use fixed_width::{u16_at, u32_at, u64_at};
+use fixed_width::u64_at;
 
 /// A table of addresses (DWARF 5 section 7.27).
 #[derive(Clone, Copy, Debug, PartialEq, Eq)]
@@ -16,56 +17,8 @@ pub struct AddrTable {
     pub count: u64,
 }
 
-const VERSION: u16 = 5;
-
-// The first of the lengths that are reserved (DWARF 5 section 7.4).
-const FIRST_RESERVED: u32 = 0xffff_fff0;
-
 // The bytes of a table's header: its length, its version and the sizes of addresses and segment selectors.
 const HEADER_SIZE: usize = 8;
-
-// The bytes of an address.
-const ADDRESS_SIZE: usize = 8;
-
-// Where the table at a place ends, or none where it leaves the section.
-fn end_of(section: &[u8], at: usize) -> Option<usize>
-    requires { at ≤ length section.now }
-    ensures { MatchOption result (LeavesSection section.now at) (λ end. IsWhole section.now at × (end ≡ table_end section.now at)) }
-{
-    let left = section.len() - at;
-    if left < 4 {
-        return None;
-    }
-    let length = u32_at(section, at);
-    if length >= FIRST_RESERVED || length as usize > left - 4 {
-        return None;
-    }
-    Some(at + 4 + length as usize)
-}
-
-// Whether the header of the table at a place, which is whole, is one that is understood.
-#[tactic(auto, using(crate::proofs::Walking::byte_at))]
-fn has_header(section: &[u8], at: usize, end: usize) -> bool
-    requires whole { IsWhole section.now at }
-    requires end { end ≡ table_end section.now at }
-    ensures { IsTrue result ↔ IsHeader section.now at }
-{
-    end - at >= HEADER_SIZE
-        && u16_at(section, at + 4) == VERSION
-        && section[at + 6] as usize == ADDRESS_SIZE
-        && section[at + 7] == 0
-}
-
-// A fault at a place of the section.
-fn fault_at(kind: Kind, origin: u64, at: usize) -> Fault
-    requires { origin + at < 2 ^ 64 }
-    ensures { result ≡ record { kind = kind; place = origin + at } }
-{
-    Fault {
-        kind,
-        place: origin + at as u64,
-    }
-}
 
 // The table at a place, or its fault.
 #[tactic(auto, using(crate::proofs::Walking::cut_fault))]
@@ -78,7 +31,7 @@ fn table_at(section: &[u8], at: usize, origin: u64) -> Result<AddrTable, Fault>
     let Some(end) = end_of(section, at) else {
         return Err(fault_at(Kind::Short, origin, at));
     };
-    if !has_header(section, at, end) {
+    if !has_header(section, at, end, HEADER_SIZE) {
         return Err(fault_at(Kind::ListEntry, origin, at));
     }
     let size = end - at - HEADER_SIZE;
@@ -101,15 +54,15 @@ fn place_of(table: &AddrTable, index: u64) -> usize
 }
 
 /// The address table of `addr`, the body of .debug_addr (DWARF 5 section 7.27), whose addresses begin at the place `base`. Places
-/// count from the section's first byte, as DW_AT_addr_base does. Tables stand one after the other, and are walked from there on. A
-/// table is met that begins 8 bytes before `base` or earlier; later ones aren't looked at. None comes exactly where no table that
-/// is met has a fault and the addresses of none begin at `base`.
+/// count from the section's first byte, as DW_AT_addr_base does. Tables stand one after the other, and are walked from there on.
+/// A table is met that begins 8 bytes before `base` or earlier; later ones aren't looked at. None comes exactly where no table
+/// that is met has a fault and the addresses of none begin at `base`.
 ///
 /// An error comes exactly where a table that is met has a fault, and its place is an offset in the file, in which the section
 /// begins at `origin`. A table that leaves the section, or whose length is a reserved one, from 0xfffffff0 on, is Short at its
 /// first byte. One that is whole is ListEntry there where its header has another version than 5, another address size than 8 or
-/// another segment selector size than 0, and Short or ListEntry there where it is too short for its header. Where the header is in
-/// order and the last address is cut, that is Short at this address. It takes no memory.
+/// another segment selector size than 0, and Short or ListEntry there where it is too short for its header. Where the header is
+/// in order and the last address is cut, that is Short at this address. It takes no memory.
 #[tactic(auto, using(crate::proofs::Walking::base_whole))]
 pub fn addr_table(addr: &[u8], base: u64, origin: u64) -> Result<Option<AddrTable>, Fault>
     requires room { origin + length addr.now < 2 ^ 64 }

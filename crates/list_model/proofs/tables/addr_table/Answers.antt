@@ -1,5 +1,6 @@
 use Rattle.std.proofs.Common.{◌≡◌, ◌≤◌, ℕ, ◌∙◌, length, sym, ap, subst, inl, inr, arith}
-use Rattle.list_model.specs.Addresses.{table_end, IsReached}
+use Rattle.list_model.specs.Headers.{unit_end}
+use Rattle.list_model.specs.Addresses.{IsReached}
 use Rattle.list_model.proofs.Walking.{reached_next, base_beyond, walked_whole}
 use Rattle.list_model.proofs.tables.addr_table.Goals as goal
 
@@ -10,7 +11,7 @@ loop-at-preserved c =
     let table = c.in_ok-table.table in
     let place : table.at ≡ at = c.in_ok-table.ensures.table.0 in
     let stands = c.in_ok-table.ensures.table.1 in
-    let next : c.place_of-at.result ≡ table_end addr at = c.place_of-at.ensures ∙ stands.filled ∙ ap (table_end addr) place in
+    let next : c.place_of-at.result ≡ unit_end addr at = c.place_of-at.ensures ∙ stands.filled ∙ ap (unit_end addr) place in
     let loop = c.loop-at.invariant in
     record {
       inside = subst (λ (z : ℕ). z ≤ length addr) (sym (c.place_of-at.ensures ∙ stands.filled)) stands.whole.inside;
