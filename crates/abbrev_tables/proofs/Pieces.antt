@@ -2,7 +2,7 @@
 use Rattle.std.proofs.Common.{◌≡◌, ◌≢◌, ◌≤◌, ◌<◌, ◌+◌, ◌-◌, ◌^◌, ◌∙◌, ℕ, zero, suc, List, [], ◌∷◌, ◌++◌, length, take, drop, get_or, sym, ap, refl, subst, arith, leb, true, false, inl, inr}
 use Rattle.std.specs.List.Sorted.{IsNonDecreasingBy, IsPartitionPoint}
 use Rattle.std.proofs.lemmas.List.Sorted.{IsNonDecreasingBy-from_all_adjacent}
-use Rattle.std.proofs.lemmas.List.{take_more, at_drop_more}
+use Rattle.std.proofs.lemmas.List.{take_more, take_all, at_drop_more}
 use Rattle.std.proofs.lemmas.Bool.{cases_lt}
 use Rattle.std.proofs.lemmas.Bool.Decides.{nat_tests}
 use Rattle.abbrev_tables.specs.declared.decl.Decl.{Decl}
@@ -331,12 +331,6 @@ module _ (end : ℕ) (ps : List Piece) (dd ss : ℕ) (held : AreHeld ps dd ss) w
 
   -- COLUMNS
 
-  pub columns_fit : (k : ℕ) (z : Piece) → k < length ps → (get_or ps k z).first ≤ length (get_or ps k z).stretch.value.specs
-  columns_fit k z inside =
-      let is = piece_is k z inside in
-      let fits = first_fits (get_or ps k z).stretch.value (get_or ps k z).from (ended 0) is.inside is.adjacent in
-      omega (arith, fits, is.first)
-
   -- the columns of the pieces from one on
   pub columns_from : (k : ℕ) (z : Piece) → k < length ps → (listing end (drop k ps)).specs ≡ drop (get_or ps k z).first (get_or ps k z).stretch.value.specs ++ (listing end (drop (k + 1) ps)).specs
   columns_from k z inside =
@@ -448,3 +442,31 @@ front_fits stretch start p f =
     let fits = first_fits p.stretch.value p.from (ended 0) f.is.inside f.is.adjacent in
     let low : p.first ≡ first_column p.stretch.value p.from = f.is.first in
     (omega (arith, f.is.inside), omega (arith, fits, low))
+
+-- THE SAME PIECES AGAIN
+
+pub copied_fits : (ps : List Piece) (dd ss k : ℕ) (z : Piece) → AreHeld ps dd ss → k < length ps → ((get_or ps k z).decls_before + 0 < 2 ^ 32) × ((get_or ps k z).specs_before + 0 < 2 ^ 32)
+copied_fits ps dd ss k z held inside =
+    let few : dd < 2 ^ 32 = held.few in
+    let narrow : ss < 2 ^ 32 = held.narrow in
+    shifted_fits ps dd ss 0 0 k z held inside (omega arith) (omega arith)
+
+pub copied_more : (ps before : List Piece) (k : ℕ) (z q : Piece) → k < length ps → AreShifted 0 0 (take k ps) before → IsShifted 0 0 (get_or ps k z) q → AreShifted 0 0 (take (k + 1) ps) (before ++ q ∷ [])
+copied_more ps before k z q inside a i = subst (λ (x : List Piece). AreShifted 0 0 x (before ++ q ∷ [])) (sym (take_more ps k z inside)) (shifted_more 0 0 (take k ps) before (get_or ps k z) q a i)
+
+pub copied_held : (ps qs : List Piece) (dd ss : ℕ) → AreShifted 0 0 ps qs → AreHeld ps dd ss → AreHeld qs dd ss
+copied_held ps qs dd ss a held =
+    let d : dd + 0 ≡ dd = omega arith in
+    let s : ss + 0 ≡ ss = omega arith in
+    record {
+      each = subst (λ (n : ℕ). ArePieces 0 0 qs dd n) s (subst (λ (n : ℕ). ArePieces 0 0 qs n (ss + 0)) d (shifted_pieces 0 0 ps qs 0 0 dd ss a held.each));
+      few = held.few;
+      narrow = held.narrow;
+    }
+
+-- the pieces so far, and all of them
+abbrev pub AreCopied : List Piece → ℕ → List Piece → Type 0
+AreCopied ps k qs = AreShifted 0 0 (take k ps) qs
+
+pub copied_all : (ps qs : List Piece) (k : ℕ) → length ps ≤ k → AreCopied ps k qs → AreShifted 0 0 ps qs
+copied_all ps qs k past a = subst (λ (x : List Piece). AreShifted 0 0 x qs) (take_all k ps past) a

@@ -14,7 +14,8 @@ use Rattle.abbrev_tables.specs.Listings.{decl_at, declared_in, declarations_in, 
 use Rattle.std.specs.BTreeMap.{BTreeMap}
 use Rattle.abbrev_tables.specs.declared.read.Head.{Head}
 use Rattle.abbrev_tables.specs.declared.read.ReadDecl.{ReadDecl}
-use Rattle.abbrev_tables.specs.Readings.{IsDeclOrEnd, IsReadDecl}
+use Rattle.abbrev_tables.specs.declared.known.KnownColumn.{KnownColumn}
+use Rattle.abbrev_tables.specs.Readings.{SpellsBehind, HasColumns, IsDeclOrEnd, IsReadDecl}
 use Rattle.abbrev_tables.specs.Index.{HasCode, HaveOwnCodes, IsAdded, IsFront}
 use Rattle.abbrev_tables.proofs.Indexes.{own_more}
 
@@ -180,27 +181,26 @@ own_distinct columns decls own i j li lj e =
     let b : j < length decls = omega arith in
     own i j a b (sym (code_of columns decls i a) ∙ e ∙ code_of columns decls j b)
 
--- what a reader of one declaration gives
-decl_or_end : (head other : Option Head) (old new : List Spec) (bytes : List ℕ) → head ≡ other → IsDeclOrEnd head old new bytes → IsDeclOrEnd other old new bytes
-decl_or_end head other old new bytes e d = subst (λ (z : Option Head). IsDeclOrEnd z old new bytes) e d
+-- what the reader of one declaration gives, where it is not the code 0
+pub decl_read : (known : BTreeMap ℕ KnownColumn) (rest : List ℕ) (start : ℕ) (old new : List Spec) (old_places new_places : List ℕ) (r : ReadDecl) (h : Head) (whole : Bool) → IsReadDecl known rest start old new old_places new_places r → r.head ≡ Some h → r.is_whole ≡ whole → HasColumns (SpellsBehind h) known rest start r.end whole old new old_places new_places
+decl_read known rest start old new old_places new_places r h whole read is ends =
+    let head = subst (λ (z : Option Head). IsDeclOrEnd z known rest start r.end r.is_whole old new old_places new_places) is read.1 in
+    subst (λ (z : Bool). HasColumns (SpellsBehind h) known rest start r.end z old new old_places new_places) ends head
 
-pub front_step : (rest : List ℕ) (start at : ℕ) (decls after : List Decl) (old new : List Spec) (others : BTreeMap ℕ ℕ) (r : ReadDecl) (h : Head) (d : Decl) (place first last : ℕ) → IsFront rest start at decls old → IsReadDecl (drop at rest) old new r → r.head ≡ Some h → place ≡ start + at → first ≡ length old → last ≡ length new → d ≡ record { at = place; code = h.code; tag = h.tag; children = h.children; first = first; count = last - first } → IsAdded decls d after others true → IsFront rest start (at + r.end) after new
-front_step rest start at decls after old new others r h d place first last f read is p q s e added =
-    let columns = decl_or_end r.head (Some h) old new (take r.end (drop at rest)) is read.2 in
+pub front_step : (known : BTreeMap ℕ KnownColumn) (rest : List ℕ) (start at end : ℕ) (decls after : List Decl) (old new : List Spec) (old_places new_places : List ℕ) (others : BTreeMap ℕ ℕ) (h : Head) (d : Decl) (place first last : ℕ) → IsFront rest start at decls old → HasColumns (SpellsBehind h) known (drop at rest) place end true old new old_places new_places → place ≡ start + at → first ≡ length old → last ≡ length new → d ≡ record { at = place; code = h.code; tag = h.tag; children = h.children; first = first; count = last - first } → IsAdded decls d after others true → IsFront rest start (at + end) after new
+front_step known rest start at end decls after old new old_places new_places others h d place first last f columns p q s e added =
     let full : Decl = record { at = place; code = h.code; tag = h.tag; children = h.children; first = first; count = last - first } in
     let fresh : HasCode decls full.code → ⊥ = subst (λ (z : Decl). HasCode decls z.code → ⊥) e added.3 in
     let count : last - first ≡ length new - length old = omega arith in
-    let more = front_more rest start at r.end decls old new columns.columns full f read.0 columns.added columns.spelled p q count fresh in
-    subst (λ (z : List Decl). IsFront rest start (at + r.end) z new) (sym (added.0 ∙ ap (λ z. decls ++ z ∷ []) e)) more
+    let more = front_more rest start at end decls old new columns.columns full f columns.inside columns.added columns.spelled p q count fresh in
+    subst (λ (z : List Decl). IsFront rest start (at + end) z new) (sym (added.0 ∙ ap (λ z. decls ++ z ∷ []) e)) more
 
 -- an answer that a declaration was added, or not
 pub is_added : (decls after : List Decl) (d : Decl) (others : BTreeMap ℕ ℕ) (b c : Bool) → b ≡ c → IsAdded decls d after others b → IsAdded decls d after others c
 is_added decls after d others b c e h = subst (λ (z : Bool). IsAdded decls d after others z) e h
 
-pub front_again : (rest : List ℕ) (start at : ℕ) (decls : List Decl) (old new : List Spec) (r : ReadDecl) (h : Head) → IsFront rest start at decls old → IsReadDecl (drop at rest) old new r → r.head ≡ Some h → HasCode decls h.code → (at ≤ length rest) × FaultTable CodeTwice at rest
-front_again rest start at decls old new r h f read is has =
-    let columns = decl_or_end r.head (Some h) old new (take r.end (drop at rest)) is read.2 in
-    front_twice rest start at r.end decls old h.code h.tag h.children columns.columns f read.0 columns.spelled has
+pub front_again : (known : BTreeMap ℕ KnownColumn) (rest : List ℕ) (start at place end : ℕ) (decls : List Decl) (old new : List Spec) (old_places new_places : List ℕ) (h : Head) → IsFront rest start at decls old → HasColumns (SpellsBehind h) known (drop at rest) place end true old new old_places new_places → HasCode decls h.code → (at ≤ length rest) × FaultTable CodeTwice at rest
+front_again known rest start at place end decls old new old_places new_places h f columns has = front_twice rest start at end decls old h.code h.tag h.children columns.columns f columns.inside columns.spelled has
 
 pub again_code : (decls : List Decl) (d : Decl) (h : Head) → d.code ≡ h.code → HasCode decls d.code → HasCode decls h.code
 again_code decls d h e has = subst (λ (n : ℕ). HasCode decls n) e has

@@ -21,7 +21,7 @@ use Rattle.abbrev_tables.proofs.Joined.{front_columns, adjacent_from, joined_adj
 -- THE DECLARATIONS OF A STRETCH FROM ONE ON
 
 -- what is left of the bytes up to a place
-rest_of : (section : List ℕ) (from to k : ℕ) → from + k ≤ to → drop k (take (to - from) (drop from section)) ≡ take (to - (from + k)) (drop (from + k) section)
+pub rest_of : (section : List ℕ) (from to k : ℕ) → from + k ≤ to → drop k (take (to - from) (drop from section)) ≡ take (to - (from + k)) (drop (from + k) section)
 rest_of section from to k order =
     let sum : to - from ≡ k + (to - (from + k)) = omega arith in
     ap (λ z. drop k (take z (drop from section))) sum
@@ -53,7 +53,7 @@ placed_from section specs from to (d ∷ ds) (suc n) inside order within (first,
 
 -- COLUMNS THAT BEGIN ELSEWHERE
 
-own_columns : (ss rs : List Spec) (f : ℕ) (d : Decl) → f ≤ d.first → d.first + d.count ≤ length ss → declared_in (drop f ss ++ rs) (moved f 0 d) ≡ declared_in ss d
+pub own_columns : (ss rs : List Spec) (f : ℕ) (d : Decl) → f ≤ d.first → d.first + d.count ≤ length ss → declared_in (drop f ss ++ rs) (moved f 0 d) ≡ declared_in ss d
 own_columns ss rs f d low fits =
     let sum : d.first - f + 0 ≡ d.first - f = omega arith in
     ap (λ (z : List Spec). record { code = d.code; tag = d.tag; children = d.children; columns = z })

@@ -10,3 +10,5 @@ pub mod Shared
 pub mod Stretches
 pub mod Pieces
 pub mod Shelves
+pub mod SharedColumns
+pub mod Fronts

@@ -1,8 +1,9 @@
 // Pieces of tables.
 ghost use Rattle.std.specs.Prelude.{◌≡◌, ◌≤◌, ◌<◌, ◌+◌, ◌^◌, length, drop, IfOk, MatchOption};
 ghost use Rattle.abbrev_tables.specs.Pieces.{IsPiece, decl_count, column_count, LacksCode, HasCodeAt, IsShifted, IsFrontPiece};
+ghost use Rattle.abbrev_tables.specs.Stretches.{first_column};
 
-use crate::decl::Spec;
+use crate::columns::Columns;
 use crate::stretch::Stretch;
 use dw_base::NoMemory;
 use std::rc::Rc;
@@ -51,11 +52,12 @@ impl Piece {
     }
 
     // The columns of its declarations.
-    pub(crate) fn specs(&self) -> &[Spec]
-        requires { self.now.first ≤ length self.now.stretch.value.specs }
-        ensures { result.now ≡ drop self.now.first self.now.stretch.value.specs }
+    pub(crate) fn specs(&self) -> Columns<'_>
+        requires inside { self.now.from < length self.now.stretch.value.decls }
+        requires first { self.now.first ≡ first_column self.now.stretch.value self.now.from }
+        ensures { result ≡ drop self.now.first self.now.stretch.value.specs }
     {
-        &self.stretch.specs()[self.first as usize..]
+        self.stretch.columns_from(self.from)
     }
 
     // The same piece behind more declarations and columns.

@@ -1,21 +1,20 @@
 // Declarations that stand one after the other, as they are held.
-ghost use Rattle.std.specs.Prelude.{◌≡◌, ◌≢◌, ◌≤◌, ◌<◌, ◌+◌, ◌-◌, ◌^◌, ◌++◌, ◌∷◌, [], ℕ, length, true, false, Some, OnOk, IfOk, IfErr, MatchOption, IsTrue, ◌↔◌};
+ghost use Rattle.std.specs.Prelude.{◌≡◌, ◌≢◌, ◌≤◌, ◌<◌, ◌+◌, ◌-◌, ◌^◌, ◌++◌, ◌∷◌, [], ℕ, length, drop, Some, OnOk, IfOk, MatchOption};
 ghost use Rattle.std.specs.Ordering.{nat_cmp};
 ghost use Rattle.std.specs.BTreeMap.{get};
-ghost use Rattle.abbrev_tables.specs.Faults.{FaultTable};
 ghost use Rattle.abbrev_tables.specs.Listings.{decl_at, declared_in, AreAdjacent};
 ghost use Rattle.abbrev_tables.specs.Index.{IsIndex, IsAdded, IsHeld, HasCode, HaveOwnCodes};
-ghost use Rattle.abbrev_tables.specs.declared.read.Stop.TheVariants.{Fault as Stopped};
-ghost use Rattle.abbrev_tables.specs.Readings.{IsStop};
-ghost use Rattle.abbrev_tables.specs.Stretches.{extended};
-ghost use Rattle.abbrev_tables.specs.Shelves.{IsStretchRead};
+ghost use Rattle.abbrev_tables.specs.SharedColumns.{all_of, AreCovered};
+ghost use Rattle.abbrev_tables.specs.Stretches.{first_column, extended};
 
-use crate::decl::{Decl, Spec, columns_of};
-use crate::read::{FaultAt, Head, Stop, fault_after, read_declared};
-use dw_base::{Kind, NoMemory};
+use crate::columns::{Columns, Part};
+use crate::decl::{Decl, Spec};
+use crate::read::Head;
+use dw_base::NoMemory;
 use std::alloc::Global;
 use std::collections::BTreeMap;
 use std::marker::Model;
+use std::rc::Rc;
 
 const MOST: usize = 0xffff_ffff;
 
@@ -23,12 +22,35 @@ const MOST: usize = 0xffff_ffff;
 #[derive(Drop)]
 pub(crate) struct Stretch {
     decls: Vec<Decl>,
-    specs: Vec<Spec>,
+    // The columns of all, in their order, but for those at the end of the last one that other stretches have.
+    own: Rc<Vec<Spec>>,
+    shared: Vec<Part>,
     // Numbers of declarations by their codes, but where the code is 1 more than the number.
     others: BTreeMap<u64, u32>,
 }
 
 impl Model for Stretch {
+    ghost use Rattle.std.specs.Prelude.{length, ◌++◌};
+    ghost use Rattle.abbrev_tables.specs.Stretches.{Stretched};
+    ghost use Rattle.abbrev_tables.specs.Index.{IsHeld};
+    ghost use Rattle.abbrev_tables.specs.SharedColumns.{all_of, AreCovered};
+
+    ghost Value = { Stretched };
+
+    ghost view = { λ s. record { decls = s.decls.items; specs = s.own.value.items ++ all_of s.shared.items } };
+
+    ghost invariant = { λ s. IsHeld s.decls.items (s.own.value.items ++ all_of s.shared.items) s.others × AreCovered s.decls.items (length s.own.value.items) (length (s.own.value.items ++ all_of s.shared.items)) };
+}
+
+// Declarations that are gathered into a stretch, with columns of their own. Contracts see them as a stretch.
+#[derive(Drop)]
+pub(crate) struct Draft {
+    decls: Vec<Decl>,
+    specs: Vec<Spec>,
+    others: BTreeMap<u64, u32>,
+}
+
+impl Model for Draft {
     ghost use Rattle.abbrev_tables.specs.Stretches.{Stretched};
     ghost use Rattle.abbrev_tables.specs.Index.{IsHeld};
 
@@ -37,29 +59,6 @@ impl Model for Stretch {
     ghost view = { λ s. record { decls = s.decls.items; specs = s.specs.items } };
 
     ghost invariant = { λ s. IsHeld s.decls.items s.specs.items s.others };
-}
-
-// A declaration that is kept: the number of its stretch, and its number in that.
-#[derive(Clone, Copy)]
-pub(crate) struct Known {
-    pub(crate) stretch: u32,
-    pub(crate) number: u32,
-}
-
-// What stands behind the declarations of a stretch.
-#[derive(Clone, Copy)]
-pub(crate) enum Behind {
-    // The code 0, and the place after it.
-    End(u64),
-    // A declaration that is kept.
-    At(Known),
-}
-
-// A stretch, and what stands behind it.
-#[derive(Drop)]
-pub(crate) struct StretchRead {
-    pub(crate) stretch: Stretch,
-    pub(crate) behind: Behind,
 }
 
 // The number of the declaration with a code. Most codes are 1, 2, 3, and so on.
@@ -97,7 +96,11 @@ fn index(decls: &[Decl], others: &mut BTreeMap<u64, u32>, decl: Decl) -> Result<
 }
 
 // Appends a declaration, or answers false where an earlier one has its code.
-fn add(decls: &mut Vec<Decl>, others: &mut BTreeMap<u64, u32>, decl: Decl) -> Result<bool, NoMemory>
+pub(crate) fn add(
+    decls: &mut Vec<Decl>,
+    others: &mut BTreeMap<u64, u32>,
+    decl: Decl,
+) -> Result<bool, NoMemory>
     requires index { IsIndex decls.old.items others.old }
     requires few { length decls.old.items < 2 ^ 32 }
     ensures { IfOk result (IsAdded decls.old.items decl decls.new.items others.new) }
@@ -115,7 +118,7 @@ fn add(decls: &mut Vec<Decl>, others: &mut BTreeMap<u64, u32>, decl: Decl) -> Re
 }
 
 // A declaration with the columns from `first` up to but not including `last`.
-fn declaration(at: u64, head: Head, first: usize, last: usize) -> Decl
+pub(crate) fn declaration(at: u64, head: Head, first: usize, last: usize) -> Decl
     requires order { first ≤ last }
     requires few { last < 2 ^ 32 }
     ensures { result ≡ record { at = at; code = head.code; tag = head.tag; children = head.children; first = first; count = last - first } }
@@ -130,83 +133,26 @@ fn declaration(at: u64, head: Head, first: usize, last: usize) -> Decl
     }
 }
 
-// What was read.
-fn stretch_read(
-    decls: Vec<Decl>,
-    specs: Vec<Spec>,
-    others: BTreeMap<u64, u32>,
-    behind: Behind,
-) -> StretchRead
-    requires { IsHeld decls.items specs.items others }
-    ensures { result ≡ record { stretch = record { decls = decls.items; specs = specs.items }; behind = behind } }
+// Appends the columns of the parts, without so many at the front.
+fn append_behind(parts: &mut Vec<Part>, shared: &[Part], count: u32) -> Result<(), NoMemory>
+    requires { count ≤ length (all_of shared.now) }
+    ensures { OnOk result (all_of parts.new.items ≡ all_of parts.old.items ++ drop count (all_of shared.now)) }
 {
-    StretchRead {
-        stretch: Stretch {
-            decls,
-            specs,
-            others,
-        },
-        behind,
+    let mut left = count;
+    for part in shared {
+        let skipped = left.min(part.len());
+        parts.push(part.behind(skipped)?)?;
+        left -= skipped;
     }
+    Ok(())
 }
 
-fn fault_at(kind: Kind, at: usize) -> Stop
-    ensures { result ≡ Stopped (record { kind = kind; at = at }) }
-{
-    Stop::Fault(FaultAt { kind, at })
-}
-
-// Reads the declarations of the table at the front, whose first byte stands at `start`, up to a code 0 or to a declaration whose
-// place is known.
-pub(crate) fn read_stretch(
-    alloc: Global,
-    rest: &[u8],
-    start: u64,
-    known: &BTreeMap<u64, Known>,
-) -> Result<StretchRead, Stop>
-    requires { start + length rest.now < 2 ^ 64 }
-    ensures stretch { IfOk result (IsStretchRead rest.now start known.now) }
-    ensures fault { IfErr result (IsStop FaultTable rest.now) }
-{
-    let mut decls: Vec<Decl> = Vec::new(alloc);
-    let mut specs: Vec<Spec> = Vec::new(alloc);
-    let mut others: BTreeMap<u64, u32> = BTreeMap::new(alloc);
-    let mut at = 0;
-    while at < rest.len() {
-        match known.get(&(start + at as u64)).copied() {
-            Some(known) => return Ok(stretch_read(decls, specs, others, Behind::At(known))),
-            None => {}
-        }
-        let first = specs.len();
-        let read = match read_declared(&mut specs, &rest[at..]) {
-            Ok(read) => read,
-            Err(Stop::Fault(fault)) => return Err(Stop::Fault(fault_after(at, fault))),
-            Err(Stop::NoMemory) => return Err(Stop::NoMemory),
-        };
-        let last = specs.len();
-        if last > MOST {
-            return Err(Stop::NoMemory);
-        }
-        let Some(head) = read.head else {
-            let end = start + (at + read.end) as u64;
-            return Ok(stretch_read(decls, specs, others, Behind::End(end)));
-        };
-        let decl = declaration(start + at as u64, head, first, last);
-        let is_new = add(&mut decls, &mut others, decl)?;
-        if !is_new {
-            return Err(fault_at(Kind::CodeTwice, at));
-        }
-        at += read.end;
-    }
-    Err(fault_at(Kind::Short, at))
-}
-
-impl Stretch {
+impl Draft {
     // No declarations.
-    pub(crate) fn new(alloc: Global) -> Stretch
+    pub(crate) fn new(alloc: Global) -> Draft
         ensures { result ≡ record { decls = []; specs = [] } }
     {
-        Stretch {
+        Draft {
             decls: Vec::new(alloc),
             specs: Vec::new(alloc),
             others: BTreeMap::new(alloc),
@@ -215,11 +161,11 @@ impl Stretch {
 
     // One more declaration, with copies of its columns. The only error is want of memory, also where there are 2^32
     // declarations or columns.
-    pub(crate) fn with(self, decl: Decl, columns: &[Spec]) -> Result<Stretch, NoMemory>
+    pub(crate) fn with(self, decl: Decl, columns: &Columns<'_>) -> Result<Draft, NoMemory>
         requires { HasCode self.decls decl.code → ⊥ }
         ensures { IfOk result (λ s. s ≡ extended self decl columns.now) }
     {
-        let Stretch {
+        let Draft {
             mut decls,
             mut specs,
             mut others,
@@ -234,10 +180,39 @@ impl Stretch {
         };
         index(&decls, &mut others, own)?;
         decls.push(own)?;
-        specs.extend_from_slice(columns)?;
-        Ok(Stretch {
+        columns.append_to(&mut specs)?;
+        Ok(Draft {
             decls,
             specs,
+            others,
+        })
+    }
+
+    // These declarations.
+    pub(crate) fn finish(self, alloc: Global) -> Result<Stretch, NoMemory>
+        ensures { IfOk result (λ s. s ≡ self) }
+    {
+        Stretch::new(alloc, self.decls, self.specs, Vec::new(alloc), self.others)
+    }
+}
+
+impl Stretch {
+    // Declarations whose columns are own ones and then those of the parts.
+    pub(crate) fn new(
+        alloc: Global,
+        decls: Vec<Decl>,
+        own: Vec<Spec>,
+        shared: Vec<Part>,
+        others: BTreeMap<u64, u32>,
+    ) -> Result<Stretch, NoMemory>
+        requires held { IsHeld decls.items (own.items ++ all_of shared.items) others }
+        requires covered { AreCovered decls.items (length own.items) (length (own.items ++ all_of shared.items)) }
+        ensures { IfOk result (λ s. s ≡ record { decls = decls.items; specs = own.items ++ all_of shared.items }) }
+    {
+        Ok(Stretch {
+            decls,
+            own: Rc::new(alloc, own)?,
+            shared,
             others,
         })
     }
@@ -268,19 +243,58 @@ impl Stretch {
     }
 
     // The columns of the declaration with a number, in their order.
-    pub(crate) fn columns(&self, i: u32) -> &[Spec]
+    pub(crate) fn columns(&self, i: u32) -> Columns<'_>
         requires { i < length self.now.decls }
-        ensures { result.now ≡ (declared_in self.now.specs (decl_at self.now.decls i)).columns }
+        ensures { result ≡ (declared_in self.now.specs (decl_at self.now.decls i)).columns }
     {
-        columns_of(&self.specs, self.decl(i))
+        let decl = self.decls[i as usize];
+        let first = decl.first as usize;
+        let last = first + decl.count as usize;
+        if last <= self.own.len() {
+            return Columns::new(&self.own[first..last], &self.shared[..0]);
+        }
+        Columns::new(&self.own[first..], &self.shared)
+    }
+
+    // The columns of all declarations from the one with a number on, in their order.
+    pub(crate) fn columns_from(&self, i: u32) -> Columns<'_>
+        requires { i < length self.now.decls }
+        ensures { result ≡ drop (first_column self.now i) self.now.specs }
+    {
+        let first = self.decls[i as usize].first as usize;
+        Columns::new(&self.own[first..], &self.shared)
     }
 
     // The columns of all declarations, in their order.
-    pub(crate) fn specs(&self) -> &[Spec]
-        ensures items { result.now ≡ self.now.specs }
+    pub(crate) fn specs(&self) -> Columns<'_>
+        ensures items { result ≡ self.now.specs }
         ensures narrow { length self.now.specs < 2 ^ 32 }
     {
-        &self.specs
+        Columns::new(&self.own, &self.shared)
+    }
+
+    // The columns of the declaration with a number from the one on that has the number `column` among those of all.
+    pub(crate) fn parts_from(
+        &self,
+        alloc: Global,
+        i: u32,
+        column: u32,
+    ) -> Result<Vec<Part>, NoMemory>
+        requires inside { i < length self.now.decls }
+        requires from { (decl_at self.now.decls i).first ≤ column }
+        requires to { column ≤ (decl_at self.now.decls i).first + (decl_at self.now.decls i).count }
+        ensures { IfOk result (λ parts. all_of parts.items ≡ drop (column - (decl_at self.now.decls i).first) (declared_in self.now.specs (decl_at self.now.decls i)).columns) }
+    {
+        let decl = self.decls[i as usize];
+        let own = self.own.len() as u32;
+        let last = (decl.first + decl.count).min(own);
+        let from = column.min(last);
+        let mut parts: Vec<Part> = Vec::new(alloc);
+        parts.push(Part::new(&self.own, from, last)?)?;
+        if decl.first + decl.count > own {
+            append_behind(&mut parts, &self.shared, column - from)?;
+        }
+        Ok(parts)
     }
 
     // The number of the declaration with a code, or None exactly where no declaration has it.

@@ -10,10 +10,11 @@ ghost use Rattle.abbrev_tables.specs.Readings.{IsRefusal};
 ghost use Rattle.abbrev_tables.specs.Stretches.{listed, joined, ended};
 ghost use Rattle.abbrev_tables.specs.Pieces.{StandsIn, ColumnStandsIn};
 
+use crate::columns::Columns;
 use crate::decl::{Decl, Spec};
 use crate::piece::Piece;
 use crate::shared::read_tables;
-use crate::stretch::Stretch;
+use crate::stretch::{Draft, Stretch};
 use dw_base::{NoMemory, Refusal};
 use std::alloc::Global;
 use std::marker::Model;
@@ -83,6 +84,22 @@ impl Table {
             decl_total: decls + rest.decl_total,
             column_total: specs + rest.column_total,
             end: rest.end,
+        })
+    }
+
+    // The same table. The only error is want of memory.
+    pub(crate) fn copied(&self, alloc: Global) -> Result<Table, NoMemory>
+        ensures { IfOk result (λ t. t ≡ self.now) }
+    {
+        let mut pieces = Vec::with_capacity(alloc, self.pieces.len())?;
+        for piece in self.pieces.iter() {
+            pieces.push(piece.shifted(0, 0)?)?;
+        }
+        Ok(Table {
+            pieces,
+            decl_total: self.decl_total,
+            column_total: self.column_total,
+            end: self.end,
         })
     }
 
@@ -179,9 +196,9 @@ impl Table {
     }
 
     /// The columns of the declaration with a number, in their order.
-    pub fn columns(&self, i: u32) -> &[Spec]
+    pub fn columns(&self, i: u32) -> Columns<'_>
         requires { i < length self.now.decls }
-        ensures { result.now ≡ (declared_in self.now.specs (decl_at self.now.decls i)).columns }
+        ensures { result ≡ (declared_in self.now.specs (decl_at self.now.decls i)).columns }
     {
         let piece = self.piece(i);
         piece.stretch.columns(piece.from + (i - piece.decls_before))
@@ -193,7 +210,7 @@ impl Table {
     {
         let mut all = Vec::with_capacity(alloc, self.column_total as usize)?;
         for piece in self.pieces.iter() {
-            all.extend_from_slice(piece.specs())?;
+            piece.specs().append_to(&mut all)?;
         }
         Ok(all)
     }
@@ -204,7 +221,8 @@ impl Table {
         ensures { result ≡ spec_at self.now.specs i }
     {
         let piece = self.piece_of_column(i);
-        piece.stretch.specs()[(piece.first + (i - piece.specs_before)) as usize]
+        let columns = piece.stretch.specs();
+        columns.column((piece.first + (i - piece.specs_before)) as usize)
     }
 
     /// The number of the declaration with a code, or None exactly where no declaration has it.
@@ -226,10 +244,11 @@ impl Table {
         requires inside { All (λ i. i < length self.now.decls) picks.now }
         ensures { IfOk result (IsPart self.now picks.now) }
     {
-        let mut stretch = Stretch::new(alloc);
+        let mut draft = Draft::new(alloc);
         for pick in picks.iter() {
-            stretch = stretch.with(self.decl(*pick), self.columns(*pick))?;
+            let columns = self.columns(*pick);
+            draft = draft.with(self.decl(*pick), &columns)?;
         }
-        Table::whole(alloc, stretch, self.end())
+        Table::whole(alloc, draft.finish(alloc)?, self.end())
     }
 }

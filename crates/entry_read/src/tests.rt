@@ -687,7 +687,14 @@ fn columns_in(
     if number >= table.len() {
         return Err("no declaration")?;
     }
-    assert_eq!(rt; columns_of(&table, number), expected);
+    let columns = columns_of(&table, number);
+    assert_eq!(rt;
+        (columns.len(), columns.is_empty()),
+        (expected.len(), expected.is_empty())
+    );
+    for (index, spec) in expected.iter().enumerate() {
+        assert_eq!(rt; columns.column(index), *spec);
+    }
     Ok(())
 }
 

@@ -180,7 +180,7 @@ fn name_of(world: &World<'_>, unit: u32, id: u32, column: u32) -> u64
     let entry = world.units()[unit as usize].forest().entry(id);
     let table = world.table_numbers()[unit as usize] as usize;
     let named = &world.tables()[table];
-    named.table.columns(entry.decl)[column as usize].name
+    named.table.columns(entry.decl).column(column as usize).name
 }
 
 // Its value.

@@ -1,23 +1,23 @@
 -- The places of tables that units name, and the numbers of tables.
-use Rattle.std.proofs.Common.{◌≡◌, ◌≤◌, ◌<◌, ◌+◌, ◌-◌, ◌∙◌, ◌++◌, ◌⊎◌, inl, inr, eqb, ℕ, zero, suc, List, [], ◌∷◌, length, get_or, take, drop, sym, ap, subst, refl, arith}
+use Rattle.std.proofs.Common.{◌≡◌, ◌≤◌, ◌<◌, ◌+◌, ◌-◌, ◌∙◌, ◌++◌, inl, inr, eqb, ℕ, zero, suc, List, [], ◌∷◌, length, get_or, take, drop, sym, ap, subst, refl, arith}
+use Rattle.std.specs.Prelude.{min, pos}
 use Rattle.std.specs.List.{All, Contains, dedup}
 use Rattle.std.specs.List.Sorted.{IsPermutation, IsSorted, IsStrictlyIncreasing}
 use Rattle.std.specs.List.Retain.{IsFiltered, DiffersFromLast}
 use Rattle.std.specs.Ordering.{nat_cmp}
 use Rattle.std.proofs.lemmas.Bool.{cases_lt}
-use Rattle.std.proofs.lemmas.List.{get_or-map, get_or_default, length-map, length-append, length-drop}
-use Rattle.std.proofs.lemmas.List.Elements.{All-nil, All-cons, All-from_get_or}
+use Rattle.std.proofs.lemmas.List.{get_or-map, get_or_default, length-map, length-append, length-drop, length-take}
+use Rattle.std.proofs.lemmas.List.Elements.{All-nil, All-cons, All-from_get_or, Contains-get_or}
 use Rattle.std.proofs.lemmas.List.Filters.{dedup_is}
 use Rattle.std.proofs.lemmas.List.Kept.{Contains-dedup_nat, Contains-from_dedup, AllPairs-from_increasing}
 use Rattle.std.proofs.lemmas.List.Sorted.{Contains-permutation, IsPermutation-sym}
 use Rattle.std.proofs.lemmas.Map.Keys.{IsStrictlyIncreasing-dedup}
-use Rattle.form_codec.specs.Forms.{code_of}
-use Rattle.form_codec.specs.declared.form.Form.TheVariants.{Ref1, Ref2}
-use Rattle.abbrev_tables.specs.Listings.{Listing, decl_at, declared_in, declarations_in, IsTableAt}
+use Rattle.abbrev_tables.specs.Listings.{Listing, decl_at, spec_at, declared_in, declarations_in, IsTableAt}
 use Rattle.abbrev_tables.specs.declared.decl.Spec.{Spec}
 use Rattle.abbrev_tables.specs.Tables.{Declared}
 use Rattle.abbrev_tables.specs.declared.shared.TableRead.{TableRead}
-use Rattle.abbrev_tables.specs.Shared.{read_at, AreTablesRead}
+use Rattle.abbrev_tables.specs.Shared.{read_at, ColumnStandsBefore, AreTablesRead}
+use Rattle.abbrev_tables.specs.declared.decl.Decl.{Decl}
 use Rattle.abbrev_tables.specs.ListingLaws.{DeclarationsStand}
 use Rattle.entry_arena.specs.Trees.{declared_at}
 use Rattle.entry_read.specs.declared.head.UnitHead.{UnitHead}
@@ -26,7 +26,7 @@ use Rattle.entry_read.proofs.Declarations.{declared_is, count_same}
 use Rattle.value_links.specs.declared.units.NamedTable.{NamedTable}
 use Rattle.value_links.specs.Faults.{HasShortReference, IsUnbuiltDeclaration}
 use Rattle.value_links.specs.Laws.{IsBuilt}
-use Rattle.value_links.specs.Tabled.{AreTablePlaces, AreTidied, IsFreshBuilt, named_places, places_of, with_places}
+use Rattle.value_links.specs.Tabled.{AreTablePlaces, AreTidied, IsShortReference, AreColumnsBuilt, IsFreshBuilt, named_places, places_of, with_places}
 
 -- numbers after a sort, without those that stand twice
 pub tidied : (made sorted kept : List ℕ) → IsPermutation made sorted → IsSorted nat_cmp sorted → IsFiltered (DiffersFromLast eqb) [] sorted kept → AreTidied made kept
@@ -64,16 +64,44 @@ all_built t each =
     let size = count_same t in
     All-from_get_or IsBuilt (declarations_of t) (declared_at [] 0) (λ k inside. let l : k < length t.decls = omega arith in subst IsBuilt (sym (declared_is t k l)) (each k l))
 
--- Tables that were read together, of each of which the fresh declarations can be written: all of each can, since each other one
--- is one of a table before it.
+abbrev no_column : Spec
+no_column = record { name = 0; form = 0; constant = pos 0 }
+
+-- of a declaration no more columns are held than it has
+below_count : (count : ℕ) (columns : List Spec) (j : ℕ) → j < length (take count columns) → j < count
+below_count count columns j inside = let size : length (take count columns) ≡ min count (length columns) = length-take count columns in omega arith
+
+-- Tables that were read together, of each of which the fresh columns of the fresh declarations can be written: all of each can,
+-- since each other declaration, and each other column of these, is one of a table before it.
 module _ (section places : List ℕ) (all : List TableRead) (are : AreTablesRead section places all) (fresh : (i : ℕ) → i < length all → IsFreshBuilt (read_at all i)) where
+  -- the declaration with a number of the table with a number
+  abbrev declared_there : ℕ → ℕ → Declared
+  declared_there i k = declared_in (read_at all i).table.specs (decl_at (read_at all i).table.decls k)
+
   abbrev IsBuiltThere : ℕ → ℕ → Type 0
-  IsBuiltThere i k = IsBuilt (declared_in (read_at all i).table.specs (decl_at (read_at all i).table.decls k))
+  IsBuiltThere i k = IsBuilt (declared_there i k)
+
+  -- a column of a fresh declaration that has one of the forms isn't fresh, and so it is one of a table before
+  short_before : (i k j : ℕ) → i < length places → k < (read_at all i).fresh → k < length (read_at all i).table.decls → j < length (declared_there i k).columns → IsShortReference (spec_at (declared_there i k).columns j) → ColumnStandsBefore all i (spec_at (declared_there i k).columns j)
+  short_before i k j inside new there within short =
+      let r : TableRead = read_at all i in
+      let d : Decl = decl_at r.table.decls k in
+      let count : length all ≡ length places = are.count in
+      let few : j < d.count = below_count d.count (drop d.first r.table.specs) j within in
+      elim (cases_lt (d.first + j) r.fresh_columns) [
+        | inl own ↦ absurd (fresh i (omega arith) k new there j within own short)
+        | inr old ↦ are.shared i k j inside new old few
+      ]
 
   built_below : (n i k : ℕ) → i < n → i < length places → k < length (read_at all i).table.decls → IsBuiltThere i k
   built_below zero i k less inside there = absurd (omega arith)
   built_below (suc n) i k less inside there = elim (cases_lt k (read_at all i).fresh) [
-    | inl new ↦ let count : length all ≡ length places = are.count in fresh i (omega arith) k new there
+    | inl new ↦ λ (column, (j, within, is), form).
+        let d : Declared = declared_there i k in
+        let same : spec_at d.columns j ≡ column = get_or_default d.columns j no_column column within ∙ is in
+        let s = short_before i k j inside new there within (subst IsShortReference (sym same) form) in
+        let before : s.earlier < i = s.before in
+        built_below n s.earlier s.there (omega arith) (omega arith) s.inside (spec_at d.columns j, s.has, subst IsShortReference (sym same) form)
     | inr old ↦
         let s = are.known i k inside old there in
         let before : s.earlier < i = s.before in
@@ -114,9 +142,14 @@ with_places_have P (place ∷ places) (read ∷ tables) size each =
 
 -- COLUMNS THAT CAN'T BE WRITTEN YET
 
--- what is found among the columns of a declaration
-pub short_among : (d : Declared) (columns : List Spec) → columns ≡ d.columns → HasShortReference d → (column : Spec) × Contains columns column × ((column.form ≡ code_of Ref1) ⊎ (column.form ≡ code_of Ref2))
-short_among d columns are (column, among, form) = (column, subst (λ (z : List Spec). Contains z column) (sym are) among, form)
+-- a column with one of these forms is found among those of its declaration
+pub short_among : (d : Declared) (columns : List Spec) (k : ℕ) → columns ≡ d.columns → k < length columns → IsShortReference (spec_at columns k) → HasShortReference d
+short_among d columns k are inside form = (spec_at columns k, subst (λ (z : List Spec). Contains z (spec_at columns k)) are (Contains-get_or columns k no_column inside), form)
+
+-- the fresh columns of a declaration are among its first ones, and so they have none of these forms where none of those has
+pub fresh_front : (read : TableRead) (number : ℕ) (columns : List Spec) (count : ℕ) → columns ≡ (declared_in read.table.specs (decl_at read.table.decls number)).columns → ((k : ℕ) → k < length columns → (decl_at read.table.decls number).first + k < read.fresh_columns → k < count) → ((k : ℕ) → k < count → ¬ IsShortReference (spec_at columns k)) → AreColumnsBuilt read number
+fresh_front read number columns count are first none =
+    subst (λ (z : List Spec). (k : ℕ) → k < length z → (decl_at read.table.decls number).first + k < read.fresh_columns → ¬ IsShortReference (spec_at z k)) are (λ k inside fresh. none k (first k inside fresh))
 
 -- the first tables have no fresh declaration that can't be written, and one table more
 pub fresh_push : (tables : List TableRead) (i : ℕ) (d : TableRead) → i < length tables → ((j : ℕ) → j < i → IsFreshBuilt (read_at tables j)) → IsFreshBuilt (get_or tables i d) → (j : ℕ) → j < i + 1 → IsFreshBuilt (read_at tables j)

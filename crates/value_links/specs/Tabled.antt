@@ -1,9 +1,12 @@
 -- What the parts of the reader of units give: places of tables, tables, their numbers, and units.
-use Rattle.std.specs.Prelude.{◌≡◌, ◌<◌, ℕ, List, [], length, map, take, slice_index, slice_index_or}
+use Rattle.std.specs.Prelude.{◌≡◌, ◌<◌, ◌+◌, ◌⊎◌, ℕ, List, [], length, map, take, slice_index, slice_index_or}
 use Rattle.std.specs.List.{All, Contains, zip}
 use Rattle.std.specs.List.Sorted.{IsStrictlyIncreasing}
 use Rattle.abbrev_tables.specs.declared.shared.TableRead.{TableRead}
-use Rattle.abbrev_tables.specs.Listings.{decl_at, declared_in, IsTableAt}
+use Rattle.abbrev_tables.specs.declared.decl.Spec.{Spec}
+use Rattle.abbrev_tables.specs.Listings.{decl_at, spec_at, declared_in, IsTableAt}
+use Rattle.form_codec.specs.Forms.{code_of}
+use Rattle.form_codec.specs.declared.form.Form.TheVariants.{Ref1, Ref2}
 use Rattle.abbrev_tables.specs.Parts.{IsPart}
 use Rattle.abbrev_tables.specs.Tables.{codes_of, AreDistinct}
 use Rattle.entry_arena.specs.declared.entry.Entry.{Entry}
@@ -58,9 +61,18 @@ pub record HoldFront (info abbrevs : List ℕ) (heads : List UnitHead) (tables :
 
 -- TABLES THAT WERE READ TOGETHER
 
--- the fresh declarations of a table can be written
+-- a column has the form DW_FORM_ref1 or DW_FORM_ref2
+abbrev pub IsShortReference : Spec → Type 0
+IsShortReference column = (column.form ≡ code_of Ref1) ⊎ (column.form ≡ code_of Ref2)
+
+-- The fresh columns of a declaration of a table can be written. Columns are counted over all declarations of the table.
+abbrev pub AreColumnsBuilt : TableRead → ℕ → Type 0
+AreColumnsBuilt read number =
+    (k : ℕ) → k < length (declared_in read.table.specs (decl_at read.table.decls number)).columns → (decl_at read.table.decls number).first + k < read.fresh_columns → ¬ IsShortReference (spec_at (declared_in read.table.specs (decl_at read.table.decls number)).columns k)
+
+-- so can those of all its fresh declarations
 abbrev pub IsFreshBuilt : TableRead → Type 0
-IsFreshBuilt read = (number : ℕ) → number < read.fresh → number < length read.table.decls → IsBuilt (declared_in read.table.specs (decl_at read.table.decls number))
+IsFreshBuilt read = (number : ℕ) → number < read.fresh → number < length read.table.decls → AreColumnsBuilt read number
 
 -- the declaration with a number can't be written yet
 abbrev pub IsUnbuiltAt : TableRead → ℕ → Type 0

@@ -52,7 +52,7 @@ pub(crate) fn column_name(table: &Table, number: u32, column: u32) -> u64
     requires column { column < length (declared_at (declarations_of table.now) number).columns }
     ensures { result ≡ (spec_at (declared_at (declarations_of table.now) number).columns column).name }
 {
-    table.columns(number)[column as usize].name
+    table.columns(number).column(column as usize).name
 }
 
 // Whether an opcode is that of an operation that names an entry, which isn't read yet.

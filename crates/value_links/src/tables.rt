@@ -1,16 +1,14 @@
 // The abbreviation tables that units name.
-ghost use Rattle.std.specs.Prelude.{◌≡◌, ◌≤◌, ◌<◌, ◌+◌, ◌^◌, ◌⊎◌, ◌↔◌, ◌++◌, ◌∷◌, [], ℕ, length, drop, take, slice_index, IsTrue, IfOk, IfErr, OnOk, MatchOption};
+ghost use Rattle.std.specs.Prelude.{◌≡◌, ◌≤◌, ◌<◌, ◌+◌, ◌^◌, ◌↔◌, ◌++◌, ◌∷◌, [], ℕ, length, drop, take, slice_index, IsTrue, IfOk, IfErr, OnOk, MatchOption};
 ghost use Rattle.std.specs.List.{All, Contains};
 ghost use Rattle.dw_base.specs.Refusals.{IsFaultOf, IsRefusedFor};
-ghost use Rattle.form_codec.specs.Forms.{code_of};
-ghost use Rattle.form_codec.specs.declared.form.Form.TheVariants.{Ref1, Ref2};
-ghost use Rattle.abbrev_tables.specs.declared.decl.Spec.{Spec as AnyColumn};
+ghost use Rattle.abbrev_tables.specs.Listings.{spec_at};
 ghost use Rattle.abbrev_tables.specs.Shared.{read_at};
 ghost use Rattle.value_links.specs.Faults.{FaultRest};
-ghost use Rattle.value_links.specs.Tabled.{AreTablePlaces, AreNumbers, IsNamed, IsFreshBuilt, IsUnbuiltAt, IsUnbuiltPlace, places_of, named_places, with_places};
+ghost use Rattle.value_links.specs.Tabled.{AreTablePlaces, AreNumbers, IsNamed, IsShortReference, IsFreshBuilt, IsUnbuiltAt, IsUnbuiltPlace, places_of, named_places, with_places};
 
 use crate::units::NamedTable;
-use abbrev_tables::{Spec, TableRead, listings, read_tables};
+use abbrev_tables::{Columns, TableRead, listings, read_tables};
 use dw_base::{Fault, Kind, NoMemory, Refusal};
 use entry_read::UnitHead;
 use std::alloc::Global;
@@ -38,28 +36,45 @@ pub(crate) fn table_places(alloc: Global, heads: &[UnitHead]) -> Result<Vec<u64>
     Ok(places)
 }
 
-// Whether a column has one of the forms that can't be written yet.
-fn has_short_reference(columns: &[Spec]) -> bool
-    ensures { IsTrue result ↔ ((column : AnyColumn) × Contains columns.now column × ((column.form ≡ code_of Ref1) ⊎ (column.form ≡ code_of Ref2))) }
+// Whether one of the first `count` columns has a form that can't be written yet.
+fn has_short_reference(columns: &Columns<'_>, count: usize) -> bool
+    requires { count ≤ length columns.now }
+    ensures { IsTrue result ↔ ((k : ℕ) × (k < count) × IsShortReference (spec_at columns.now k)) }
 {
-    columns
-        .iter()
-        .any(|column| column.form == REF1 || column.form == REF2)
+    for index in 0..count {
+        let form = columns.column(index).form;
+        if form == REF1 || form == REF2 {
+            return true;
+        }
+    }
+    false
 }
 
-// The number of the first fresh declaration of a table whose entries can't be written yet.
+// How many of the `count` columns of a declaration are fresh. The first of them has the number `first` among those of the table.
+// Fresh ones come first: the others are columns of tables before, and were looked at there.
+fn fresh_count(read: &TableRead, first: u32, count: usize) -> usize
+    ensures inside { result ≤ count }
+    ensures fresh { (k : ℕ) → k < count → (k < result) ↔ (first + k < read.now.fresh_columns) }
+{
+    count.min(read.fresh_columns.saturating_sub(first) as usize)
+}
+
+// The number of a declaration of a table that has a column with a form that can't be written yet. Fresh columns alone are looked at.
 fn unbuilt_among(read: &TableRead) -> Option<u32>
     ensures { MatchOption result (IsFreshBuilt read.now) (IsUnbuiltAt read.now) }
 {
     for number in 0..read.fresh.min(read.table.len()) {
-        if has_short_reference(read.table.columns(number)) {
+        let columns = read.table.columns(number);
+        let count = fresh_count(read, read.table.decl(number).first, columns.len());
+        if has_short_reference(&columns, count) {
             return Some(number);
         }
     }
     None
 }
 
-// The place of a declaration of a table whose entries can't be written yet. Declarations of tables before it are known.
+// The place of a declaration of a table whose entries can't be written yet. What isn't fresh of a table was looked at in those
+// before it.
 fn unbuilt_in(tables: &[TableRead]) -> Option<u64>
     ensures { MatchOption result ((i : ℕ) → i < length tables.now → IsFreshBuilt (read_at tables.now i)) (λ place. (i : ℕ) × (i < length tables.now) × IsUnbuiltPlace (read_at tables.now i) place) }
 {
@@ -86,8 +101,9 @@ fn named(alloc: Global, places: &[u64], tables: Vec<TableRead>) -> Result<Vec<Na
     Ok(named)
 }
 
-/// Reads the tables at places of `abbrevs`, the body of .debug_abbrev, whose first byte has the file offset `origin`. Each
-/// declaration is read and looked at once, also where tables overlap. A refusal names a fault of the table at one of the places.
+/// Reads the tables at places of `abbrevs`, the body of .debug_abbrev, whose first byte has the file offset `origin`. Where
+/// tables overlap, the declarations and the columns that they share are looked at once. A refusal names a fault of the table at one
+/// of the places.
 pub(crate) fn read_named_tables(
     alloc: Global,
     places: &[u64],

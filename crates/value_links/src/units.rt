@@ -126,7 +126,8 @@ fn read_each<'a>(
 
 /// Reads the units of `info`, the body of .debug_info, with the abbreviation tables that they name in `abbrevs`, the body of
 /// .debug_abbrev (DWARF 5 sections 7.5.1 to 7.5.3). Each origin is the file offset of its section's first byte. Each declaration
-/// is read once, also where tables overlap, and of each table only the declarations that entries have are kept.
+/// is read once, also where tables overlap, and so are the columns with which several end. Of each table only the declarations
+/// that entries have are kept.
 ///
 /// A refusal names a fault of a unit's header, of its debug_abbrev_offset, of a table that a unit names, or of the entries of a
 /// unit. `NoMemory` may come wherever memory is wanting, and answers 2^32 tables.
