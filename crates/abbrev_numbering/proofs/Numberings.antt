@@ -4,7 +4,7 @@ use Rattle.std.specs.List.Sorted.{IsPermutation, IsSorted}
 use Rattle.std.proofs.lemmas.Bool.{cases_lt}
 use Rattle.leb_codec.specs.Leb.{least_unsigned_len}
 use Rattle.leb_codec.specs.Numbering.{IsUsed, IsLeastNumbering, ComesBefore, RiseByFallingUses, AreFirstNumbers, used_count}
-use Rattle.abbrev_numbering.specs.Order.{Used, used_among, place_at, AreNumbered}
+use Rattle.abbrev_numbering.specs.inside.Order.{Used, used_among, place_at, AreNumbered}
 use Rattle.abbrev_numbering.proofs.Orders.{count_at, Leads, leads, used_place, entry, seat, count_used, few_used, cmp_used}
 use Rattle.abbrev_numbering.proofs.Sizes.{size_least}
 

@@ -10,7 +10,7 @@ use Rattle.std.proofs.lemmas.List.Sums.{sum_by_push, sum_by_more, sum_by-take-le
 use Rattle.std.proofs.lemmas.List.Elements.{All-nil, All-push, All-weaker, All-get_or, Contains-append_left, Contains-push}
 use Rattle.std.proofs.lemmas.List.Sorted.{sum_by-IsPermutation, All-permutation, Contains-permutation, length_permutation}
 use Rattle.leb_codec.specs.Numbering.{IsUsed, used_count}
-use Rattle.abbrev_numbering.specs.Order.{Used, used_at, used_among, place_at, ArePlaces}
+use Rattle.abbrev_numbering.specs.inside.Order.{Used, used_at, used_among, place_at, ArePlaces}
 
 abbrev pub no_use : Used
 no_use = (record { 0 = 0 }, 0)

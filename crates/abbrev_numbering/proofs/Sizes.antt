@@ -8,7 +8,7 @@ use Rattle.std.proofs.lemmas.List.Sums.{sum_by_push, sum_by-cons}
 use Rattle.std.proofs.lemmas.List.Sorted.{sum_by-IsPermutation}
 use Rattle.leb_codec.specs.Leb.{least_unsigned_len}
 use Rattle.leb_codec.specs.Numbering.{IsNumbering, number_bytes, numbering_size}
-use Rattle.abbrev_numbering.specs.Order.{Used, used_at, used_among, place_at}
+use Rattle.abbrev_numbering.specs.inside.Order.{Used, used_at, used_among, place_at}
 use Rattle.abbrev_numbering.proofs.Climbs.{cost, climb_cost, climb_is_least, cost_climb, Falls, falls_from}
 use Rattle.abbrev_numbering.proofs.Orders.{no_use, Leads, places, used_place}
 

@@ -4,7 +4,7 @@
 
 ghost use Rattle.std.specs.Prelude.{◌≡◌, ◌<◌, ◌≤◌, ◌^◌, ◌↔◌, ℕ, length, slice_index, IfOk};
 ghost use Rattle.leb_codec.specs.Numbering.{IsLeastNumbering, RiseByFallingUses, AreFirstNumbers, IsUsed};
-ghost use Rattle.abbrev_numbering.specs.Order.{used_among, ArePlaces, AreNumbered};
+ghost use Rattle.abbrev_numbering.specs.inside.Order.{used_among, ArePlaces, AreNumbered};
 
 #[cfg(test)]
 mod tests;

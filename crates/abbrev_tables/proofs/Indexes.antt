@@ -10,7 +10,8 @@ use Rattle.std.proofs.lemmas.Bool.Decides.{nat_tests}
 use Rattle.std.specs.Ordering.{is_eq}
 use Rattle.abbrev_tables.specs.declared.decl.Decl.{Decl}
 use Rattle.abbrev_tables.specs.Listings.{decl_at}
-use Rattle.abbrev_tables.specs.Index.{IsIndex, IsAdded, HasCode, HaveOwnCodes}
+use Rattle.abbrev_tables.specs.Index.{IsIndex, HasCode}
+use Rattle.abbrev_tables.specs.inside.Index.{IsAdded, HaveOwnCodes}
 
 some_none : {X : Type 0} (x : X) → Some x ≡ None → ⊥
 some_none x e = none-some x (sym e)
@@ -29,10 +30,10 @@ found decls others code index test None e = not_found decls others code index te
 found decls others code index test (Some i) e = index.sound code i (sym e)
 
 -- the declaration at a place of a list with one more
-pub old_at : (decls : List Decl) (d : Decl) (i : ℕ) → i < length decls → decl_at (decls ++ d ∷ []) i ≡ decl_at decls i
+old_at : (decls : List Decl) (d : Decl) (i : ℕ) → i < length decls → decl_at (decls ++ d ∷ []) i ≡ decl_at decls i
 old_at decls d i inside = get_or_append_left decls (d ∷ []) (record { at = 0; code = 0; tag = 0; children = false; first = 0; count = 0 }) i inside
 
-pub new_at : (decls : List Decl) (d : Decl) (i : ℕ) → i ≡ length decls → decl_at (decls ++ d ∷ []) i ≡ d
+new_at : (decls : List Decl) (d : Decl) (i : ℕ) → i ≡ length decls → decl_at (decls ++ d ∷ []) i ≡ d
 new_at decls d i e =
     let plus : i ≡ length decls + 0 = omega arith in
     ap (λ n. decl_at (decls ++ d ∷ []) n) plus ∙ get_or-append-add decls (d ∷ []) 0 (record { at = 0; code = 0; tag = 0; children = false; first = 0; count = 0 })

@@ -7,16 +7,3 @@ pub mod Puts
 pub mod Shortest
 pub mod ListingOnce
 pub mod ListingStands
-pub mod WholeParts
-pub mod Joined
-pub mod Pieces
-pub mod Gathers
-pub mod SharedLaws
-pub mod BlankLaws
-pub mod ShelfLaws
-pub mod PartLaws
-pub mod PartsOnce
-pub mod FrontLaws
-pub mod ColumnLaws
-pub mod FollowLaws
-pub mod CompletedLaws

@@ -16,7 +16,7 @@ tail_same x y xs ys e = cc
 nothing_same : {A : Type 0} (x : A) (xs : List A) → [] ≡ (x ∷ xs) → ⊥
 nothing_same x xs e = absurd (cc)
 
-pub decl_same : (d e : Decl) → d.at ≡ e.at → d.code ≡ e.code → d.tag ≡ e.tag → d.children ≡ e.children → d.first ≡ e.first → d.count ≡ e.count → d ≡ e
+decl_same : (d e : Decl) → d.at ≡ e.at → d.code ≡ e.code → d.tag ≡ e.tag → d.children ≡ e.children → d.first ≡ e.first → d.count ≡ e.count → d ≡ e
 decl_same d e at code tag children first count =
     ap (λ (z : ℕ). record { at = z; code = d.code; tag = d.tag; children = d.children; first = d.first; count = d.count }) at
     ∙ ap (λ (z : ℕ). record { at = e.at; code = z; tag = d.tag; children = d.children; first = d.first; count = d.count }) code
@@ -26,7 +26,7 @@ decl_same d e at code tag children first count =
     ∙ ap (λ (z : ℕ). record { at = e.at; code = e.code; tag = e.tag; children = e.children; first = e.first; count = z }) count
 
 -- a declaration has as many columns as are counted
-pub column_count : (specs : List Spec) (first count : ℕ) → first + count ≤ length specs → length (take count (drop first specs)) ≡ count
+column_count : (specs : List Spec) (first count : ℕ) → first + count ≤ length specs → length (take count (drop first specs)) ≡ count
 column_count specs first count inside =
     let left : length (drop first specs) ≡ length specs - first = length-drop first specs in
     length-take-le count (drop first specs) (omega arith)
@@ -36,7 +36,7 @@ abbrev pub all_columns : List Declared → List Spec
 all_columns [] = []
 all_columns (d ∷ ds) = d.columns ++ all_columns ds
 
-pub columns_are : (specs : List Spec) (from : ℕ) (ds : List Decl) → AreAdjacent from ds (length specs) → all_columns (declarations_in specs ds) ≡ drop from specs
+columns_are : (specs : List Spec) (from : ℕ) (ds : List Decl) → AreAdjacent from ds (length specs) → all_columns (declarations_in specs ds) ≡ drop from specs
 columns_are specs from [] e = let same : from ≡ length specs = e in sym (at_drop_all (λ (z : List Spec). z) specs from (omega arith))
 columns_are specs from (d ∷ ds) (e, rest) =
     let first : take d.count (drop d.first specs) ≡ take d.count (drop from specs) = ap (λ z. take d.count (drop z specs)) e in
@@ -64,7 +64,7 @@ decls_once ss ts from place (d ∷ ds) (e ∷ es) a b x y (d_first, m) (e_first,
     let more : ds ≡ es = decls_once ss ts (from + d.count) (place + length front) ds es rest left x y m after (tail_same (declared_in ss d) (declared_in ts e) (declarations_in ss ds) (declarations_in ts es) same) p placed behind in
     ap (λ z. z ∷ ds) one ∙ ap (λ z. e ∷ z) more
 
-pub listing_same : (t u : Listing) → t.decls ≡ u.decls → t.specs ≡ u.specs → t.end ≡ u.end → t ≡ u
+listing_same : (t u : Listing) → t.decls ≡ u.decls → t.specs ≡ u.specs → t.end ≡ u.end → t ≡ u
 listing_same t u decls specs end =
     ap (λ (z : List Decl). record { decls = z; specs = t.specs; end = t.end }) decls
     ∙ ap (λ (z : List Spec). record { decls = u.decls; specs = z; end = t.end }) specs

@@ -16,7 +16,8 @@ use Rattle.abbrev_tables.specs.declared.decl.Decl.{Decl}
 use Rattle.abbrev_tables.specs.declared.decl.Spec.{Spec}
 use Rattle.abbrev_tables.specs.Tables.{implicit_const, SpellsChildren, Declared}
 use Rattle.abbrev_tables.specs.Listings.{AreAdjacent, decl_at}
-use Rattle.abbrev_tables.specs.Written.{ShortestConstant, ShortestColumn, ShortestColumns, ShortestDeclared, ShortestTable, used_among, numbered_as, renumbered, used_at, AreUsed, IsInOrder, IsWrittenOf}
+use Rattle.abbrev_tables.specs.Written.{ShortestConstant, ShortestColumn, ShortestColumns, ShortestDeclared, ShortestTable, used_among, numbered_as, renumbered, used_at, IsInOrder, IsWrittenOf}
+use Rattle.abbrev_tables.specs.inside.Written.{AreUsed}
 use Rattle.abbrev_tables.proofs.Rows.{adjacent_rises}
 
 pub constant_none : (form : ℕ) (constant : ℤ) (out : List ℕ) → form ≢ implicit_const → Appends (ShortestConstant form) constant out out

@@ -1,6 +1,6 @@
 -- Declarations that are read one after the other.
 use Rattle.std.proofs.Common.{◌≡◌, ◌≤◌, ◌<◌, ◌+◌, ◌-◌, ℕ, zero, suc, List, [], ◌∷◌, ◌++◌, length, take, drop, get_or, ◌∙◌, sym, ap, refl, subst, arith, inl, inr}
-use Rattle.std.specs.Prelude.{Bool, true, Option, Some}
+use Rattle.std.specs.Prelude.{Bool, true, Option, Some, None}
 use Rattle.std.proofs.lemmas.List.{length-drop, length-take-le, length-append, length-map, append-nil, append_assoc, take-append-drop, take-append-le, drop-append-le, drop_at, take_all}
 use Rattle.spelled.specs.Spelled.{Joined, FaultThen, FaultUntilEnd}
 use Rattle.spelled.proofs.Parts.{take_sum}
@@ -10,13 +10,13 @@ use Rattle.abbrev_tables.specs.declared.decl.Decl.{Decl}
 use Rattle.abbrev_tables.specs.declared.decl.Spec.{Spec}
 use Rattle.abbrev_tables.specs.Tables.{SpellsName, Declared, SpellsDeclared, codes_of, AreDistinct}
 use Rattle.abbrev_tables.specs.Faults.{FaultName, FaultCode, FaultColumn, FaultFlagged, FaultWithin, FaultDeclared, FaultTable}
-use Rattle.abbrev_tables.specs.Listings.{decl_at, declared_in, declarations_in, AreAdjacent, ArePlaced}
+use Rattle.abbrev_tables.specs.Listings.{Listing, decl_at, declared_in, declarations_in, AreAdjacent, ArePlaced, IsTableAt}
 use Rattle.std.specs.BTreeMap.{BTreeMap}
 use Rattle.abbrev_tables.specs.declared.read.Head.{Head}
 use Rattle.abbrev_tables.specs.declared.read.ReadDecl.{ReadDecl}
-use Rattle.abbrev_tables.specs.declared.known.KnownColumn.{KnownColumn}
-use Rattle.abbrev_tables.specs.Readings.{SpellsBehind, HasColumns, IsDeclOrEnd, IsReadDecl}
-use Rattle.abbrev_tables.specs.Index.{HasCode, HaveOwnCodes, IsAdded, IsFront}
+use Rattle.abbrev_tables.specs.inside.Readings.{IsDeclOrEnd, IsReadDecl}
+use Rattle.abbrev_tables.specs.Index.{HasCode}
+use Rattle.abbrev_tables.specs.inside.Index.{HaveOwnCodes, IsAdded, IsFront, IsReadFrom}
 use Rattle.abbrev_tables.proofs.Indexes.{own_more}
 
 pub adjacent_more : (from : ℕ) (ds : List Decl) (to : ℕ) (d : Decl) → AreAdjacent from ds to → d.first ≡ to → AreAdjacent from (ds ++ d ∷ []) (to + d.count)
@@ -27,13 +27,19 @@ pub adjacent_rises : (from : ℕ) (ds : List Decl) (to : ℕ) → AreAdjacent fr
 adjacent_rises from [] to e = omega arith
 adjacent_rises from (x ∷ ds) to (e, a) = let r : from + x.count ≤ to = adjacent_rises (from + x.count) ds to a in omega arith
 
+-- the columns of each declaration stand behind the place where those of the first begin
+pub first_after : (from : ℕ) (ds : List Decl) (to i : ℕ) → AreAdjacent from ds to → i < length ds → from ≤ (decl_at ds i).first
+first_after from [] to i a inside = absurd (omega arith)
+first_after from (d ∷ ds) to zero (e, a) inside = omega arith
+first_after from (d ∷ ds) to (suc i) (e, a) inside = let rest : from + d.count ≤ (decl_at ds i).first = first_after (from + d.count) ds to i a (omega arith) in omega arith
+
 -- columns that come later change no declaration
-pub columns_stay : (columns more : List Spec) (n k : ℕ) → n + k ≤ length columns → take k (drop n (columns ++ more)) ≡ take k (drop n columns)
+columns_stay : (columns more : List Spec) (n k : ℕ) → n + k ≤ length columns → take k (drop n (columns ++ more)) ≡ take k (drop n columns)
 columns_stay columns more n k fits =
     let size : length (drop n columns) ≡ length columns - n = length-drop n columns in
     ap (λ z. take k z) (drop-append-le n columns more (omega arith)) ∙ take-append-le k (drop n columns) more (omega arith)
 
-pub declared_stays : (columns more : List Spec) (d : Decl) → d.first + d.count ≤ length columns → declared_in (columns ++ more) d ≡ declared_in columns d
+declared_stays : (columns more : List Spec) (d : Decl) → d.first + d.count ≤ length columns → declared_in (columns ++ more) d ≡ declared_in columns d
 declared_stays columns more d fits = ap (λ z. record { code = d.code; tag = d.tag; children = d.children; columns = z }) (columns_stay columns more d.first d.count fits)
 
 placed_stay : (columns more : List Spec) (from place : ℕ) (ds : List Decl) (bytes : List ℕ) → AreAdjacent from ds (length columns) → ArePlaced columns place ds bytes → ArePlaced (columns ++ more) place ds bytes
@@ -51,12 +57,12 @@ placed_push columns place (x ∷ ds) d a b (first, rest, h, t, p, w) at s =
     let size : length a ≡ length first + length rest = ap length w ∙ length-append first rest in
     (first, rest ++ b, h, t, placed_push columns (place + length first) ds d rest b p (omega arith) s, ap (λ z. z ++ b) w ∙ append_assoc first rest b)
 
-pub placed_joined : (columns : List Spec) (place : ℕ) (ds : List Decl) (bytes : List ℕ) → ArePlaced columns place ds bytes → Joined SpellsDeclared (declarations_in columns ds) bytes
+placed_joined : (columns : List Spec) (place : ℕ) (ds : List Decl) (bytes : List ℕ) → ArePlaced columns place ds bytes → Joined SpellsDeclared (declarations_in columns ds) bytes
 placed_joined columns place [] bytes p = p
 placed_joined columns place (d ∷ ds) bytes (first, rest, at, s, p, w) = (first, rest, s, placed_joined columns (place + length first) ds rest p, w)
 
 -- the columns of the last declaration
-pub last_columns : (columns more : List Spec) (d : Decl) → d.first ≡ length columns → d.count ≡ length more → take d.count (drop d.first (columns ++ more)) ≡ more
+last_columns : (columns more : List Spec) (d : Decl) → d.first ≡ length columns → d.count ≡ length more → take d.count (drop d.first (columns ++ more)) ≡ more
 last_columns columns more d f n =
     ap (λ k. take k (drop d.first (columns ++ more))) n ∙ ap (λ k. take (length more) (drop k (columns ++ more))) f ∙ ap (λ z. take (length more) z) (drop_at columns more (length columns) refl) ∙ take_all (length more) more (omega arith)
 
@@ -139,7 +145,7 @@ front_short rest start at decls columns f over =
     (inside, subst (λ (n : ℕ). FaultTable Short n rest) e (front_fails rest start at 0 Short decls columns f (omega arith) fault).1)
 
 -- the code of a declaration among the codes
-pub code_of : (columns : List Spec) (decls : List Decl) (i : ℕ) → i < length decls → get_or (codes_of (declarations_in columns decls)) i 0 ≡ (decl_at decls i).code
+code_of : (columns : List Spec) (decls : List Decl) (i : ℕ) → i < length decls → get_or (codes_of (declarations_in columns decls)) i 0 ≡ (decl_at decls i).code
 code_of columns [] i inside = absurd (omega arith)
 code_of columns (d ∷ ds) zero inside = refl
 code_of columns (d ∷ ds) (suc i) inside = code_of columns ds i (omega arith)
@@ -170,7 +176,7 @@ front_twice rest start at end decls old code tag children more f fits s (i, insi
       },
     )
 
-pub codes_long : (columns : List Spec) (decls : List Decl) → length (codes_of (declarations_in columns decls)) ≡ length decls
+codes_long : (columns : List Spec) (decls : List Decl) → length (codes_of (declarations_in columns decls)) ≡ length decls
 codes_long columns [] = refl
 codes_long columns (d ∷ ds) = ap suc (codes_long columns ds)
 
@@ -181,26 +187,66 @@ own_distinct columns decls own i j li lj e =
     let b : j < length decls = omega arith in
     own i j a b (sym (code_of columns decls i a) ∙ e ∙ code_of columns decls j b)
 
--- what the reader of one declaration gives, where it is not the code 0
-pub decl_read : (known : BTreeMap ℕ KnownColumn) (rest : List ℕ) (start : ℕ) (old new : List Spec) (old_places new_places : List ℕ) (r : ReadDecl) (h : Head) (whole : Bool) → IsReadDecl known rest start old new old_places new_places r → r.head ≡ Some h → r.is_whole ≡ whole → HasColumns (SpellsBehind h) known rest start r.end whole old new old_places new_places
-decl_read known rest start old new old_places new_places r h whole read is ends =
-    let head = subst (λ (z : Option Head). IsDeclOrEnd z known rest start r.end r.is_whole old new old_places new_places) is read.1 in
-    subst (λ (z : Bool). HasColumns (SpellsBehind h) known rest start r.end z old new old_places new_places) ends head
+-- the table at a place of a section
+pub table_at : (section : List ℕ) (at : ℕ) (t : Listing) → at < length section → IsReadFrom (drop at section) at t → IsTableAt section at t
+table_at section at t before r =
+    let rest : List ℕ = drop at section in
+    let size : length (drop at section) ≡ length section - at = length-drop at section in
+    let inside : r.at + r.end ≤ length (drop at section) = r.inside in
+    let place : t.end ≡ at + (r.at + r.end) = r.place in
+    let e : r.at + r.end ≡ t.end - at = omega arith in
+    let whole : take (t.end - at) rest ≡ take r.at rest ++ take r.end (drop r.at rest) = ap (λ n. take n rest) (sym e) ∙ take_sum r.at r.end rest in
+    record {
+      starts = omega arith;
+      inside = omega arith;
+      table = record {
+        spelled = (take r.at rest, take r.end (drop r.at rest), placed_joined t.specs at t.decls (take r.at rest) r.front.placed, r.ended, whole);
+        distinct = own_distinct t.specs t.decls r.front.own;
+      };
+      front = take r.at rest;
+      end = take r.end (drop r.at rest);
+      placed = r.front.placed;
+      ended = r.ended;
+      whole = whole;
+      adjacent = r.front.adjacent;
+    }
 
-pub front_step : (known : BTreeMap ℕ KnownColumn) (rest : List ℕ) (start at end : ℕ) (decls after : List Decl) (old new : List Spec) (old_places new_places : List ℕ) (others : BTreeMap ℕ ℕ) (h : Head) (d : Decl) (place first last : ℕ) → IsFront rest start at decls old → HasColumns (SpellsBehind h) known (drop at rest) place end true old new old_places new_places → place ≡ start + at → first ≡ length old → last ≡ length new → d ≡ record { at = place; code = h.code; tag = h.tag; children = h.children; first = first; count = last - first } → IsAdded decls d after others true → IsFront rest start (at + end) after new
-front_step known rest start at end decls after old new old_places new_places others h d place first last f columns p q s e added =
+-- what a reader of one declaration gives
+decl_or_end : (head other : Option Head) (old new : List Spec) (bytes : List ℕ) → head ≡ other → IsDeclOrEnd head old new bytes → IsDeclOrEnd other old new bytes
+decl_or_end head other old new bytes e d = subst (λ (z : Option Head). IsDeclOrEnd z old new bytes) e d
+
+pub front_step : (rest : List ℕ) (start at : ℕ) (decls after : List Decl) (old new : List Spec) (others : BTreeMap ℕ ℕ) (r : ReadDecl) (h : Head) (d : Decl) (place first last : ℕ) → IsFront rest start at decls old → IsReadDecl (drop at rest) old new r → r.head ≡ Some h → place ≡ start + at → first ≡ length old → last ≡ length new → d ≡ record { at = place; code = h.code; tag = h.tag; children = h.children; first = first; count = last - first } → IsAdded decls d after others true → IsFront rest start (at + r.end) after new
+front_step rest start at decls after old new others r h d place first last f read is p q s e added =
+    let columns = decl_or_end r.head (Some h) old new (take r.end (drop at rest)) is read.2 in
     let full : Decl = record { at = place; code = h.code; tag = h.tag; children = h.children; first = first; count = last - first } in
     let fresh : HasCode decls full.code → ⊥ = subst (λ (z : Decl). HasCode decls z.code → ⊥) e added.3 in
     let count : last - first ≡ length new - length old = omega arith in
-    let more = front_more rest start at end decls old new columns.columns full f columns.inside columns.added columns.spelled p q count fresh in
-    subst (λ (z : List Decl). IsFront rest start (at + end) z new) (sym (added.0 ∙ ap (λ z. decls ++ z ∷ []) e)) more
+    let more = front_more rest start at r.end decls old new columns.columns full f read.0 columns.added columns.spelled p q count fresh in
+    subst (λ (z : List Decl). IsFront rest start (at + r.end) z new) (sym (added.0 ∙ ap (λ z. decls ++ z ∷ []) e)) more
 
 -- an answer that a declaration was added, or not
 pub is_added : (decls after : List Decl) (d : Decl) (others : BTreeMap ℕ ℕ) (b c : Bool) → b ≡ c → IsAdded decls d after others b → IsAdded decls d after others c
 is_added decls after d others b c e h = subst (λ (z : Bool). IsAdded decls d after others z) e h
 
-pub front_again : (known : BTreeMap ℕ KnownColumn) (rest : List ℕ) (start at place end : ℕ) (decls : List Decl) (old new : List Spec) (old_places new_places : List ℕ) (h : Head) → IsFront rest start at decls old → HasColumns (SpellsBehind h) known (drop at rest) place end true old new old_places new_places → HasCode decls h.code → (at ≤ length rest) × FaultTable CodeTwice at rest
-front_again known rest start at place end decls old new old_places new_places h f columns has = front_twice rest start at end decls old h.code h.tag h.children columns.columns f columns.inside columns.spelled has
+pub front_end : (rest : List ℕ) (start at : ℕ) (decls : List Decl) (old new : List Spec) (r : ReadDecl) → IsFront rest start at decls old → IsReadDecl (drop at rest) old new r → r.head ≡ None → IsReadFrom rest start (record { decls = decls; specs = new; end = start + (at + r.end) })
+front_end rest start at decls old new r f read is =
+    let ends = decl_or_end r.head None old new (take r.end (drop at rest)) is read.2 in
+    let size : length (drop at rest) ≡ length rest - at = length-drop at rest in
+    let inside : at ≤ length rest = f.inside in
+    let fits : r.end ≤ length (drop at rest) = read.0 in
+    record {
+      at = at;
+      end = r.end;
+      front = subst (λ (z : List Spec). IsFront rest start at decls z) (sym ends.0) f;
+      inside = omega arith;
+      ended = ends.1;
+      place = refl;
+    }
+
+pub front_again : (rest : List ℕ) (start at : ℕ) (decls : List Decl) (old new : List Spec) (r : ReadDecl) (h : Head) → IsFront rest start at decls old → IsReadDecl (drop at rest) old new r → r.head ≡ Some h → HasCode decls h.code → (at ≤ length rest) × FaultTable CodeTwice at rest
+front_again rest start at decls old new r h f read is has =
+    let columns = decl_or_end r.head (Some h) old new (take r.end (drop at rest)) is read.2 in
+    front_twice rest start at r.end decls old h.code h.tag h.children columns.columns f read.0 columns.spelled has
 
 pub again_code : (decls : List Decl) (d : Decl) (h : Head) → d.code ≡ h.code → HasCode decls d.code → HasCode decls h.code
 again_code decls d h e has = subst (λ (n : ℕ). HasCode decls n) e has

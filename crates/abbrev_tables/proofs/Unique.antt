@@ -2,7 +2,8 @@
 use Rattle.std.proofs.Common.{◌≡◌, ℕ, List, [], ◌∷◌, ◌++◌, get_or, ◌∙◌, sym, ap, refl, arith, inl, inr}
 use Rattle.std.specs.Prelude.{ℤ, pos, Bool, true, false}
 use Rattle.std.proofs.lemmas.List.{append_assoc}
-use Rattle.spelled.specs.Spelled.{HasUniqueFronts, HasOneEnd, EndsApart, Then}
+use Rattle.spelled.specs.Spelled.{HasUniqueFronts, EndsApart, Then}
+use Rattle.spelled.specs.inside.Spelled.{HasOneEnd}
 use Rattle.spelled.proofs.Joins.{then_once, absent_once, until_end_unique, regroup}
 use Rattle.leb_codec.specs.Leb.{Uleb}
 use Rattle.leb_codec.proofs.Fronts.{unique_u, unique_s}

@@ -5,10 +5,5 @@ pub mod ListingLaws
 pub mod Index
 pub mod Readings
 pub mod Written
-pub mod Parts
-pub mod Shared
-pub mod Stretches
-pub mod Pieces
-pub mod Shelves
-pub mod SharedColumns
-pub mod Fronts
+pub mod LeastColumns
+pub mod inside

@@ -59,10 +59,6 @@ renumbered decls columns used = numbered_as used.0 (decl_at decls used.1) ((decl
 abbrev pub used_at : List (ℕ × ℕ) → ℕ → ℕ × ℕ
 used_at order k = slice_index_or order k (0, 0)
 
--- places below a number
-abbrev pub AreUsed : ℕ → List (ℕ × ℕ) → Type 0
-AreUsed count order = (k : ℕ) → k < length order → (used_at order k).1 < count
-
 -- the used declarations, by rising new number
 pub record IsInOrder (numbers : List ℕ) (order : List (ℕ × ℕ)) : Type 0 where
   pub used : IsPermutation (used_among numbers (length numbers)) order

@@ -1,24 +1,15 @@
 //! Abbreviation tables (DWARF 5 section 7.5.3): the declarations that entries of .debug_info name by their codes.
 #![tactic(auto)]
 
-mod columns;
 mod decl;
-mod front;
-mod known;
 mod laws;
-mod piece;
 mod read;
-mod shared;
-mod shelf;
-mod stretch;
 mod table;
 #[cfg(test)]
 mod tests;
 mod write;
 
-pub use columns::Columns;
 pub use decl::{Decl, Spec};
 pub use laws::{listings, tables_end, tables_whole, tables_written};
-pub use shared::{TableRead, read_tables};
 pub use table::Table;
 pub use write::write_table;

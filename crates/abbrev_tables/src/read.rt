@@ -1,18 +1,15 @@
 // Declarations read.
-ghost use Rattle.std.specs.Prelude.{◌≡◌, ◌≢◌, ◌≤◌, ◌<◌, ◌+◌, ◌^◌, ◌++◌, ◌∷◌, [], ℕ, List, length, take, IfOk, IfErr, OnOk};
+ghost use Rattle.std.specs.Prelude.{◌≡◌, ◌≢◌, ◌≤◌, ◌<◌, ◌+◌, ◌^◌, ◌++◌, ◌∷◌, [], ℕ, length, take, IfOk, IfErr, OnOk};
 ghost use Rattle.leb_codec.specs.Leb.{Uleb};
 ghost use Rattle.abbrev_tables.specs.Tables.{SpellsName, SpellsConstant, SpellsChildren, SpellsColumns};
-ghost use Rattle.abbrev_tables.specs.Faults.{FaultNumber, FaultName, FaultForm, FaultCode, FaultColumn, FaultColumns, FaultChildren, FaultTagged, FaultWithin, FaultDeclared};
-ghost use Rattle.abbrev_tables.specs.Readings.{IsReadForm, IsReadCode, IsReadStep, SpellsTagged, HasColumns, LeadsColumns, IsHeadRead, IsReadDecl, IsStop};
+ghost use Rattle.abbrev_tables.specs.Faults.{FaultNumber, FaultName, FaultForm, FaultCode, FaultColumn, FaultColumns, FaultChildren, FaultFlagged, FaultTagged, FaultWithin, FaultDeclared};
+ghost use Rattle.abbrev_tables.specs.inside.Readings.{IsReadForm, IsReadCode, IsReadStep, SpellsFlagged, SpellsTagged, HasColumns, IsReadDecl, IsStop};
 
 use crate::decl::Spec;
-use crate::known::KnownColumn;
+use dw_base::constants::DW_FORM_IMPLICIT_CONST;
 use dw_base::{Kind, NoMemory};
 use form_codec::known;
 use leb_codec::{LebFault, ReadS, ReadU, read_s, read_u};
-use std::collections::BTreeMap;
-
-pub(crate) const IMPLICIT_CONST: u64 = 0x21;
 
 const GREATEST_NAME: u64 = 0xffff_ffff;
 
@@ -62,26 +59,11 @@ pub struct Head {
     pub children: bool,
 }
 
-/// What stands before columns, or none at the code 0, and where its bytes end.
-#[derive(Clone, Copy)]
-pub struct HeadRead {
-    pub head: Option<Head>,
-    pub end: usize,
-}
-
-/// Where columns that were read end: behind their end, or where a column begins that is known.
-#[derive(Clone, Copy)]
-pub struct ColumnsRead {
-    pub end: usize,
-    pub is_whole: bool,
-}
-
-/// A declaration or the code 0, and where its bytes end. A declaration that isn't whole goes on with columns that are known.
+/// A declaration, or none at the code 0, and where its bytes end.
 #[derive(Clone, Copy)]
 pub struct ReadDecl {
     pub head: Option<Head>,
     pub end: usize,
-    pub is_whole: bool,
 }
 
 // A fault that counts from a place before.
@@ -128,7 +110,7 @@ fn read_constant(form: u64, rest: &[u8]) -> Result<ReadS, Kind>
     ensures read { IfOk result (λ r. (r.end ≤ length rest.now) × SpellsConstant form r.value (take r.end rest.now)) }
     ensures fault { (name : ℕ) → name ≢ 0 → IfErr result (λ kind. FaultForm name form kind 0 rest.now) }
 {
-    if form != IMPLICIT_CONST {
+    if form != DW_FORM_IMPLICIT_CONST {
         return Ok(ReadS { value: 0, end: 0 });
     }
     match read_s(rest, 0) {
@@ -209,48 +191,20 @@ fn push(specs: &mut Vec<Spec>, column: Spec) -> Result<(), NoMemory>
     Ok(())
 }
 
-// Appends a place.
-fn push_place(places: &mut Vec<u64>, place: u64) -> Result<(), NoMemory>
-    ensures { OnOk result (places.new.items ≡ places.old.items ++ place ∷ []) }
-{
-    places.push(place)?;
-    Ok(())
-}
-
-// Appends the columns up to their end, or up to one that is known by its place, and their places. The first byte stands at `start`.
-fn read_columns(
-    specs: &mut Vec<Spec>,
-    places: &mut Vec<u64>,
-    rest: &[u8],
-    start: u64,
-    known: &BTreeMap<u64, KnownColumn>,
-) -> Result<ColumnsRead, Stop>
-    requires { start + length rest.now < 2 ^ 64 }
-    ensures read { IfOk result (λ r. HasColumns SpellsColumns known.now rest.now start r.end r.is_whole specs.old.items specs.new.items places.old.items places.new.items) }
+// Appends the columns up to their end, and gives the place after it.
+fn read_columns(specs: &mut Vec<Spec>, rest: &[u8]) -> Result<usize, Stop>
+    ensures read { IfOk result (λ end. (end ≤ length rest.now) × HasColumns SpellsColumns specs.old.items specs.new.items (take end rest.now)) }
     ensures fault { IfErr result (IsStop FaultColumns rest.now) }
 {
     let mut at = 0;
     while at < rest.len() {
-        let place = start + at as u64;
-        if known.contains_key(&place) {
-            return Ok(ColumnsRead {
-                end: at,
-                is_whole: false,
-            });
-        }
         match read_step(&rest[at..]) {
             Ok(read) => match read.step {
                 Step::Column(column) => {
                     push(specs, column)?;
-                    push_place(places, place)?;
                     at += read.end;
                 }
-                Step::End => {
-                    return Ok(ColumnsRead {
-                        end: at + read.end,
-                        is_whole: true,
-                    });
-                }
+                Step::End => return Ok(at + read.end),
             },
             Err(fault) => return Err(Stop::Fault(fault_after(at, fault))),
         }
@@ -261,7 +215,7 @@ fn read_columns(
     }))
 }
 
-// The children byte.
+// The children byte, and the place after it.
 fn read_children(rest: &[u8]) -> Result<bool, Kind>
     ensures read { IfOk result (λ children. (1 ≤ length rest.now) × SpellsChildren children (take 1 rest.now)) }
     ensures fault { IfErr result (λ kind. FaultChildren kind 0 rest.now) }
@@ -276,7 +230,32 @@ fn read_children(rest: &[u8]) -> Result<bool, Kind>
     }
 }
 
-/// What follows a code, before the columns.
+/// What follows a tag: the children byte and the columns.
+#[derive(Clone, Copy)]
+pub struct Flagged {
+    pub children: bool,
+    pub end: usize,
+}
+
+// What follows a tag. The columns are appended.
+fn read_flagged(specs: &mut Vec<Spec>, rest: &[u8]) -> Result<Flagged, Stop>
+    ensures read { IfOk result (λ r. (r.end ≤ length rest.now) × HasColumns (SpellsFlagged r.children) specs.old.items specs.new.items (take r.end rest.now)) }
+    ensures fault { IfErr result (IsStop FaultFlagged rest.now) }
+{
+    match read_children(rest) {
+        Ok(children) => match read_columns(specs, &rest[1..]) {
+            Ok(end) => Ok(Flagged {
+                children,
+                end: 1 + end,
+            }),
+            Err(Stop::Fault(fault)) => Err(Stop::Fault(fault_after(1, fault))),
+            Err(Stop::NoMemory) => Err(Stop::NoMemory),
+        },
+        Err(kind) => Err(Stop::Fault(FaultAt { kind, at: 0 })),
+    }
+}
+
+/// What follows a code.
 #[derive(Clone, Copy)]
 pub struct Tagged {
     pub tag: u64,
@@ -284,45 +263,43 @@ pub struct Tagged {
     pub end: usize,
 }
 
-// What follows a code, which isn't 0, up to the columns.
-fn read_tagged(code: u64, rest: &[u8]) -> Result<Tagged, FaultAt>
+// What follows a code, which isn't 0. The columns are appended.
+fn read_tagged(code: u64, specs: &mut Vec<Spec>, rest: &[u8]) -> Result<Tagged, Stop>
     requires { code ≢ 0 }
-    ensures read { IfOk result (λ r. LeadsColumns (SpellsTagged r.tag r.children) (FaultTagged code) rest.now r.end) }
-    ensures within { IfErr result (λ f. f.at ≤ length rest.now) }
-    ensures fault { IfErr result (λ f. FaultTagged code f.kind f.at rest.now) }
+    ensures read { IfOk result (λ r. (r.end ≤ length rest.now) × HasColumns (SpellsTagged r.tag r.children) specs.old.items specs.new.items (take r.end rest.now)) }
+    ensures fault { IfErr result (IsStop (FaultTagged code) rest.now) }
 {
-    let tag = match read_name(rest) {
-        Ok(tag) => tag,
-        Err(kind) => return Err(FaultAt { kind, at: 0 }),
-    };
-    match read_children(&rest[tag.end..]) {
-        Ok(children) => Ok(Tagged {
-            tag: tag.value,
-            children,
-            end: tag.end + 1,
-        }),
-        Err(kind) => Err(FaultAt { kind, at: tag.end }),
+    match read_name(rest) {
+        Ok(tag) => match read_flagged(specs, &rest[tag.end..]) {
+            Ok(read) => Ok(Tagged {
+                tag: tag.value,
+                children: read.children,
+                end: tag.end + read.end,
+            }),
+            Err(Stop::Fault(fault)) => Err(Stop::Fault(fault_after(tag.end, fault))),
+            Err(Stop::NoMemory) => Err(Stop::NoMemory),
+        },
+        Err(kind) => Err(Stop::Fault(FaultAt { kind, at: 0 })),
     }
 }
 
-// What a declaration has before its columns, or the code 0.
-fn read_head(rest: &[u8]) -> Result<HeadRead, FaultAt>
-    ensures read { IfOk result (IsHeadRead rest.now) }
-    ensures within { IfErr result (λ f. f.at ≤ length rest.now) }
-    ensures fault { IfErr result (λ f. FaultWithin f.kind f.at rest.now) }
+// A declaration or the code 0. The columns are appended.
+fn read_within(specs: &mut Vec<Spec>, rest: &[u8]) -> Result<ReadDecl, Stop>
+    ensures read { IfOk result (IsReadDecl rest.now specs.old.items specs.new.items) }
+    ensures fault { IfErr result (IsStop FaultWithin rest.now) }
 {
     let code = match read_number(rest) {
         Ok(code) => code,
-        Err(kind) => return Err(FaultAt { kind, at: 0 }),
+        Err(kind) => return Err(Stop::Fault(FaultAt { kind, at: 0 })),
     };
     if code.value == 0 {
-        return Ok(HeadRead {
+        return Ok(ReadDecl {
             head: None,
             end: code.end,
         });
     }
-    match read_tagged(code.value, &rest[code.end..]) {
-        Ok(read) => Ok(HeadRead {
+    match read_tagged(code.value, specs, &rest[code.end..]) {
+        Ok(read) => Ok(ReadDecl {
             head: Some(Head {
                 code: code.value,
                 tag: read.tag,
@@ -330,58 +307,30 @@ fn read_head(rest: &[u8]) -> Result<HeadRead, FaultAt>
             }),
             end: code.end + read.end,
         }),
-        Err(fault) => Err(fault_after(code.end, fault)),
+        Err(Stop::Fault(fault)) => Err(Stop::Fault(fault_after(code.end, fault))),
+        Err(Stop::NoMemory) => Err(Stop::NoMemory),
     }
 }
 
-// The fault of a declaration: a form or a children byte that isn't known is said of its first byte.
-fn fault_of(fault: FaultAt) -> FaultAt
-    ensures at { (rest : List ℕ) → fault.at ≤ length rest → result.at ≤ length rest }
-    ensures fault { (rest : List ℕ) → FaultWithin fault.kind fault.at rest → FaultDeclared result.kind result.at rest }
-{
-    let at = match fault.kind {
-        Kind::FormUnknown => 0,
-        _ => fault.at,
-    };
-    FaultAt {
-        kind: fault.kind,
-        at,
-    }
-}
-
-// Reads a declaration or the code 0, and appends its columns with their places, up to one that is known by its place. The first
-// byte stands at `start`.
-pub(crate) fn read_declared(
-    specs: &mut Vec<Spec>,
-    places: &mut Vec<u64>,
-    rest: &[u8],
-    start: u64,
-    known: &BTreeMap<u64, KnownColumn>,
-) -> Result<ReadDecl, Stop>
-    requires { start + length rest.now < 2 ^ 64 }
-    ensures read { IfOk result (IsReadDecl known.now rest.now start specs.old.items specs.new.items places.old.items places.new.items) }
+// Reads a declaration or the code 0, and appends the columns. A form or a children byte that isn't known is said of the
+// declaration's first byte.
+pub(crate) fn read_declared(specs: &mut Vec<Spec>, rest: &[u8]) -> Result<ReadDecl, Stop>
+    ensures read { IfOk result (IsReadDecl rest.now specs.old.items specs.new.items) }
     ensures grows { IfOk result (λ _. length specs.old.items ≤ length specs.new.items) }
     ensures fault { IfErr result (IsStop FaultDeclared rest.now) }
 {
-    let read = match read_head(rest) {
-        Ok(read) => read,
-        Err(fault) => return Err(Stop::Fault(fault_of(fault))),
-    };
-    if read.head.is_none() {
-        return Ok(ReadDecl {
-            head: None,
-            end: read.end,
-            is_whole: true,
-        });
-    }
-    let columns_at = start + read.end as u64;
-    match read_columns(specs, places, &rest[read.end..], columns_at, known) {
-        Ok(columns) => Ok(ReadDecl {
-            head: read.head,
-            end: read.end + columns.end,
-            is_whole: columns.is_whole,
-        }),
-        Err(Stop::Fault(fault)) => Err(Stop::Fault(fault_of(fault_after(read.end, fault)))),
+    match read_within(specs, rest) {
+        Ok(read) => Ok(read),
+        Err(Stop::Fault(fault)) => {
+            let at = match fault.kind {
+                Kind::FormUnknown => 0,
+                _ => fault.at,
+            };
+            Err(Stop::Fault(FaultAt {
+                kind: fault.kind,
+                at,
+            }))
+        }
         Err(Stop::NoMemory) => Err(Stop::NoMemory),
     }
 }

@@ -1,120 +1,159 @@
 // Tables, as they are held.
-ghost use Rattle.std.specs.Prelude.{◌≡◌, ◌<◌, ◌+◌, ◌≤◌, length, IfOk, IfErr, MatchOption, IsTrue, ◌↔◌};
-ghost use Rattle.std.specs.List.{All};
-ghost use Rattle.std.specs.List.Sorted.{IsStrictlyIncreasing};
-ghost use Rattle.abbrev_tables.specs.Tables.{codes_of, AreDistinct};
-ghost use Rattle.abbrev_tables.specs.Listings.{decl_at, spec_at, declared_in, declarations_in, IsTableAt};
-ghost use Rattle.abbrev_tables.specs.Index.{HasCode};
-ghost use Rattle.abbrev_tables.specs.Parts.{IsPart, IsPartAt};
+ghost use Rattle.std.specs.Prelude.{◌≡◌, ◌≢◌, ◌≤◌, ◌<◌, ◌+◌, ◌-◌, ◌^◌, ◌++◌, ◌∷◌, [], ℕ, length, drop, take, true, false, Some, OnOk, IfOk, IfErr, MatchOption, IsTrue, ◌↔◌};
+ghost use Rattle.std.specs.Ordering.{nat_cmp};
+ghost use Rattle.std.specs.BTreeMap.{get};
+ghost use Rattle.abbrev_tables.specs.Faults.{FaultTable};
+ghost use Rattle.abbrev_tables.specs.Listings.{decl_at, declared_in, IsTableAt};
+ghost use Rattle.abbrev_tables.specs.Index.{IsIndex, HasCode};
+ghost use Rattle.abbrev_tables.specs.inside.Index.{IsAdded, IsReadFrom};
 ghost use Rattle.abbrev_tables.specs.Readings.{IsRefusal};
-ghost use Rattle.abbrev_tables.specs.Stretches.{listed, joined, ended};
-ghost use Rattle.abbrev_tables.specs.Pieces.{StandsIn, ColumnStandsIn};
+ghost use Rattle.abbrev_tables.specs.inside.Readings.{IsStop};
 
-use crate::columns::Columns;
-use crate::decl::{Decl, Spec};
-use crate::piece::Piece;
-use crate::shared::read_tables;
-use crate::stretch::{Draft, Stretch};
-use dw_base::{NoMemory, Refusal};
+use crate::decl::{Decl, Spec, columns_of};
+use crate::read::{FaultAt, Head, Stop, fault_after, read_declared};
+use dw_base::{Fault, Kind, NoMemory, Refusal};
 use std::alloc::Global;
+use std::collections::BTreeMap;
 use std::marker::Model;
-use std::rc::Rc;
 
-const MOST: u32 = 0xffff_ffff;
+const MOST: usize = 0xffff_ffff;
 
 /// An abbreviation table (DWARF 5 section 7.5.3). Contracts see it as its declarations, with their places, its columns,
 /// and its end.
 #[derive(Drop)]
 pub struct Table {
-    // Declarations that several tables have are held once.
-    pieces: Vec<Piece>,
-    decl_total: u32,
-    column_total: u32,
+    pub(crate) decls: Vec<Decl>,
+    specs: Vec<Spec>,
+    // Numbers of declarations by their codes, but where the code is 1 more than the number.
+    others: BTreeMap<u64, u32>,
     end: u64,
 }
 
 impl Model for Table {
     ghost use Rattle.abbrev_tables.specs.Listings.{Listing};
-    ghost use Rattle.abbrev_tables.specs.Pieces.{listing, AreHeld};
+    ghost use Rattle.abbrev_tables.specs.Index.{IsHeld};
 
     ghost Value = { Listing };
 
-    ghost view = { λ t. listing t.end t.pieces.items };
+    ghost view = { λ t. record { decls = t.decls.items; specs = t.specs.items; end = t.end } };
 
-    ghost invariant = { λ t. AreHeld t.pieces.items t.decl_total t.column_total };
+    ghost invariant = { λ t. IsHeld t.decls.items t.specs.items t.others };
+}
+
+// The number of the declaration with a code. Most codes are 1, 2, 3, and so on.
+fn find(decls: &[Decl], others: &BTreeMap<u64, u32>, code: u64) -> Option<u32>
+    requires index { IsIndex decls.now others.now }
+    requires few { length decls.now < 2 ^ 32 }
+    ensures { MatchOption result (HasCode decls.now code → ⊥) (λ i. (i < length decls.now) × ((decl_at decls.now i).code ≡ code)) }
+{
+    if code > 0 && code <= decls.len() as u64 && decls[(code - 1) as usize].code == code {
+        return Some((code - 1) as u32);
+    }
+    others.get(&code).copied()
+}
+
+fn insert(others: &mut BTreeMap<u64, u32>, code: u64, number: u32) -> Result<(), NoMemory>
+    ensures here { OnOk result (get nat_cmp others.new code ≡ Some number) }
+    ensures apart { OnOk result ((other : ℕ) → other ≢ code → get nat_cmp others.new other ≡ get nat_cmp others.old other) }
+{
+    others.insert(code, number)?;
+    Ok(())
+}
+
+// Lets a declaration be found that is to come behind these.
+fn index(decls: &[Decl], others: &mut BTreeMap<u64, u32>, decl: Decl) -> Result<(), NoMemory>
+    requires index { IsIndex decls.now others.old }
+    requires few { length decls.now < 2 ^ 32 - 1 }
+    requires fresh { HasCode decls.now decl.code → ⊥ }
+    ensures { OnOk result (IsIndex (decls.now ++ decl ∷ []) others.new) }
+{
+    if decl.code == decls.len() as u64 + 1 {
+        return Ok(());
+    }
+    insert(others, decl.code, decls.len() as u32)?;
+    Ok(())
+}
+
+// Appends a declaration, or answers false where an earlier one has its code.
+fn add(decls: &mut Vec<Decl>, others: &mut BTreeMap<u64, u32>, decl: Decl) -> Result<bool, NoMemory>
+    requires index { IsIndex decls.old.items others.old }
+    requires few { length decls.old.items < 2 ^ 32 }
+    ensures { IfOk result (IsAdded decls.old.items decl decls.new.items others.new) }
+{
+    match find(decls, others, decl.code) {
+        Some(_) => return Ok(false),
+        None => {}
+    }
+    if decls.len() >= MOST {
+        return Err(NoMemory);
+    }
+    index(decls, others, decl)?;
+    decls.push(decl)?;
+    Ok(true)
+}
+
+// A declaration with the columns from `first` up to but not including `last`.
+fn declaration(at: u64, head: Head, first: usize, last: usize) -> Decl
+    requires order { first ≤ last }
+    requires few { last < 2 ^ 32 }
+    ensures { result ≡ record { at = at; code = head.code; tag = head.tag; children = head.children; first = first; count = last - first } }
+{
+    Decl {
+        at,
+        code: head.code,
+        tag: head.tag,
+        children: head.children,
+        first: first as u32,
+        count: (last - first) as u32,
+    }
+}
+
+// Reads the table at the front, whose first byte stands at `start`.
+fn read_table(alloc: Global, rest: &[u8], start: u64) -> Result<Table, Stop>
+    requires { start + length rest.now < 2 ^ 64 }
+    ensures table { IfOk result (IsReadFrom rest.now start) }
+    ensures fault { IfErr result (IsStop FaultTable rest.now) }
+{
+    let mut decls: Vec<Decl> = Vec::new(alloc);
+    let mut specs: Vec<Spec> = Vec::new(alloc);
+    let mut others: BTreeMap<u64, u32> = BTreeMap::new(alloc);
+    let mut at = 0;
+    while at < rest.len() {
+        let first = specs.len();
+        let read = match read_declared(&mut specs, &rest[at..]) {
+            Ok(read) => read,
+            Err(Stop::Fault(fault)) => return Err(Stop::Fault(fault_after(at, fault))),
+            Err(Stop::NoMemory) => return Err(Stop::NoMemory),
+        };
+        let last = specs.len();
+        if last > MOST {
+            return Err(Stop::NoMemory);
+        }
+        let Some(head) = read.head else {
+            return Ok(Table {
+                decls,
+                specs,
+                others,
+                end: start + (at + read.end) as u64,
+            });
+        };
+        let decl = declaration(start + at as u64, head, first, last);
+        let is_new = add(&mut decls, &mut others, decl)?;
+        if !is_new {
+            return Err(Stop::Fault(FaultAt {
+                kind: Kind::CodeTwice,
+                at,
+            }));
+        }
+        at += read.end;
+    }
+    Err(Stop::Fault(FaultAt {
+        kind: Kind::Short,
+        at,
+    }))
 }
 
 impl Table {
-    // No declarations, and the code 0 that ends at a place.
-    pub(crate) fn ended(alloc: Global, end: u64) -> Table
-        ensures { result ≡ ended end }
-    {
-        Table {
-            pieces: Vec::new(alloc),
-            decl_total: 0,
-            column_total: 0,
-            end,
-        }
-    }
-
-    // The declarations of a stretch from one on, and then those of a table. The only error is want of memory, also where there
-    // are 2^32 declarations or columns.
-    pub(crate) fn behind(
-        alloc: Global,
-        stretch: &Rc<Stretch>,
-        from: u32,
-        rest: &Table,
-    ) -> Result<Table, NoMemory>
-        requires { from < length stretch.now.value.decls }
-        ensures { IfOk result (λ t. t ≡ joined stretch.now.value from rest.now) }
-    {
-        let front = Piece::front(stretch, from)?;
-        let decls = front.decl_count();
-        let specs = front.column_count();
-        if decls > MOST - rest.decl_total || specs > MOST - rest.column_total {
-            return Err(NoMemory);
-        }
-        let mut pieces = Vec::with_capacity(alloc, rest.pieces.len())?;
-        pieces.push(front)?;
-        for piece in rest.pieces.iter() {
-            pieces.push(piece.shifted(decls, specs)?)?;
-        }
-        Ok(Table {
-            pieces,
-            decl_total: decls + rest.decl_total,
-            column_total: specs + rest.column_total,
-            end: rest.end,
-        })
-    }
-
-    // The same table. The only error is want of memory.
-    pub(crate) fn copied(&self, alloc: Global) -> Result<Table, NoMemory>
-        ensures { IfOk result (λ t. t ≡ self.now) }
-    {
-        let mut pieces = Vec::with_capacity(alloc, self.pieces.len())?;
-        for piece in self.pieces.iter() {
-            pieces.push(piece.shifted(0, 0)?)?;
-        }
-        Ok(Table {
-            pieces,
-            decl_total: self.decl_total,
-            column_total: self.column_total,
-            end: self.end,
-        })
-    }
-
-    // All declarations of a stretch. The only error is want of memory.
-    pub(crate) fn whole(alloc: Global, stretch: Stretch, end: u64) -> Result<Table, NoMemory>
-        ensures { IfOk result (λ t. t ≡ listed stretch end) }
-    {
-        let rest = Table::ended(alloc, end);
-        if stretch.decls().is_empty() {
-            return Ok(rest);
-        }
-        let shared = Rc::new(alloc, stretch)?;
-        Table::behind(alloc, &shared, 0, &rest)
-    }
-
     /// Reads the table that begins at `at`, counted from 0 in `section` (DWARF 5 section 7.5.3). `origin` is the place of
     /// the section's first byte in the file, from which the places of faults count. Padded LEB128 numbers are read.
     ///
@@ -126,11 +165,16 @@ impl Table {
     pub fn read(alloc: Global, section: &[u8], at: u64, origin: u64) -> Result<Table, Refusal>
         requires { at < length section.now }
         ensures table { IfOk result (IsTableAt section.now at) }
-        ensures part { IfOk result (IsPartAt section.now at) }
         ensures fault { IfErr result (IsRefusal section.now at origin) }
     {
-        let mut tables = read_tables(alloc, section, &[at], origin)?;
-        Ok(tables.swap_remove(0).table)
+        match read_table(alloc, &section[at as usize..], at) {
+            Ok(table) => Ok(table),
+            Err(Stop::Fault(fault)) => Err(Refusal::Refused(Fault {
+                kind: fault.kind,
+                place: origin.wrapping_add(at + fault.at as u64),
+            })),
+            Err(Stop::NoMemory) => Err(Refusal::NoMemory),
+        }
     }
 
     /// The place after the code 0 that ends the table, counted from the first byte of the section.
@@ -144,32 +188,14 @@ impl Table {
     pub fn len(&self) -> u32
         ensures { result ≡ length self.now.decls }
     {
-        self.decl_total
+        self.decls.len() as u32
     }
 
     /// Whether there are no declarations.
     pub fn is_empty(&self) -> bool
         ensures { IsTrue result ↔ (length self.now.decls ≡ 0) }
     {
-        self.len() == 0
-    }
-
-    // The piece that has the declaration with a number.
-    fn piece(&self, i: u32) -> &Piece
-        requires { i < length self.now.decls }
-        ensures { StandsIn self.now i result.now }
-    {
-        let after = self.pieces.partition_point(|piece| piece.decls_before <= i);
-        &self.pieces[after - 1]
-    }
-
-    // The piece that has the column with a number.
-    fn piece_of_column(&self, i: u32) -> &Piece
-        requires { i < length self.now.specs }
-        ensures { ColumnStandsIn self.now i result.now }
-    {
-        let after = self.pieces.partition_point(|piece| piece.specs_before <= i);
-        &self.pieces[after - 1]
+        self.decls.is_empty()
     }
 
     /// The declaration with a number, counted from 0 in the order of the table.
@@ -177,78 +203,28 @@ impl Table {
         requires { i < length self.now.decls }
         ensures { result ≡ decl_at self.now.decls i }
     {
-        let piece = self.piece(i);
-        let decl = piece.stretch.decl(piece.from + (i - piece.decls_before));
-        Decl {
-            first: decl.first - piece.first + piece.specs_before,
-            ..decl
-        }
-    }
-
-    // The same, with where its columns stand.
-    pub(crate) fn placed(&self, i: u32) -> Decl
-        requires { i < length self.now.decls }
-        ensures is { result ≡ decl_at self.now.decls i }
-        ensures inside { result.first + result.count ≤ length self.now.specs }
-    {
-        let _pieces = &self.pieces;
-        self.decl(i)
+        self.decls[i as usize]
     }
 
     /// The columns of the declaration with a number, in their order.
-    pub fn columns(&self, i: u32) -> Columns<'_>
+    pub fn columns(&self, i: u32) -> &[Spec]
         requires { i < length self.now.decls }
-        ensures { result ≡ (declared_in self.now.specs (decl_at self.now.decls i)).columns }
+        ensures { result.now ≡ (declared_in self.now.specs (decl_at self.now.decls i)).columns }
     {
-        let piece = self.piece(i);
-        piece.stretch.columns(piece.from + (i - piece.decls_before))
+        columns_of(&self.specs, self.decl(i))
     }
 
-    /// The columns of all declarations in one list, in the order of the table. The only error is want of memory.
-    pub fn specs(&self, alloc: Global) -> Result<Vec<Spec>, NoMemory>
-        ensures { IfOk result (λ specs. specs.items ≡ self.now.specs) }
+    /// The columns of all declarations, in the order of the table.
+    pub fn specs(&self) -> &[Spec]
+        ensures { result.now ≡ self.now.specs }
     {
-        let mut all = Vec::with_capacity(alloc, self.column_total as usize)?;
-        for piece in self.pieces.iter() {
-            piece.specs().append_to(&mut all)?;
-        }
-        Ok(all)
-    }
-
-    /// The column with a number, counted from 0 over all declarations in the order of the table.
-    pub fn spec(&self, i: u32) -> Spec
-        requires { i < length self.now.specs }
-        ensures { result ≡ spec_at self.now.specs i }
-    {
-        let piece = self.piece_of_column(i);
-        let columns = piece.stretch.specs();
-        columns.column((piece.first + (i - piece.specs_before)) as usize)
+        &self.specs
     }
 
     /// The number of the declaration with a code, or None exactly where no declaration has it.
     pub fn by_code(&self, code: u64) -> Option<u32>
         ensures { MatchOption result (HasCode self.now.decls code → ⊥) (λ i. (i < length self.now.decls) × ((decl_at self.now.decls i).code ≡ code)) }
     {
-        for piece in self.pieces.iter() {
-            if let Some(number) = piece.by_code(code) {
-                return Some(number);
-            }
-        }
-        None
-    }
-
-    /// The part of the table that has the declarations with these numbers, which rise. The only error is want of memory.
-    pub fn part(&self, alloc: Global, picks: &[u32]) -> Result<Table, NoMemory>
-        requires codes { AreDistinct (codes_of (declarations_in self.now.specs self.now.decls)) }
-        requires rising { IsStrictlyIncreasing picks.now }
-        requires inside { All (λ i. i < length self.now.decls) picks.now }
-        ensures { IfOk result (IsPart self.now picks.now) }
-    {
-        let mut draft = Draft::new(alloc);
-        for pick in picks.iter() {
-            let columns = self.columns(*pick);
-            draft = draft.with(self.decl(*pick), &columns)?;
-        }
-        Table::whole(alloc, draft.finish(alloc)?, self.end())
+        find(&self.decls, &self.others, code)
     }
 }

@@ -1,12 +1,14 @@
 // Tables written.
 ghost use Rattle.std.specs.Prelude.{◌≡◌, ◌≢◌, ◌≤◌, ◌<◌, ◌+◌, ◌^◌, ◌++◌, ◌∷◌, [], ℕ, length, map, OnOk, IfOk};
 ghost use Rattle.spelled.specs.Spelled.{Appends, Joined};
-ghost use Rattle.abbrev_tables.specs.Written.{ShortestConstant, ShortestColumn, ShortestColumns, ShortestDeclared, used_among, renumbered, numbered_as, IsInOrder, AreUsed, IsWritten};
+ghost use Rattle.abbrev_tables.specs.Written.{ShortestConstant, ShortestColumn, ShortestColumns, ShortestDeclared, used_among, renumbered, numbered_as, IsInOrder, IsWritten, IsWrittenOf};
+ghost use Rattle.abbrev_tables.specs.inside.Written.{AreUsed};
+ghost use Rattle.abbrev_tables.specs.Listings.{AreAdjacent};
 
 use crate::decl::{Decl, Spec, columns_of};
-use crate::read::IMPLICIT_CONST;
 use crate::table::Table;
 use dw_base::NoMemory;
+use dw_base::constants::DW_FORM_IMPLICIT_CONST;
 use leb_codec::{put_s, put_u};
 use std::alloc::Global;
 
@@ -14,7 +16,7 @@ use std::alloc::Global;
 fn put_constant(out: &mut Vec<u8>, form: u64, constant: i64) -> Result<(), NoMemory>
     ensures { OnOk result (Appends (ShortestConstant form) constant out.old.items out.new.items) }
 {
-    if form != IMPLICIT_CONST {
+    if form != DW_FORM_IMPLICIT_CONST {
         return Ok(());
     }
     put_s(out, constant)?;
@@ -91,17 +93,17 @@ fn in_order(alloc: Global, numbers: &[u32]) -> Result<Vec<(u32, u32)>, NoMemory>
 // Appends declarations in this order.
 fn put_order(
     out: &mut Vec<u8>,
-    table: &Table,
+    decls: &[Decl],
     columns: &[Spec],
     order: &[(u32, u32)],
 ) -> Result<(), NoMemory>
-    requires columns { length columns.now ≡ length table.now.specs }
-    requires used { AreUsed (length table.now.decls) order.now }
-    ensures { OnOk result (Appends (Joined ShortestDeclared) (map (renumbered table.now.decls columns.now) order.now) out.old.items out.new.items) }
+    requires adjacent { AreAdjacent 0 decls.now (length columns.now) }
+    requires used { AreUsed (length decls.now) order.now }
+    ensures { OnOk result (Appends (Joined ShortestDeclared) (map (renumbered decls.now columns.now) order.now) out.old.items out.new.items) }
 {
     for entry in order.iter() {
         let (number, place) = *entry;
-        let decl = table.placed(place);
+        let decl = decls[place as usize];
         put_declared(out, number, decl, columns_of(columns, decl))?;
     }
     Ok(())
@@ -110,19 +112,18 @@ fn put_order(
 // The bytes of a table.
 fn write_parts(
     alloc: Global,
-    table: &Table,
+    decls: &[Decl],
     numbers: &[u32],
     columns: &[Spec],
 ) -> Result<Vec<u8>, NoMemory>
-    requires numbers { length numbers.now ≡ length table.now.decls }
-    requires columns { length columns.now ≡ length table.now.specs }
-    ensures { IfOk result (λ bytes. IsWritten table.now numbers.now columns.now bytes.items) }
+    requires few { length decls.now < 2 ^ 32 }
+    requires numbers { length numbers.now ≡ length decls.now }
+    requires adjacent { AreAdjacent 0 decls.now (length columns.now) }
+    ensures { IfOk result (λ bytes. IsWrittenOf decls.now numbers.now columns.now bytes.items) }
 {
-    // Numbers of 32 bits name the declarations.
-    let _count = table.len();
     let order = in_order(alloc, numbers)?;
     let mut out = Vec::new(alloc);
-    put_order(&mut out, table, columns, &order)?;
+    put_order(&mut out, decls, columns, &order)?;
     out.push(0)?;
     Ok(out)
 }
@@ -143,5 +144,5 @@ pub fn write_table(
     requires columns { length columns.now.items ≡ length table.now.specs }
     ensures { IfOk result (λ bytes. IsWritten table.now numbers.now.items columns.now.items bytes.items) }
 {
-    write_parts(alloc, table, numbers, columns)
+    write_parts(alloc, &table.decls, numbers, columns)
 }

@@ -11,10 +11,10 @@ use Rattle.abbrev_tables.specs.Tables.{implicit_const}
 use Rattle.abbrev_tables.specs.declared.decl.Spec.{Spec}
 use Rattle.column_forms.specs.declared.tally.Candidate.{Candidate}
 use Rattle.column_forms.specs.declared.choice.Choice.{Choice}
-use Rattle.form_codec.specs.Columns.{IsChoice, EntriesWithin, AreSpelled, ColumnWithin, ComesFirst, IsLeastForm, constant_bytes, is_reference}
+use Rattle.form_codec.specs.Columns.{IsChoice, EntriesWithin, AreSpelled, ColumnWithin, ComesFirst, IsLeastForm, IsFirstForm, constant_bytes, is_reference}
 use Rattle.column_forms.specs.Columns.{IsChosen}
 use Rattle.column_forms.specs.Tallies.{IsEntriesSize, AreTallied, AreBounded, IsTally, candidate_at, meanings_in}
-use Rattle.column_forms.specs.Choices.{IsBestOf, AreOut, bytes_of}
+use Rattle.column_forms.specs.inside.Choices.{IsBestOf, AreOut, bytes_of}
 use Rattle.column_forms.proofs.Sums.{is_or_not}
 
 -- a form other than those of references may be chosen
@@ -75,7 +75,7 @@ column_size cs c ms code other n t w =
     bytes_same (inl is) = ap (λ z. constant_bytes code z) (sym (t.only other w.entries (subst (λ (z : ℕ). EntriesWithin z other ms w.entries) is w.within)))
     bytes_same (inr differs) = grind (arith)
 
-pub least_form : (cs : List Candidate) (c d : ℤ) (ms : List Meaning) (input : ℕ) (choice : Choice) → AreTallied ms cs c → IsBestOf cs c input (length cs) choice → (choice.form ≡ implicit_const → d ≡ c) → IsLeastForm input ms choice.form d
+pub least_form : (cs : List Candidate) (c d : ℤ) (ms : List Meaning) (input : ℕ) (choice : Choice) → AreTallied ms cs c → IsBestOf cs c input (length cs) choice → (choice.form ≡ implicit_const → d ≡ c) → IsLeastForm ms choice.form d
 least_form cs c d ms input choice t b same = record {
   bytes = choice.bytes;
   enough = record { choice = subst (λ (z : ℕ). IsChoice z) (sym b.form) s.choice; entries = x.size; within = within (is_or_not choice.form); cost = cost (is_or_not choice.form) };
@@ -83,11 +83,6 @@ least_form cs c d ms input choice t b same = record {
       let k = column_size cs c ms other e n t w in
       let le : choice.bytes ≤ bytes_of c (candidate_at cs k.0) = b.least k.0 k.1 k.3 in
       omega (arith, k.4);
-  first = λ other e w.
-      let k = column_size cs c ms other e choice.bytes t w in
-      let le : choice.bytes ≤ bytes_of c (candidate_at cs k.0) = b.least k.0 k.1 k.3 in
-      let at : choice.bytes ≡ bytes_of c (candidate_at cs k.0) = omega (arith, k.4) in
-      subst (λ (z : ℕ). ComesFirst input choice.form z) k.2 (b.first k.0 k.1 k.3 at);
 }
   where
     x : Candidate
@@ -113,6 +108,17 @@ least_form cs c d ms input choice t b same = record {
         let f : constant_bytes choice.form c ≡ constant_bytes x.form c = ap (λ z. constant_bytes z c) b.form in
         omega (arith, b.bytes)
 
+-- and of the least forms it comes first
+pub first_form : (cs : List Candidate) (c d : ℤ) (ms : List Meaning) (input : ℕ) (choice : Choice) → AreTallied ms cs c → IsBestOf cs c input (length cs) choice → (choice.form ≡ implicit_const → d ≡ c) → IsFirstForm input ms choice.form
+unfolding least_form
+first_form cs c d ms input choice t b same = λ other e least.
+    let enough = (least_form cs c d ms input choice t b same).enough in
+    let few : least.bytes ≤ choice.bytes = least.least choice.form d choice.bytes enough in
+    let k = column_size cs c ms other e least.bytes t least.enough in
+    let le : choice.bytes ≤ bytes_of c (candidate_at cs k.0) = b.least k.0 k.1 k.3 in
+    let at : choice.bytes ≡ bytes_of c (candidate_at cs k.0) = omega (arith, k.4) in
+    subst (λ (z : ℕ). ComesFirst input choice.form z) k.2 (b.first k.0 k.1 k.3 at)
+
 -- some form is held: the input's
 pub some_form : (cs : List Candidate) (c : ℤ) (m : Meaning) (ms : List Meaning) (column : Spec) → AreTallied (m ∷ ms) cs c → is_reference column.form ≢ true → AreSpelled column.form column.constant (m ∷ ms) → AreOut cs (length cs) → ⊥
 some_form cs c m ms column t other s out =
@@ -130,12 +136,17 @@ room_left cs ds count e b few k lt =
     omega arith
 
 pub chosen : (section : List ℕ) (values : List Value) (cs ds : List Candidate) (c d : ℤ) (count : ℕ) (column : Spec) (choice : Choice) → ds ≡ cs → is_reference column.form ≢ true → IsTally section values (record { candidates = cs; constant = c; count = count }) → IsBestOf ds c column.form (length ds) choice → (choice.form ≡ implicit_const → d ≡ c) → (choice.form ≢ implicit_const → d ≡ pos 0) → IsChosen column (meanings_in section values) (record { name = column.name; form = choice.form; constant = d })
-chosen section values cs ds c d count column choice e other t b same none = record {
-  name = refl;
-  kept = λ is. absurd (other is);
-  least = λ _. least_form cs c d (meanings_in section values) column.form choice t.tallied (subst (λ (z : List Candidate). IsBestOf z c column.form (length z) choice) e b) same;
-  unused = λ differs _. none differs;
-}
+chosen section values cs ds c d count column choice e other t b same none =
+    let best = subst (λ (z : List Candidate). IsBestOf z c column.form (length z) choice) e b in
+    record {
+      least = record {
+        name = refl;
+        kept = λ is. absurd (other is);
+        least = λ _. least_form cs c d (meanings_in section values) column.form choice t.tallied best same;
+        unused = λ differs _. none differs;
+      };
+      first = λ _. first_form cs c d (meanings_in section values) column.form choice t.tallied best same;
+    }
 
 pub never_none : (section : List ℕ) (values : List Value) (cs ds : List Candidate) (c : ℤ) (count : ℕ) (column : Spec) → ds ≡ cs → 1 ≤ count → is_reference column.form ≢ true → IsTally section values (record { candidates = cs; constant = c; count = count }) → AreSpelled column.form column.constant (meanings_in section values) → AreOut ds (length ds) → ⊥
 never_none section [] cs ds c count column e some other t s out = let none : count ≡ 0 = t.count in absurd (omega arith)

@@ -15,7 +15,8 @@ use Rattle.form_codec.proofs.FormLaws.{any_constant, constant_spelled}
 use Rattle.abbrev_tables.specs.Tables.{implicit_const}
 use Rattle.column_forms.specs.declared.tally.Candidate.{Candidate}
 use Rattle.form_codec.specs.Columns.{EntriesWithin}
-use Rattle.column_forms.specs.Tallies.{CanSpell, IsValueSize, IsSummed, IsShaped, IsHere, HasOneConstant}
+use Rattle.column_forms.specs.Tallies.{IsSummed, IsShaped, IsHere, HasOneConstant}
+use Rattle.column_forms.specs.inside.Tallies.{CanSpell, IsValueSize}
 
 pub is_or_not : (code : ℕ) → (code ≡ implicit_const) ⊎ (code ≢ implicit_const)
 is_or_not code = elim (cases_lt code 33) [

@@ -12,7 +12,8 @@ use Rattle.form_codec.specs.Columns.{AreSpelled}
 use Rattle.column_forms.specs.Columns.{IsChosen}
 use Rattle.column_forms.specs.Tallies.{IsTally, Tallying, meanings_in}
 use Rattle.column_forms.specs.Rows.{AreHere, value_at}
-use Rattle.column_forms.specs.TableColumns.{tally_at, IsTallyOf, AreTalliesOf, AddsRow, IsNextTally, HasOneMore, HaveAtMost, HaveRoomForRow, AreCounted, IsBestOfTally, AreBestFor}
+use Rattle.column_forms.specs.TableColumns.{tally_at, IsTallyOf, AreTalliesOf, AddsRow, HaveAtMost, HaveRoomForRow, AreBestFor}
+use Rattle.column_forms.specs.inside.TableColumns.{IsNextTally, HasOneMore, AreCounted, IsBestOfTally}
 
 abbrev no_spec : Spec
 no_spec = record { name = 0; form = 0; constant = pos 0 }

@@ -17,7 +17,8 @@ use Rattle.form_codec.proofs.Codes.{code_range}
 use Rattle.abbrev_tables.specs.Tables.{implicit_const}
 use Rattle.column_forms.specs.declared.tally.Candidate.{Candidate}
 use Rattle.form_codec.specs.Columns.{IsChoice}
-use Rattle.column_forms.specs.Tallies.{CanSpell, IsValueSize, IsSummed, IsHeldForm, AreTallied, AreBounded, HaveRoom, AreFound, AreAdded, IsNext, IsHere, IsTally, IsShaped, AreShaped, IsFirst, HaveConstants, candidate_at, meanings_in}
+use Rattle.column_forms.specs.Tallies.{IsSummed, IsHeldForm, AreTallied, AreBounded, IsHere, IsTally, IsShaped, AreShaped, candidate_at, meanings_in}
+use Rattle.column_forms.specs.inside.Tallies.{CanSpell, IsValueSize, HaveRoom, AreFound, AreAdded, IsNext, IsFirst, HaveConstants}
 use Rattle.column_forms.proofs.Sums.{with_constant, entries_before, shaped_none, shaped_size}
 
 choice_range : (code : ℕ) → IsChoice code → (1 ≤ code) × (code ≤ 44)

@@ -1,5 +1,5 @@
-pub mod Choices
 pub mod Columns
 pub mod Rows
 pub mod TableColumns
 pub mod Tallies
+pub mod inside

@@ -5,7 +5,7 @@ use Rattle.form_codec.specs.Columns.{AreSpelled}
 use Rattle.abbrev_tables.specs.declared.decl.Spec.{Spec}
 use Rattle.abbrev_tables.specs.Listings.{spec_at}
 use Rattle.column_forms.specs.Columns.{IsChosen}
-use Rattle.column_forms.specs.Tallies.{Tallying, IsTally, IsHere, meanings_in}
+use Rattle.column_forms.specs.Tallies.{Tallying, IsTally, meanings_in}
 use Rattle.column_forms.specs.Rows.{value_at}
 
 -- what is held of the column with a number; past the end there is nothing
@@ -44,22 +44,3 @@ pub record IsBestFor (section : List ℕ) (values : List Value) (old new : Spec)
 pub record AreBestFor (section : List ℕ) (values : ℕ → List Value) (old new : List Spec) : Type 0 where
   pub count : length new ≡ length old
   pub each : (k : ℕ) → k < length old → IsBestFor section (values k) (spec_at old k) (spec_at new k)
-
--- what is held of a column after one more value
-abbrev pub IsNextTally : Value → Option Tallying → Option Tallying → Type 0
-IsNextTally v old new = (section : List ℕ) (values : List Value) → IsHere section v → IsTallyOf section values old → IsTallyOf section (values ++ v ∷ []) new
-
--- a column has at most one value more
-abbrev pub HasOneMore : Option Tallying → Option Tallying → Type 0
-HasOneMore old new = (n : ℕ) → IfSome old (λ tally. tally.count ≤ n) → IfSome new (λ tally. tally.count ≤ n + 1)
-
--- the first so many values of a row are counted, each in its column from a first one on, and the other columns hold what they did
-pub record AreCounted (first : ℕ) (row : List Value) (done : ℕ) (old new : List (Option Tallying)) : Type 0 where
-  pub same : length new ≡ length old
-  pub next : (j : ℕ) → j < done → IsNextTally (value_at row j) (tally_at old (first + j)) (tally_at new (first + j))
-  pub more : (j : ℕ) → j < done → HasOneMore (tally_at old (first + j)) (tally_at new (first + j))
-  pub others : (k : ℕ) → (k < first) ⊎ (first + done ≤ k) → tally_at new k ≡ tally_at old k
-
--- a column is the best for all values of which this is held
-abbrev pub IsBestOfTally : Option Tallying → Spec → Spec → Type 0
-IsBestOfTally tally old new = (section : List ℕ) (values : List Value) → IsTallyOf section values tally → IsBestFor section values old new

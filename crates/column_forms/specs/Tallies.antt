@@ -1,11 +1,10 @@
 -- What is summed of a column while its values are looked at, one after the other.
-use Rattle.std.specs.Prelude.{◌≡◌, ◌≤◌, ◌<◌, ◌+◌, ◌*◌, ◌^◌, ℕ, ℤ, List, [], ◌∷◌, ◌++◌, length, map, slice_index_or, pos, true, false, FitsSigned}
+use Rattle.std.specs.Prelude.{◌≡◌, ◌≤◌, ◌<◌, ◌*◌, ◌^◌, ℕ, ℤ, List, length, map, slice_index_or, pos, true, false, FitsSigned}
 use Rattle.std.specs.Int.{w64}
 use Rattle.form_codec.specs.declared.value.Value.{Value}
 use Rattle.form_codec.specs.declared.form.Form.{Form}
 use Rattle.form_codec.specs.declared.form.Shape.TheVariants.{Constant}
-use Rattle.form_codec.specs.Forms.{Meaning, SpellsValue, code_of, shape_of, is_written, counted}
-use Rattle.form_codec.specs.Written.{HasConstant}
+use Rattle.form_codec.specs.Forms.{Meaning, code_of, shape_of, is_written}
 use Rattle.form_codec.specs.Values.{meant_in, IsValueIn}
 use Rattle.abbrev_tables.specs.Tables.{implicit_const}
 use Rattle.column_forms.specs.declared.tally.Candidate.{Candidate}
@@ -20,18 +19,6 @@ pub record Tallying : Type 0 where
 
 abbrev pub candidate_at : List Candidate → ℕ → Candidate
 candidate_at candidates k = slice_index_or candidates k (record { form = 0; shape = Constant (pos 0); size = 0; admits = false })
-
--- the form with this code can be chosen, and with this constant it spells the value
-pub record CanSpell (code : ℕ) (constant : ℤ) (meaning : Meaning) : Type 0 where
-  pub choice : IsChoice code
-  pub bytes : List ℕ
-  pub spelled : SpellsValue code constant meaning bytes
-
--- so many bytes of a value count in the form with this code, and with no constant do fewer
-pub record IsValueSize (code : ℕ) (constant : ℤ) (meaning : Meaning) (size : ℕ) : Type 0 where
-  pub spells : CanSpell code constant meaning
-  pub exact : size ≡ counted meaning (length spells.bytes)
-  pub least : (other : ℤ) (others : List ℕ) → SpellsValue code other meaning others → size ≤ counted meaning (length others)
 
 -- so many bytes are enough for the values in the entries, and with no constant are fewer
 pub record IsEntriesSize (code : ℕ) (constant : ℤ) (meanings : List Meaning) (size : ℕ) : Type 0 where
@@ -81,10 +68,6 @@ IsShaped constant c = (form : Form) × (code_of form ≡ c.form) × (is_written 
 abbrev pub AreShaped : ℤ → List Candidate → Type 0
 AreShaped constant candidates = (k : ℕ) → k < length candidates → IsShaped constant (candidate_at candidates k)
 
--- the constants in shapes fit a signed number of 64 bits
-abbrev pub HaveConstants : List Candidate → Type 0
-HaveConstants candidates = (k : ℕ) → k < length candidates → HasConstant (candidate_at candidates k).shape
-
 -- what is true of each tally
 pub record IsHeld (candidates : List Candidate) (constant : ℤ) (count : ℕ) : Type 0 where
   pub bounded : AreBounded candidates count
@@ -93,39 +76,7 @@ pub record IsHeld (candidates : List Candidate) (constant : ℤ) (count : ℕ) :
   pub some : 1 ≤ count
   pub few : count ≤ 2 ^ 63
 
--- one more value can be counted
-abbrev pub HaveRoom : List Candidate → Type 0
-HaveRoom candidates = (k : ℕ) → k < length candidates → (candidate_at candidates k).size + 2 ^ 64 < 2 ^ 128
-
 -- a value of a section that fits memory
 pub record IsHere (section : List ℕ) (v : Value) : Type 0 where
   pub value : IsValueIn section v
   pub fits : length section < 2 ^ 63
-
--- what is held of a form after one more value
-pub record IsNext (v : Value) (old new : Candidate) : Type 0 where
-  pub form : new.form ≡ old.form
-  pub shape : new.shape ≡ old.shape
-  pub few : new.size ≤ old.size + 2 ^ 64
-  pub summed : (constant : ℤ) (section : List ℕ) (meanings : List Meaning) → IsShaped constant old → IsHere section v → HasOneConstant constant meanings → IsSummed constant meanings old → IsSummed constant (meanings ++ meant_in section v ∷ []) new
-
--- what is held of the form with this code after a first value, which it spells
-pub record IsFirst (code : ℕ) (constant : ℤ) (v : Value) (new : Candidate) : Type 0 where
-  pub form : new.form ≡ code
-  pub shaped : IsShaped constant new
-  pub few : new.size < 2 ^ 64
-  pub admits : new.admits ≡ true
-  pub sized : (section : List ℕ) → IsHere section v → IsValueSize code constant (meant_in section v) new.size
-
--- the forms with codes below a number that spell a first value, each with its bytes
-pub record AreFound (constant : ℤ) (v : Value) (below : ℕ) (candidates : List Candidate) : Type 0 where
-  pub bounded : AreBounded candidates 1
-  pub shaped : AreShaped constant candidates
-  pub summed : (section : List ℕ) → IsHere section v → AreSummed constant (meant_in section v ∷ []) candidates
-  pub full : (section : List ℕ) (code : ℕ) → IsHere section v → code < below → CanSpell code constant (meant_in section v) → IsHeldForm candidates code
-
--- the first so many are those after one more value, and the others are the old ones
-pub record AreAdded (v : Value) (old : List Candidate) (done : ℕ) (new : List Candidate) : Type 0 where
-  pub same : length new ≡ length old
-  pub next : (k : ℕ) → k < done → k < length old → IsNext v (candidate_at old k) (candidate_at new k)
-  pub left : (k : ℕ) → done ≤ k → candidate_at new k ≡ candidate_at old k

@@ -2,9 +2,10 @@
 ghost use Rattle.std.specs.Prelude.{◌≡◌, ◌≤◌, ◌<◌, ◌+◌, ◌^◌, ◌↔◌, ℕ, length, IsTrue, true};
 ghost use Rattle.form_codec.specs.Columns.{ComesFirst, is_reference};
 ghost use Rattle.column_forms.specs.Tallies.{AreBounded, candidate_at};
-ghost use Rattle.column_forms.specs.Choices.{IsBest, IsBetter, bytes_of};
+ghost use Rattle.column_forms.specs.inside.Choices.{IsBest, IsBetter, bytes_of};
 
-use crate::tally::{Candidate, IMPLICIT_CONST};
+use crate::tally::Candidate;
+use dw_base::constants::{DW_FORM_IMPLICIT_CONST, DW_FORM_REF_ADDR, DW_FORM_REF_UDATA};
 use leb_codec::len_s;
 
 /// A form, and the bytes of a column in it.
@@ -20,7 +21,7 @@ pub struct Choice {
 pub fn is_reference(form: u64) -> bool
     ensures { result ≡ is_reference form }
 {
-    16 <= form && form <= 21
+    (DW_FORM_REF_ADDR..=DW_FORM_REF_UDATA).contains(&form)
 }
 
 // Whether a form comes before another one that takes as few bytes, or is it.
@@ -36,7 +37,7 @@ fn choice_of(candidate: Candidate, constant: i64) -> Choice
     ensures form { result.form ≡ candidate.form }
     ensures bytes { result.bytes ≡ bytes_of constant candidate }
 {
-    let constant_bytes = if candidate.form == IMPLICIT_CONST {
+    let constant_bytes = if candidate.form == DW_FORM_IMPLICIT_CONST {
         u128::from(len_s(constant))
     } else {
         0

@@ -2,7 +2,8 @@
 ghost use Rattle.std.specs.Prelude.{◌≡◌, ◌≤◌, ◌<◌, ◌+◌, ◌^◌, ℕ, List, [], length, IfOk, IfSome, OnOk};
 ghost use Rattle.form_codec.specs.declared.value.Value.{Value as AValue};
 ghost use Rattle.column_forms.specs.Rows.{AreHere};
-ghost use Rattle.column_forms.specs.TableColumns.{AreTalliesOf, AddsRow, HaveRoomForRow, HaveAtMost, IsNextTally, HasOneMore, IsBestOfTally, AreBestFor};
+ghost use Rattle.column_forms.specs.TableColumns.{AreTalliesOf, AddsRow, HaveRoomForRow, HaveAtMost, AreBestFor};
+ghost use Rattle.column_forms.specs.inside.TableColumns.{IsNextTally, HasOneMore, IsBestOfTally};
 
 use crate::tally::Tally;
 use abbrev_tables::Spec;

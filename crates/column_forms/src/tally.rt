@@ -8,20 +8,19 @@ ghost use Rattle.form_codec.specs.Values.{meant_in, IsValueIn};
 ghost use Rattle.form_codec.specs.Columns.{AreSpelled};
 ghost use Rattle.column_forms.specs.Columns.{IsChosen};
 ghost use Rattle.form_codec.specs.Written.{HasConstant};
-ghost use Rattle.column_forms.specs.Tallies.{meanings_in, IsTally, CanSpell, IsHere, IsNext, IsFirst, AreFound, AreAdded, HaveRoom, HaveConstants};
+ghost use Rattle.column_forms.specs.Tallies.{meanings_in, IsTally, IsHere};
+ghost use Rattle.column_forms.specs.inside.Tallies.{CanSpell, IsNext, IsFirst, AreFound, AreAdded, HaveRoom, HaveConstants};
 
 use crate::choice::{best_of, is_reference};
 use abbrev_tables::Spec;
 use dw_base::NoMemory;
+use dw_base::constants::{DW_FORM_ADDRX4, DW_FORM_IMPLICIT_CONST};
 use form_codec::{Form, Shape, Value, size_in};
 use std::alloc::Global;
 use std::marker::Model;
 
-/// The code of DW_FORM_implicit_const, whose value stands in the declaration.
-pub const IMPLICIT_CONST: u64 = 33;
-
 // Codes of forms are from 1 to this one.
-const LAST_FORM: u64 = 44;
+const LAST_FORM: u64 = DW_FORM_ADDRX4;
 
 /// A form that admits the first value of a column.
 #[derive(Clone, Copy)]
@@ -179,7 +178,7 @@ impl Tally {
             Some(choice) => Spec {
                 name: column.name,
                 form: choice.form,
-                constant: if choice.form == IMPLICIT_CONST {
+                constant: if choice.form == DW_FORM_IMPLICIT_CONST {
                     self.constant
                 } else {
                     0

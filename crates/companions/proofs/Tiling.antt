@@ -11,17 +11,18 @@ use Rattle.dw_base.specs.declared.fault.Kind.TheVariants.{Short, Aranges as NoAr
 use Rattle.dw_base.specs.declared.fault.Refusal.{Refusal}
 use Rattle.dw_base.specs.declared.fault.Refusal.TheVariants.{Refused}
 use Rattle.companions.specs.declared.set.ArangeSet.{ArangeSet}
-use Rattle.companions.specs.Aranges.{unit_length, set_end, AreRising, BeginsAt, IsSet, HasSet, SetsFollow, SetsTile, HaveUnits}
+use Rattle.fixed_width.specs.InitialLengths.{unit_length, unit_end, least_reserved}
+use Rattle.companions.specs.Aranges.{AreRising, BeginsAt, IsSet, HasSet, SetsFollow, SetsTile, HaveUnits}
 use Rattle.companions.specs.Faults.{FaultSet, FaultSets}
 use Rattle.dw_base.specs.Refusals.{IsFaultOf, IsRefusedFor, IsFaulty}
 
 -- one more set
-pub follow_push : (section starts : List ℕ) (sets : List ArangeSet) (set : ArangeSet) (a b : ℕ) → SetsFollow section starts sets a b → set.at ≡ b → IsSet section starts set → SetsFollow section starts (sets ++ set ∷ []) a (set_end section b)
-follow_push section starts [] set a b e at h = (at ∙ sym e, h, ap (set_end section) at)
-follow_push section starts (x ∷ sets) set a b f at h = (f.0, f.1, follow_push section starts sets set (set_end section x.at) b f.2 at h)
+pub follow_push : (section starts : List ℕ) (sets : List ArangeSet) (set : ArangeSet) (a b : ℕ) → SetsFollow section starts sets a b → set.at ≡ b → IsSet section starts set → SetsFollow section starts (sets ++ set ∷ []) a (unit_end section b)
+follow_push section starts [] set a b e at h = (at ∙ sym e, h, ap (unit_end section) at)
+follow_push section starts (x ∷ sets) set a b f at h = (f.0, f.1, follow_push section starts sets set (unit_end section x.at) b f.2 at h)
 
 -- a set has ten bytes and ends in its section
-pub set_inside : (section starts : List ℕ) (set : ArangeSet) → IsSet section starts set → (set.at + 10 ≤ set_end section set.at) × (set_end section set.at ≤ length section)
+pub set_inside : (section starts : List ℕ) (set : ArangeSet) → IsSet section starts set → (set.at + 10 ≤ unit_end section set.at) × (unit_end section set.at ≤ length section)
 set_inside section starts set h =
     let fits : 6 ≤ unit_length section set.at = h.fits in
     (omega arith, h.whole.inside)
@@ -30,8 +31,8 @@ set_inside section starts set h =
 end_apart : (section starts : List ℕ) (set : ArangeSet) (a : ℕ) → IsSet section starts set → set.at ≡ a → a ≡ length section → ⊥
 end_apart section starts set a h e f =
     let b = set_inside section starts set h in
-    let first : set.at + 10 ≤ set_end section set.at = b.0 in
-    let second : set_end section set.at ≤ length section = b.1 in
+    let first : set.at + 10 ≤ unit_end section set.at = b.0 in
+    let second : unit_end section set.at ≤ length section = b.1 in
     absurd (omega arith)
 
 has_set : (section starts : List ℕ) (set : ArangeSet) (at : ℕ) → IsSet section starts set → set.at ≡ at → HasSet section starts at
@@ -40,15 +41,15 @@ has_set section starts set at h e = (set.unit, subst (λ (z : ℕ). IsSet sectio
 -- a set has no fault
 set_whole : (section starts : List ℕ) (at : ℕ) (kind : Kind) (place : ℕ) → HasSet section starts at → FaultSet section starts at kind place → ⊥
 set_whole section starts at Short place (unit, h) (e, f) =
-    let usual : unit_length section at < 4294967280 = h.whole.usual in
-    let inside : set_end section at ≤ length section = h.whole.inside in
+    let usual : unit_length section at < least_reserved = h.whole.usual in
+    let inside : unit_end section at ≤ length section = h.whole.inside in
     elim f [ inl x ↦ absurd (omega arith) | inr y ↦ elim y [ inl x ↦ absurd (omega arith) | inr x ↦ absurd (omega arith) ] ]
 set_whole section starts at NoAranges place h (e, w, f) = f h
 set_whole section starts at _ place h f = f
 
 -- two sets at a place end alike
-same_end : (section : List ℕ) (one other : ArangeSet) (a : ℕ) → one.at ≡ a → other.at ≡ a → set_end section one.at ≡ set_end section other.at
-same_end section one other a e f = ap (set_end section) (e ∙ sym f)
+same_end : (section : List ℕ) (one other : ArangeSet) (a : ℕ) → one.at ≡ a → other.at ≡ a → unit_end section one.at ≡ unit_end section other.at
+same_end section one other a e f = ap (unit_end section) (e ∙ sym f)
 
 faults_after : (section starts : List ℕ) (sets before : List ArangeSet) (a at : ℕ) (kind : Kind) (place : ℕ) → SetsFollow section starts sets a (length section) → SetsFollow section starts before a at → at < length section → FaultSet section starts at kind place → ⊥
 faults_after section starts [] [] a at kind place f g i x =
@@ -58,7 +59,7 @@ faults_after section starts [] [] a at kind place f g i x =
 faults_after section starts [] (y ∷ before) a at kind place f g i x = end_apart section starts y a g.1 g.0 f
 faults_after section starts (s ∷ sets) [] a at kind place f g i x = set_whole section starts at kind place (has_set section starts s at f.1 (f.0 ∙ g)) x
 faults_after section starts (s ∷ sets) (y ∷ before) a at kind place f g i x =
-    faults_after section starts sets before (set_end section y.at) at kind place (subst (λ (z : ℕ). SetsFollow section starts sets z (length section)) (same_end section s y a f.0 g.0) f.2) g.2 i x
+    faults_after section starts sets before (unit_end section y.at) at kind place (subst (λ (z : ℕ). SetsFollow section starts sets z (length section)) (same_end section s y a f.0 g.0) f.2) g.2 i x
 
 -- sets that tile a section have no fault
 pub sets_whole : (section starts : List ℕ) (sets : List ArangeSet) → SetsTile section starts sets → ¬ IsFaulty (FaultSets section starts)
@@ -110,13 +111,13 @@ one_tile section starts [] (t ∷ ts) a rising f g = absurd (end_apart section s
 one_tile section starts (s ∷ ss) [] a rising f g = absurd (end_apart section starts s a f.1 f.0 g)
 one_tile section starts (s ∷ ss) (t ∷ ts) a rising f g =
     let same : s ≡ t = one_set section starts s t a rising f.1 g.1 f.0 g.0 in
-    let after : SetsFollow section starts ss (set_end section t.at) (length section) = subst (λ (z : ℕ). SetsFollow section starts ss z (length section)) (same_end section s t a f.0 g.0) f.2 in
-    ap (λ z. z ∷ ss) same ∙ ap (λ z. t ∷ z) (one_tile section starts ss ts (set_end section t.at) rising after g.2)
+    let after : SetsFollow section starts ss (unit_end section t.at) (length section) = subst (λ (z : ℕ). SetsFollow section starts ss z (length section)) (same_end section s t a f.0 g.0) f.2 in
+    ap (λ z. z ∷ ss) same ∙ ap (λ z. t ∷ z) (one_tile section starts ss ts (unit_end section t.at) rising after g.2)
 
 -- the units of sets are among those that have starts
 pub follow_units : (section starts : List ℕ) (sets : List ArangeSet) (a b : ℕ) → SetsFollow section starts sets a b → HaveUnits (length starts) sets
 follow_units section starts [] a b f = All-nil (λ (set : ArangeSet). set.unit < length starts)
-follow_units section starts (s ∷ sets) a b f = All-cons (λ (set : ArangeSet). set.unit < length starts) s sets f.1.of_unit.0 (follow_units section starts sets (set_end section s.at) b f.2)
+follow_units section starts (s ∷ sets) a b f = All-cons (λ (set : ArangeSet). set.unit < length starts) s sets f.1.of_unit.0 (follow_units section starts sets (unit_end section s.at) b f.2)
 
 -- a refusal of a fault
 pub refused : (holds : Kind → ℕ → Type 0) (origin place : ℕ) (kind : Kind) (r : Refusal) → r ≡ Refused (record { kind = kind; place = origin + place }) → holds kind place → IsRefusedFor (IsFaultOf holds origin) r

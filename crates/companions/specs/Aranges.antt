@@ -2,31 +2,13 @@
 -- first byte, and `starts` are the places of the units of .debug_info, by their numbers.
 use Rattle.std.specs.Prelude.{◌≡◌, ◌≤◌, ◌<◌, ◌+◌, ◌⊎◌, ℕ, List, [], ◌∷◌, length, slice_index}
 use Rattle.std.specs.List.{All}
+use Rattle.fixed_width.specs.InitialLengths.{unit_length, version, unit_end, IsWhole}
 use Rattle.fixed_width.specs.Numbers.{number_at}
 use Rattle.companions.specs.declared.set.ArangeSet.{ArangeSet}
 
--- the fields of a set that stands at a place, as far as they are read
-abbrev pub unit_length : List ℕ → ℕ → ℕ
-unit_length section at = number_at 4 at section
-
-abbrev pub version : List ℕ → ℕ → ℕ
-version section at = number_at 2 (at + 4) section
-
+-- the field of a set that stands at a place, after its length and its version
 abbrev pub debug_info_offset : List ℕ → ℕ → ℕ
 debug_info_offset section at = number_at 4 (at + 6) section
-
--- where the set ends, whose length counts from after its own field
-abbrev pub set_end : List ℕ → ℕ → ℕ
-set_end section at = at + 4 + unit_length section at
-
--- the least of the lengths that are reserved, of which one tells the 64-bit format (DWARF 5 section 7.4)
-abbrev pub least_reserved : ℕ
-least_reserved = 4294967280
-
--- The set at a place is whole in the section.
-pub record IsWhole (section : List ℕ) (at : ℕ) : Type 0 where
-  pub usual : unit_length section at < least_reserved
-  pub inside : set_end section at ≤ length section
 
 -- The starts rise, as the places of units that stand one after the other do.
 abbrev pub AreRising : List ℕ → Type 0
@@ -51,7 +33,7 @@ HasSet section starts at = (unit : ℕ) × IsSet section starts (record { at = a
 -- The sets stand in the section one after the other, from a place up to another.
 abbrev pub SetsFollow : List ℕ → List ℕ → List ArangeSet → ℕ → ℕ → Type 0
 SetsFollow section starts [] at end = at ≡ end
-SetsFollow section starts (set ∷ sets) at end = (set.at ≡ at) × IsSet section starts set × SetsFollow section starts sets (set_end section set.at) end
+SetsFollow section starts (set ∷ sets) at end = (set.at ≡ at) × IsSet section starts set × SetsFollow section starts sets (unit_end section set.at) end
 
 -- The sets are the whole section.
 abbrev pub SetsTile : List ℕ → List ℕ → List ArangeSet → Type 0

@@ -1,13 +1,10 @@
 -- The faults of sets of address ranges, as conditions on the bytes. Places count from the section's first byte.
-use Rattle.std.specs.Prelude.{◌≡◌, ◌≤◌, ◌<◌, ◌+◌, ◌⊎◌, ℕ, List, length}
+use Rattle.std.specs.Prelude.{◌≡◌, ◌<◌, ℕ, List, length}
 use Rattle.dw_base.specs.declared.fault.Kind.{Kind}
 use Rattle.dw_base.specs.declared.fault.Kind.TheVariants.{Short, Aranges as NoAranges}
 use Rattle.companions.specs.declared.set.ArangeSet.{ArangeSet}
-use Rattle.companions.specs.Aranges.{unit_length, set_end, least_reserved, IsWhole, HasSet, SetsFollow}
-
--- The set at a place leaves the section: its length field does, or its last byte, or the length is a reserved one.
-abbrev pub LeavesSection : List ℕ → ℕ → Type 0
-LeavesSection section at = (length section < at + 4) ⊎ ((least_reserved ≤ unit_length section at) ⊎ (length section < set_end section at))
+use Rattle.companions.specs.Aranges.{HasSet, SetsFollow}
+use Rattle.fixed_width.specs.InitialLengths.{IsWhole, LeavesSection}
 
 -- The set at a place has a fault. It is Short where the set leaves the section, and Aranges where it is whole and breaks
 -- another rule of sets.

@@ -1,12 +1,13 @@
 // Sets of address ranges read.
 ghost use Rattle.std.specs.Prelude.{◌≡◌, ◌≤◌, ◌<◌, ◌+◌, ◌^◌, ◌++◌, ◌∷◌, ℕ, [], length, IfOk, IfErr, OnOk, MatchOption};
 ghost use Rattle.dw_base.specs.declared.fault.Refusal.TheVariants.{Refused};
-ghost use Rattle.companions.specs.Aranges.{set_end, IsWhole, AreRising, BeginsAt, IsSet, HasSet, SetsTile, HaveUnits};
-ghost use Rattle.companions.specs.Faults.{LeavesSection, FaultSets};
+ghost use Rattle.fixed_width.specs.InitialLengths.{unit_end, IsWhole};
+ghost use Rattle.companions.specs.Aranges.{AreRising, BeginsAt, IsSet, HasSet, SetsTile, HaveUnits};
+ghost use Rattle.companions.specs.Faults.{FaultSets};
 ghost use Rattle.dw_base.specs.Refusals.{IsFaultOf, IsFaulty, IsRefusedFor};
 
 use dw_base::{Fault, Kind, NoMemory, Refusal};
-use fixed_width::{u16_at, u32_at};
+use fixed_width::{end_of_unit, u32_at, version_of_unit};
 use std::alloc::Global;
 
 /// A set of address ranges (DWARF 5 section 6.1.2).
@@ -19,9 +20,6 @@ pub struct ArangeSet {
 }
 
 const VERSION: u16 = 2;
-
-// The first of the lengths that are reserved (DWARF 5 section 7.4).
-const FIRST_RESERVED: u32 = 0xffff_fff0;
 
 // The fewest bytes of a set: its length, its version and debug_info_offset.
 const LEAST_SET: usize = 10;
@@ -38,31 +36,15 @@ fn unit_at(starts: &[u64], place: u64) -> Option<u32>
     }
 }
 
-// Where the set at a place ends, or none where it leaves the section.
-fn end_of(section: &[u8], at: usize) -> Option<usize>
-    requires { at ≤ length section.now }
-    ensures { MatchOption result (LeavesSection section.now at) (λ end. IsWhole section.now at × (end ≡ set_end section.now at)) }
-{
-    let left = section.len() - at;
-    if left < 4 {
-        return None;
-    }
-    let length = u32_at(section, at);
-    if length >= FIRST_RESERVED || length as usize > left - 4 {
-        return None;
-    }
-    Some(at + 4 + length as usize)
-}
-
 // The set at a place, which is whole.
 fn parse(section: &[u8], starts: &[u64], at: usize, end: usize) -> Option<ArangeSet>
     requires few { length starts.now < 2 ^ 32 }
     requires rising { AreRising starts.now }
     requires whole { IsWhole section.now at }
-    requires end { end ≡ set_end section.now at }
+    requires end { end ≡ unit_end section.now at }
     ensures { MatchOption result (¬ HasSet section.now starts.now at) (λ set. (set.at ≡ at) × IsSet section.now starts.now set) }
 {
-    if end - at < LEAST_SET || u16_at(section, at + 4) != VERSION {
+    if end - at < LEAST_SET || version_of_unit(section, at) != VERSION {
         return None;
     }
     let unit = unit_at(starts, u64::from(u32_at(section, at + 6)))?;
@@ -116,7 +98,7 @@ pub fn read_aranges(
     let mut sets: Vec<ArangeSet> = Vec::new(alloc);
     let mut at = 0;
     while at < section.len() {
-        let Some(end) = end_of(section, at) else {
+        let Ok(end) = end_of_unit(section, at) else {
             return Err(refused(Kind::Short, origin, at));
         };
         let Some(set) = parse(section, starts, at, end) else {

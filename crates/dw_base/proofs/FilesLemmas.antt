@@ -4,7 +4,8 @@ use Rattle.std.specs.Str.{bytes_eq}
 use Rattle.std.proofs.lemmas.Slice.Eq.{bytes_eq-Decides}
 use Rattle.std.proofs.lemmas.Bool.{false≢true, false_from_ne_true}
 use Rattle.dw_base.specs.declared.files.NamedFile.{NamedFile}
-use Rattle.dw_base.specs.Files.{has_name, is_there, content, IsFirst}
+use Rattle.dw_base.specs.Files.{has_name, is_there, content}
+use Rattle.dw_base.specs.inside.Files.{IsFirst}
 
 or-false : (a b : Bool) → (a || b) ≡ false → (a ≡ false) × (b ≡ false)
 or-false false b h = (refl, h)

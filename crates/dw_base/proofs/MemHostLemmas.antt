@@ -10,7 +10,8 @@ use Rattle.dw_base.specs.declared.mem_host.CallKind.{CallKind}
 use Rattle.dw_base.specs.declared.mem_host.CallKind.TheVariants.{Say}
 use Rattle.dw_base.specs.declared.mem_host.FailedCall.{FailedCall}
 use Rattle.dw_base.specs.Host.{HasCause, HasOneCause}
-use Rattle.dw_base.specs.MemHost.{same_kind, faults_of, say_faults_of, NotesFailure}
+use Rattle.dw_base.specs.MemHost.{same_kind, faults_of, say_faults_of}
+use Rattle.dw_base.specs.inside.MemHost.{NotesFailure}
 
 faults_of-push : (kind : CallKind) (f : List ℕ) (calls : List FailedCall) (call : FailedCall) → faults_of kind f (calls ++ call ∷ []) ≡ faults_of kind f calls + (if same_kind kind call.kind && bytes_eq (string_bytes call.name) f then 1 else 0)
 faults_of-push kind f [] call = omega arith

@@ -1,8 +1,6 @@
 -- The failed calls that a host in memory keeps, and the counts that come from them.
-use Rattle.std.specs.Prelude.{◌≡◌, ◌+◌, ◌-◌, ◌^◌, ℕ, min, Contains, List, [], ◌∷◌, ◌++◌, Bool, true, false, ◌&&◌, if◌then◌else◌, string_bytes}
+use Rattle.std.specs.Prelude.{◌≡◌, ◌+◌, ◌-◌, ◌^◌, ℕ, min, Contains, List, [], ◌∷◌, Bool, true, false, ◌&&◌, if◌then◌else◌, string_bytes}
 use Rattle.std.specs.Str.{bytes_eq}
-use Rattle.dw_base.specs.declared.host.Stop.{Stop}
-use Rattle.dw_base.specs.declared.host.Stop.TheVariants.{Failed, NoMemory}
 use Rattle.dw_base.specs.declared.files.NamedFile.{NamedFile}
 use Rattle.dw_base.specs.declared.mem_host.MemHost.{MemHost}
 use Rattle.dw_base.specs.declared.mem_host.CallKind.{CallKind}
@@ -26,12 +24,6 @@ faults_of kind name (call ∷ calls) =
 abbrev pub say_faults_of : List FailedCall → ℕ
 say_faults_of [] = 0
 say_faults_of (call ∷ calls) = (if same_kind Say call.kind then 1 else 0) + say_faults_of calls
-
--- a failed call is noted, or for want of memory it isn't
-abbrev pub NotesFailure : List FailedCall → List FailedCall → CallKind → List ℕ → Stop → Type 0
-NotesFailure old new kind name Failed =
-    (call : FailedCall) × (call.kind ≡ kind) × (string_bytes call.name ≡ name) × (new ≡ old ++ call ∷ [])
-NotesFailure old new kind name NoMemory = new ≡ old
 
 -- the files that the host holds
 abbrev pub files_of : MemHost → List NamedFile

@@ -171,3 +171,33 @@ impl From<NoMemory> for Refusal {
         Refusal::NoMemory
     }
 }
+
+impl From<Fault> for Refusal {
+    ghost use Rattle.dw_base.specs.declared.fault.Refusal.TheVariants.{Refused};
+
+    ghost from_gives = { λ f e. e ≡ Refused f };
+
+    fn from(fault: Fault) -> Self {
+        Refusal::Refused(fault)
+    }
+}
+
+impl From<AllocError> for Refusal {
+    ghost use Rattle.dw_base.specs.declared.fault.Refusal.TheVariants.{NoMemory};
+
+    ghost from_gives = { λ _ e. e ≡ NoMemory };
+
+    fn from(_: AllocError) -> Self {
+        Refusal::NoMemory
+    }
+}
+
+impl<T: Drop> From<AllocFailed<T>> for Refusal {
+    ghost use Rattle.dw_base.specs.declared.fault.Refusal.TheVariants.{NoMemory};
+
+    ghost from_gives = { λ _ e. e ≡ NoMemory };
+
+    fn from(_: AllocFailed<T>) -> Self {
+        Refusal::NoMemory
+    }
+}

@@ -1,7 +1,8 @@
 // Files kept as a list, the first of a name being the one that is meant.
 ghost use Rattle.std.specs.Prelude.{◌≡◌, ◌≢◌, ◌≤◌, ◌<◌, ◌++◌, ℕ, List, [], length, Option, Some, MatchOption, IsSome, IfSome, IfNone, IsTrue, ◌↔◌, OnOk, OnErr, false, true};
 ghost use Rattle.dw_base.specs.Host.{IsPartRead};
-ghost use Rattle.dw_base.specs.Files.{IsFirst, is_there, content, SameFiles};
+ghost use Rattle.dw_base.specs.Files.{is_there, content};
+ghost use Rattle.dw_base.specs.inside.Files.{IsFirst, SameFiles};
 
 use crate::NoMemory;
 use std::alloc::Global;

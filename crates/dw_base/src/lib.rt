@@ -1,6 +1,7 @@
 //! What all crates share: faults and their kinds, the outside, and two hosts in memory.
 #![tactic(auto)]
 
+pub mod constants;
 mod fault;
 mod files;
 mod host;

@@ -2,7 +2,8 @@
 ghost use Rattle.std.specs.Prelude.{◌≡◌, ◌↔◌, ◌≢◌, ◌≤◌, ◌<◌, ◌+◌, ◌-◌, ◌^◌, ◌++◌, ◌⊎◌, ℕ, List, [], length, Option, Some, IfSome, IsSome, IsTrue, Contains, min, true, false, is_some, IfOk, OnOk, OnErr, option_map, IsErr};
 ghost use Rattle.dw_base.specs.Files.{content, is_there};
 ghost use Rattle.dw_base.specs.Host.{AddsPart, HasCause, HasOneCause, IsPartRead, has_failed};
-ghost use Rattle.dw_base.specs.MemHost.{files_of, failing_of, calls_of, faults_of, say_faults_of, NotesFailure, IsDue, CountsCall};
+ghost use Rattle.dw_base.specs.MemHost.{files_of, failing_of, calls_of, faults_of, say_faults_of, IsDue, CountsCall};
+ghost use Rattle.dw_base.specs.inside.MemHost.{NotesFailure};
 ghost use Rattle.dw_base.specs.declared.mem_host.CallKind.TheVariants.{Read, Write, Say};
 
 use crate::files::{copy_part, extend, find, replace};

@@ -6,7 +6,8 @@ use Rattle.std.proofs.lemmas.List.{get_or-set_same, get_or-set_other, length-set
 use Rattle.std.proofs.lemmas.List.Elements.{All-more}
 use Rattle.elf_sections.specs.Elf.{body_of}
 use Rattle.elf_place.specs.declared.bodies.NewBody.{NewBody}
-use Rattle.elf_place.specs.Bodies.{AreApart, body_after, has_new_body, IsFor, IsTable}
+use Rattle.elf_place.specs.Bodies.{AreApart, body_after, has_new_body}
+use Rattle.elf_place.specs.inside.Bodies.{IsFor, IsTable}
 
 -- a section that none of the bodies is for keeps its own
 pub body_after-None : (file : List ℕ) (bodies : List NewBody) (i : ℕ) → All (λ (new : NewBody). new.section ≢ i) bodies → body_after file bodies i ≡ body_of file i

@@ -6,7 +6,7 @@ use Rattle.std.proofs.lemmas.List.{length-append, get_or_append_left, get_or-app
 use Rattle.elf_sections.specs.Elf.{offset_of, size_of, align_of, has_bytes, body_of}
 use Rattle.elf_place.specs.declared.spots.Spot.{Spot}
 use Rattle.elf_place.specs.Layout.{IsNextMultiple, IsGap, StandsAfter, Stand}
-use Rattle.elf_place.specs.Spots.{IsSpot, IsChain, filled, laid}
+use Rattle.elf_place.specs.inside.Spots.{IsSpot, IsChain, filled, laid}
 use Rattle.elf_place.proofs.Ranges.{range-is, length-filled, filled-front, filled-gap}
 
 -- one more spot at the end

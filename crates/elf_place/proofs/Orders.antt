@@ -13,7 +13,7 @@ use Rattle.std.proofs.lemmas.Map.Keys.{IsDistinct-IsPermutation, apart_from_dist
 use Rattle.std.proofs.lemmas.Cmp.{nat_cmp_total, then_total, on_total}
 use Rattle.elf_sections.specs.Elf.{section_count, is_movable, offset_of}
 use Rattle.elf_place.specs.Layout.{IsBefore, IsMovingOrder}
-use Rattle.elf_place.specs.Spots.{movable_among}
+use Rattle.elf_place.specs.inside.Spots.{movable_among}
 
 -- no section stands before itself
 pub before-apart : (file : List ℕ) (i j : ℕ) → IsBefore file i j → i ≢ j

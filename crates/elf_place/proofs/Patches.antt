@@ -7,7 +7,7 @@ use Rattle.std.proofs.lemmas.List.{get_or-take, length-take-le}
 use Rattle.std.proofs.lemmas.List.Elements.{All-more}
 use Rattle.elf_sections.specs.Numbers.{number_at}
 use Rattle.elf_place.specs.declared.spots.Spot.{Spot}
-use Rattle.elf_place.specs.Spots.{IsApart, IsPatched}
+use Rattle.elf_place.specs.inside.Spots.{IsApart, IsPatched}
 use Rattle.elf_place.proofs.NumberLaws.{number_at-same}
 
 abbrev pub HasField : ℕ → ℕ → (Spot → ℕ) → List ℕ → Spot → Type 0

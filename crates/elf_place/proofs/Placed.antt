@@ -11,7 +11,7 @@ use Rattle.elf_place.specs.declared.spots.Spot.{Spot}
 use Rattle.elf_place.specs.Bodies.{AreApart, IsReplaceable, KeepsNames, body_after, has_new_body}
 use Rattle.elf_place.specs.Layout.{IsMovingOrder, IsLaidOut}
 use Rattle.elf_place.specs.Same.{SameImage}
-use Rattle.elf_place.specs.Spots.{IsChain, IsWritten}
+use Rattle.elf_place.specs.inside.Spots.{IsChain, IsWritten}
 use Rattle.elf_place.proofs.BodyLaws.{body_after-Some, body_after-kept}
 use Rattle.elf_place.proofs.WriteLaws.{laid_out, keeps_loaded, keeps_headers, name_of-kept, moving-body, fixed-body, is_movable-kept}
 use Rattle.elf_place.proofs.Kept.{fixed_end_of-kept}

@@ -5,7 +5,7 @@ use Rattle.std.proofs.lemmas.Bool.{cases_lt}
 use Rattle.std.proofs.lemmas.List.{length-append, length-replicate, get_or-take, get_or-drop, get_or-replicate, get_or_append_left, get_or-append_right, ext_get_or, drop_all, append-nil, take_all}
 use Rattle.elf_sections.specs.Elf.{header_at, header_of}
 use Rattle.elf_sections.proofs.TextLaws.{length_range}
-use Rattle.elf_place.specs.Spots.{filled, headers_of}
+use Rattle.elf_place.specs.inside.Spots.{filled, headers_of}
 
 pub get_or-range : (xs : List ℕ) (from to k : ℕ) → k < to - from → slice_index (slice_range xs from to) k ≡ slice_index xs (from + k)
 get_or-range xs from to k lt = get_or-take (to - from) (drop from xs) k 0 lt ∙ get_or-drop from xs k 0

@@ -12,7 +12,7 @@ use Rattle.elf_sections.specs.Names.{name_of, text_at}
 use Rattle.elf_place.specs.declared.spots.Spot.{Spot}
 use Rattle.elf_place.specs.Layout.{IsNextMultiple, IsMovingOrder, IsLaidOut, Stand}
 use Rattle.elf_place.specs.Same.{KeepsLoaded, KeepsHeaders}
-use Rattle.elf_place.specs.Spots.{IsChain, IsWritten, filled, laid, headers_of}
+use Rattle.elf_place.specs.inside.Spots.{IsChain, IsWritten, filled, laid, headers_of}
 use Rattle.elf_place.proofs.NumberLaws.{number_at-shift}
 use Rattle.elf_place.proofs.Ranges.{same_ranges, length-filled, filled-front, filled-gap, length-headers_of, get_or-headers_of}
 use Rattle.elf_place.proofs.Chains.{IsChain-longer, length-laid, laid-front, body_of-bytes, Tells, Stand-laid}

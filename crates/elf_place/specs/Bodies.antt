@@ -1,5 +1,5 @@
 -- New bodies for sections, and the body that a section has after them.
-use Rattle.std.specs.Prelude.{◌≡◌, ◌≢◌, ◌≤◌, ◌<◌, ◌*◌, ◌^◌, ℕ, Option, Some, None, slice_index_or, List, [], ◌∷◌, Bool, false, ◌==◌, ◌||◌, if◌then◌else◌, length, IsTrue, IsFalse}
+use Rattle.std.specs.Prelude.{◌≢◌, ◌≤◌, ◌<◌, ◌*◌, ◌^◌, ℕ, List, [], ◌∷◌, Bool, false, ◌==◌, ◌||◌, if◌then◌else◌, length, IsTrue, IsFalse}
 use Rattle.std.specs.List.{All, AllPairs, sum_by}
 use Rattle.elf_sections.specs.Elf.{section_count, names_index, is_movable, body_of}
 use Rattle.elf_place.specs.declared.bodies.NewBody.{NewBody}
@@ -35,12 +35,3 @@ bytes_of = sum_by (λ (new : NewBody). length new.bytes.items)
 pub record AreSmall (bodies : List NewBody) : Type 0 where
   pub each : All (λ (new : NewBody). length new.bytes.items < 2 ^ 32) bodies
   pub all : bytes_of bodies ≤ 5 * 2 ^ 32
-
--- which of the bodies is for a section
-abbrev pub IsFor : List NewBody → ℕ → Option ℕ → Type 0
-IsFor bodies i (Some place) = (place < length bodies) × ((d : NewBody) → (slice_index_or bodies place d).section ≡ i)
-IsFor bodies i None = All (λ new. new.section ≢ i) bodies
-
--- a table that says it for each section
-abbrev pub IsTable : List NewBody → List (Option ℕ) → Type 0
-IsTable bodies table = (i : ℕ) → i < length table → IsFor bodies i (slice_index_or table i None)

@@ -1,4 +1,4 @@
 pub mod Bodies
 pub mod Layout
 pub mod Same
-pub mod Spots
+pub mod inside

@@ -2,7 +2,8 @@
 ghost use Rattle.std.specs.Prelude.{◌≡◌, ◌<◌, length, IfOk};
 ghost use Rattle.std.specs.List.{All};
 ghost use Rattle.elf_sections.specs.Elf.{section_count};
-ghost use Rattle.elf_place.specs.Bodies.{AreApart, body_after, IsTable};
+ghost use Rattle.elf_place.specs.Bodies.{AreApart, body_after};
+ghost use Rattle.elf_place.specs.inside.Bodies.{IsTable};
 
 use elf_sections::Image;
 use std::alloc::{AllocError, Global};

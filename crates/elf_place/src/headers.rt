@@ -3,7 +3,7 @@ ghost use Rattle.std.specs.Prelude.{◌≡◌, ◌≢◌, ◌≤◌, ◌<◌, �
 ghost use Rattle.std.specs.List.{All, AllPairs};
 ghost use Rattle.elf_sections.specs.Numbers.{number_at};
 ghost use Rattle.elf_sections.specs.Elf.{section_count};
-ghost use Rattle.elf_place.specs.Spots.{headers_of, IsApart, IsPatched};
+ghost use Rattle.elf_place.specs.inside.Spots.{headers_of, IsApart, IsPatched};
 
 use crate::numbers::put_u64;
 use crate::spots::Spot;

@@ -2,7 +2,7 @@
 ghost use Rattle.std.specs.Prelude.{◌≡◌, ◌<◌, ◌≤◌, length, map, IfOk, ℕ};
 ghost use Rattle.elf_sections.specs.Elf.{section_count};
 ghost use Rattle.elf_place.specs.Layout.{IsMovingOrder};
-ghost use Rattle.elf_place.specs.Spots.{movable_among};
+ghost use Rattle.elf_place.specs.inside.Spots.{movable_among};
 
 use elf_sections::Image;
 use std::alloc::{AllocError, Global};

@@ -4,10 +4,11 @@ ghost use Rattle.std.specs.List.{All, AllPairs};
 ghost use Rattle.dw_base.specs.declared.fault.Reach.TheVariants.{Narrow, Wide};
 ghost use Rattle.elf_sections.specs.Elf.{section_count, fixed_end_of, body_of, is_movable};
 ghost use Rattle.elf_sections.specs.Faults.{IsRead};
-ghost use Rattle.elf_place.specs.Bodies.{AreApart, AreSmall, body_after, has_new_body, bytes_of, IsReplaceable, IsTable, KeepsNames};
+ghost use Rattle.elf_place.specs.Bodies.{AreApart, AreSmall, body_after, has_new_body, bytes_of, IsReplaceable, KeepsNames};
+ghost use Rattle.elf_place.specs.inside.Bodies.{IsTable};
 ghost use Rattle.elf_place.specs.Layout.{IsLaidOut};
 ghost use Rattle.elf_place.specs.Same.{SameImage};
-ghost use Rattle.elf_place.specs.Spots.{IsChain, IsWritten, filled, laid};
+ghost use Rattle.elf_place.specs.inside.Spots.{IsChain, IsWritten, filled, laid};
 
 use crate::bodies::{NewBody, body_of, table_of};
 use crate::headers::{push_headers, put_places};

@@ -2,9 +2,10 @@
 ghost use Rattle.std.specs.Prelude.{◌≡◌, ◌≤◌, ◌<◌, ◌+◌, ◌^◌, ◌*◌, ℕ, length, map, IfOk};
 ghost use Rattle.std.specs.List.{All};
 ghost use Rattle.elf_sections.specs.Elf.{section_count, align_of, fixed_end_of, is_movable};
-ghost use Rattle.elf_place.specs.Bodies.{AreApart, body_after, IsTable};
+ghost use Rattle.elf_place.specs.Bodies.{AreApart, body_after};
+ghost use Rattle.elf_place.specs.inside.Bodies.{IsTable};
 ghost use Rattle.elf_place.specs.Layout.{IsNextMultiple};
-ghost use Rattle.elf_place.specs.Spots.{IsChain, IsRoomy};
+ghost use Rattle.elf_place.specs.inside.Spots.{IsChain, IsRoomy};
 
 use crate::bodies::{NewBody, body_of};
 use elf_sections::Image;

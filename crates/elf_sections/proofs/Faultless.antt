@@ -8,7 +8,8 @@ use Rattle.dw_base.specs.declared.fault.Refusal.{Refusal}
 use Rattle.dw_base.specs.declared.fault.Refusal.TheVariants.{Refused, NoMemory}
 use Rattle.dw_base.specs.Refusals.{IsRefusedFor}
 use Rattle.elf_sections.specs.Elf.{IsElf64, section_count}
-use Rattle.elf_sections.specs.Faults.{movable_bytes, is_overlapping, is_compressed, is_debug_relocation, is_misplaced, is_companion, is_too_long, is_overaligned, SomeSection, IsHeaderTorn, IsTorn, IsOverlap, IsSecondOfName, IsHeaderTooLarge, IsLimit, ImageFault, ElfFault, NamesElfFault, HasFault, HasFaultAnyway, HasNoElfFault, HasNoNameFault, HasKnownSections, IsHeaderSmall, IsWhole, IsArranged, IsElfSound, IsRead, ImagesAreWhole}
+use Rattle.elf_sections.specs.Faults.{movable_bytes, is_overlapping, is_compressed, is_debug_relocation, is_misplaced, is_companion, is_too_long, is_overaligned, SomeSection, IsHeaderTorn, IsTorn, IsOverlap, IsSecondOfName, IsHeaderTooLarge, IsLimit, ImageFault, ElfFault, HasNoElfFault, HasNoNameFault, HasKnownSections, IsHeaderSmall, IsWhole, IsRead, ImagesAreWhole}
+use Rattle.elf_sections.specs.inside.Faults.{NamesElfFault, HasFault, HasFaultAnyway, IsArranged, IsElfSound}
 
 movable-step : (file : List ℕ) (m k : ℕ) → m ≤ k → movable_bytes file m ≤ movable_bytes file k
 movable-step file m zero h = let e : m ≡ 0 = omega arith in rw e (omega arith)

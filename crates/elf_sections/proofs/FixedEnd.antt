@@ -2,7 +2,7 @@
 use Rattle.std.proofs.Common.{◌≡◌, ◌≢◌, ◌≤◌, ◌<◌, ℕ, zero, suc, max, List, Bool, true, false, ◌==◌, if◌then◌else◌, length, inl, inr, arith, zero-le}
 use Rattle.std.proofs.lemmas.Bool.{cases_lt}
 use Rattle.elf_sections.specs.Elf.{section_count, segment_count, segment_at, segments_end, segment_end, section_end, loaded_end, is_loaded, greatest, fixed_end_of, has_no_sections}
-use Rattle.elf_sections.specs.Faults.{HasTables}
+use Rattle.elf_sections.specs.inside.Faults.{HasTables}
 
 pub greatest-within : (f : ℕ → ℕ) (most n : ℕ) → ((k : ℕ) → k < n → f k ≤ most) → greatest f n ≤ most
 greatest-within f most zero all = zero-le

@@ -6,7 +6,7 @@ use Rattle.dw_base.specs.declared.fault.Span.{Span}
 use Rattle.elf_sections.specs.Elf.{section_count, section_end, body_span, names_index, name_offset, has_bytes, offset_of, size_of}
 use Rattle.elf_sections.specs.Names.{text_at, name_of}
 use Rattle.elf_sections.specs.Sections.{name_span}
-use Rattle.elf_sections.specs.Faults.{HasTables}
+use Rattle.elf_sections.specs.inside.Faults.{HasTables}
 
 -- a part of a part is a part of the whole
 pub part_of_part : (xs : List ℕ) (b off m n l : ℕ) → n ≡ off + m → l ≤ m → take l (drop off (take n (drop b xs))) ≡ take l (drop (b + off) xs)

@@ -3,7 +3,8 @@ use Rattle.std.proofs.Common.{◌≡◌, ◌<◌, ℕ, zero, suc, List, [], ◌�
 use Rattle.std.proofs.lemmas.List.{length_push, get_or_push, get_or_append_left}
 use Rattle.std.proofs.lemmas.Bool.{cases_lt}
 use Rattle.elf_sections.specs.declared.section.Section.{Section}
-use Rattle.elf_sections.specs.Sections.{section_of, first_sections}
+use Rattle.elf_sections.specs.Sections.{section_of}
+use Rattle.elf_sections.specs.inside.Sections.{first_sections}
 
 pub length-first_sections : (file : List ℕ) (n : ℕ) → length (first_sections file n) ≡ n
 length-first_sections file zero = omega arith

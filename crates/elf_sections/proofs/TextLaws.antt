@@ -7,7 +7,8 @@ use Rattle.std.proofs.lemmas.Grind.{common_steps}
 use Rattle.std.proofs.lemmas.List.{get_or-drop, get_or-take, length-take, length-take-le, length-drop}
 use Rattle.std.proofs.lemmas.List.Sums.{fails_before_first, position_or_len_is}
 use Rattle.std.proofs.lemmas.List.Quantifiers.{position-Some}
-use Rattle.elf_sections.specs.Names.{text_at, IsTextEnd}
+use Rattle.elf_sections.specs.Names.{text_at}
+use Rattle.elf_sections.specs.inside.Names.{IsTextEnd}
 
 abbrev is_zero : ℕ → Bool
 is_zero b = b == 0

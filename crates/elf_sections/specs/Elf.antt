@@ -1,6 +1,6 @@
 -- An ELF-64 file, as the System V ABI has it: its header, its two tables, and the bytes that these name.
 -- Each field is a number at a place. Of the two tables a segment's header has 56 bytes, a section's 64.
-use Rattle.std.specs.Prelude.{◌≡◌, ◌≤◌, ◌+◌, ◌*◌, ℕ, zero, suc, max, List, [], ◌∷◌, ◌++◌, length, take, slice_range, Bool, ◌==◌, ◌&&◌, not, if◌then◌else◌, nat_le, bit_and}
+use Rattle.std.specs.Prelude.{◌≡◌, ◌≤◌, ◌+◌, ◌*◌, ℕ, zero, suc, max, List, [], ◌∷◌, length, slice_range, Bool, ◌==◌, ◌&&◌, not, if◌then◌else◌, nat_le, bit_and}
 use Rattle.dw_base.specs.declared.fault.Span.{Span}
 use Rattle.elf_sections.specs.Numbers.{number_at}
 
@@ -139,7 +139,3 @@ fixed_end_of file =
 -- the section may move: it holds bytes, isn't loaded, and begins at the fixed end or after it
 abbrev pub is_movable : List ℕ → ℕ → Bool
 is_movable file i = has_bytes file i && not (is_loaded file i) && nat_le (fixed_end_of file) (offset_of file i)
-
--- the loaded bytes: those below the fixed end but e_shoff, the bytes 40 to 47
-abbrev pub loaded_bytes : List ℕ → List ℕ
-loaded_bytes file = take 40 file ++ slice_range file 48 (fixed_end_of file)

@@ -1,7 +1,6 @@
 -- The faults of a file that its ELF header, its tables and the names of its sections show. They are looked for in two
 -- passes, of which the first that has a fault decides. Each fault stands at a place, an offset in the file.
 use Rattle.std.specs.Prelude.{◌≡◌, ◌≢◌, ◌≤◌, ◌<◌, ◌+◌, ◌-◌, ◌^◌, ◌⊎◌, ℕ, zero, suc, max, min, List, length, Bool, true, false, ◌==◌, ◌||◌, ◌&&◌, not, if◌then◌else◌, nat_lt, bit_and, bytes_eq, codes}
-use Rattle.dw_base.specs.declared.fault.Fault.{Fault}
 use Rattle.dw_base.specs.declared.fault.Kind.{Kind}
 use Rattle.dw_base.specs.declared.fault.Kind.TheVariants.{NotElf64, FileType, Torn, Overlap, Compressed, Relocated, TwoSections, Placed, Companion, Limit}
 use Rattle.dw_base.specs.declared.fault.Reach.{Reach}
@@ -191,17 +190,6 @@ FirstFault file reach kind place =
 abbrev pub NamesFirstFault : List ℕ → Reach → Refusal → Type 0
 NamesFirstFault file reach = IsRefusedFor (λ fault. FirstFault file reach fault.kind fault.place)
 
--- a refusal names a fault of the first pass, or memory was wanting
-abbrev pub NamesElfFault : List ℕ → Reach → Refusal → Type 0
-NamesElfFault file reach = IsRefusedFor (λ fault. ElfFault file reach fault.kind fault.place)
-
--- a fault of the first pass stands in an ELF-64 file, and whichever limits it is held to
-abbrev pub HasFault : List ℕ → Reach → Fault → Type 0
-HasFault file reach fault = ImageFault file reach fault.kind fault.place
-
-abbrev pub HasFaultAnyway : List ℕ → Fault → Type 0
-HasFaultAnyway file fault = (reach : Reach) → ImageFault file reach fault.kind fault.place
-
 -- FILES WITHOUT A FAULT
 
 -- the table of the sections lies in the file, and has the one that holds the names
@@ -231,20 +219,6 @@ pub record IsHeaderSmall (file : List ℕ) (reach : Reach) : Type 0 where
   pub names : names_index file ≢ 65535
   pub none : section_count file ≡ 0 → sections_at file ≡ 0
 
--- what the file's header says is in order, and so are the segments
-pub record IsHeaderSound (file : List ℕ) (reach : Reach) : Type 0 where
-  pub linked : (file_type file ≡ 2) ⊎ (file_type file ≡ 3)
-  pub small : IsHeaderSmall file reach
-  pub section_table : HasSectionTable file
-  pub segment_table : HasSegmentTable file
-  pub segments : (i : ℕ) → i < segment_count file → segment_end file i ≤ length file
-
--- the header's counts, the tables and all that they name are in order
-pub record HasTables (file : List ℕ) : Type 0 where
-  pub header : 64 ≤ length file
-  pub small : IsHeaderSmall file Wide
-  pub whole : IsWhole file
-
 -- a section that may stand in the file, if its name may
 pub record IsSectionSound (file : List ℕ) (reach : Reach) (i : ℕ) : Type 0 where
   pub apart : is_overlapping file i ≡ false
@@ -259,13 +233,6 @@ abbrev pub HasDistinctNames : List ℕ → Type 0
 HasDistinctNames file =
     (i j : ℕ) → i < j → j < section_count file → is_debug_name (name_of file j) ≡ true → name_of file i ≢ name_of file j
 
--- no section of the file has a fault of the first pass, neither by itself nor beside the others
-pub record IsArranged (file : List ℕ) (reach : Reach) : Type 0 where
-  pub apart : ¬ DoSegmentsOverlap file
-  pub sections : (i : ℕ) → i < section_count file → IsSectionSound file reach i
-  pub distinct : HasDistinctNames file
-  pub movable : movable_bytes file (section_count file) ≤ movable_limit reach
-
 -- all sections are known
 abbrev pub HasKnownSections : List ℕ → Type 0
 HasKnownSections file = (i : ℕ) → i < section_count file → is_companion file i ≡ false
@@ -277,14 +244,6 @@ pub record IsSound (file : List ℕ) (reach : Reach) : Type 0 where
   pub known : HasKnownSections file
   pub distinct : HasDistinctNames file
   pub movable : movable_bytes file (section_count file) ≤ movable_limit reach
-
--- an ELF-64 file in which no fault of the first pass stands
-pub record IsElfSound (file : List ℕ) (reach : Reach) : Type 0 where
-  pub elf : IsElf64 file
-  pub linked : (file_type file ≡ 2) ⊎ (file_type file ≡ 3)
-  pub small : IsHeaderSmall file reach
-  pub whole : IsWhole file
-  pub arranged : IsArranged file reach
 
 -- an ELF-64 file in which no fault of either pass stands
 pub record IsRead (file : List ℕ) (reach : Reach) : Type 0 where

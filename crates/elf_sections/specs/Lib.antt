@@ -4,3 +4,4 @@ pub mod Headers
 pub mod Names
 pub mod Numbers
 pub mod Sections
+pub mod inside

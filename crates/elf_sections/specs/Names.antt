@@ -1,6 +1,6 @@
 -- The names of sections, and the debug names that are known.
-use Rattle.std.specs.Prelude.{ℕ, ◌+◌, ◌≤◌, ◌<◌, ◌≡◌, ◌≢◌, List, [], ◌∷◌, length, drop, Bool, ◌==◌, ◌||◌, if◌then◌else◌, codes, bytes_eq, nat_eq, slice_index}
-use Rattle.std.specs.List.{All, before_first, starts_with, list_any}
+use Rattle.std.specs.Prelude.{ℕ, ◌+◌, ◌<◌, ◌≢◌, List, [], ◌∷◌, length, drop, Bool, ◌==◌, ◌||◌, if◌then◌else◌, codes, bytes_eq, nat_eq}
+use Rattle.std.specs.List.{before_first, starts_with, list_any}
 use Rattle.elf_sections.specs.Elf.{names_index, name_offset, body_of}
 
 -- the bytes of the section that holds the names, or none where no section does
@@ -10,17 +10,6 @@ names_of file = if names_index file == 0 then [] else body_of file (names_index 
 -- the bytes from a place on, up to the first zero byte
 abbrev pub text_at : List ℕ → ℕ → List ℕ
 text_at bytes at = before_first (λ b. b == 0) (drop at bytes)
-
--- the byte at `end` is the first zero byte from a place on
-pub record IsTextEnd (bytes : List ℕ) (from end : ℕ) : Type 0 where
-  pub order : from ≤ end
-  pub inside : end < length bytes
-  pub zero : slice_index bytes end ≡ 0
-  pub before : (k : ℕ) → from ≤ k → k < end → slice_index bytes k ≢ 0
-
--- each of the pairs has such a byte's place, and then a place from which on it is the first
-abbrev pub AreTextEnds : List ℕ → List (ℕ × ℕ) → Type 0
-AreTextEnds bytes pairs = All (λ (pair : ℕ × ℕ). IsTextEnd bytes pair.1 pair.0) pairs
 
 -- the name of a section; every name is empty where no section holds the names
 abbrev pub name_of : List ℕ → ℕ → List ℕ

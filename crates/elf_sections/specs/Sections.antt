@@ -1,5 +1,5 @@
 -- Sections by the fields of their headers.
-use Rattle.std.specs.Prelude.{◌≡◌, ◌≢◌, ◌<◌, ℕ, zero, suc, ◌+◌, List, [], ◌∷◌, ◌++◌, length, ◌==◌, if◌then◌else◌}
+use Rattle.std.specs.Prelude.{◌≡◌, ◌≢◌, ◌<◌, ℕ, ◌+◌, List, length, ◌==◌, if◌then◌else◌}
 use Rattle.dw_base.specs.declared.fault.Span.{Span}
 use Rattle.elf_sections.specs.declared.section.Section.{Section}
 use Rattle.elf_sections.specs.Elf.{section_count, names_index, name_offset, body_span, kind_of, flags_of, link_of, info_of, align_of}
@@ -22,11 +22,6 @@ section_of file i = record {
   info = info_of file i;
   align = align_of file i;
 }
-
--- the first n sections in order
-abbrev pub first_sections : List ℕ → ℕ → List Section
-first_sections file zero = []
-first_sections file (suc n) = first_sections file n ++ section_of file n ∷ []
 
 -- the section of this number is the first of this name
 pub record IsFirstNamed (file : List ℕ) (wanted : List ℕ) (i : ℕ) : Type 0 where

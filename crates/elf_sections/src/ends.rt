@@ -1,7 +1,7 @@
 // The fixed end of a file.
 ghost use Rattle.std.specs.Prelude.{◌≡◌, ◌≤◌, ◌<◌};
 ghost use Rattle.elf_sections.specs.Elf.{greatest, segment_end, segment_count, section_count, fixed_end_of, loaded_end};
-ghost use Rattle.elf_sections.specs.Faults.{HasTables};
+ghost use Rattle.elf_sections.specs.inside.Faults.{HasTables};
 
 use crate::fields::{read_body, read_flags};
 use crate::numbers::{u16_at, u64_at};

@@ -1,7 +1,8 @@
 // The file's header, and whether its two tables lie in the file.
 ghost use Rattle.std.specs.Prelude.{◌≡◌, ◌≢◌, ◌+◌, ◌*◌, ◌≤◌, ◌<◌, ◌⊎◌, ◌↔◌, ℕ, length, IsTrue, IfErr, OnOk};
 ghost use Rattle.elf_sections.specs.Elf.{IsElf64, file_type, header_at, segment_at, section_count, segment_count, segment_end};
-ghost use Rattle.elf_sections.specs.Faults.{file_limit, HasFault, HasFaultAnyway, IsHeaderSmall, HasSectionTable, HasSegmentTable, IsHeaderSound};
+ghost use Rattle.elf_sections.specs.Faults.{file_limit, IsHeaderSmall, HasSectionTable, HasSegmentTable};
+ghost use Rattle.elf_sections.specs.inside.Faults.{HasFault, HasFaultAnyway, IsHeaderSound};
 
 use crate::numbers::{u16_at, u64_at};
 use dw_base::{Fault, Kind, Reach};

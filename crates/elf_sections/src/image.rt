@@ -4,7 +4,8 @@ ghost use Rattle.dw_base.specs.declared.fault.Reach.TheVariants.{Wide};
 ghost use Rattle.elf_sections.specs.Elf.{IsElf64, section_count, segment_count, segments_end, segment_end, loaded_end, offset_of, body_of, header_of, fixed_end_of, is_movable};
 ghost use Rattle.elf_sections.specs.Names.{name_of};
 ghost use Rattle.elf_sections.specs.Sections.{section_of, IsFirstNamed, HasNone};
-ghost use Rattle.elf_sections.specs.Faults.{IsElfSound, IsRead, HasNoElfFault, HasNoNameFault, NamesElfFault, NamesFirstFault};
+ghost use Rattle.elf_sections.specs.Faults.{IsRead, HasNoElfFault, HasNoNameFault, NamesFirstFault};
+ghost use Rattle.elf_sections.specs.inside.Faults.{IsElfSound, NamesElfFault};
 
 use crate::header::{check_header, is_elf64};
 use crate::section::Section;
@@ -46,9 +47,7 @@ fn read_arranged<'a>(
             place: 0,
         }));
     }
-    if let Err(fault) = check_header(file, reach) {
-        return Err(Refusal::Refused(fault));
-    }
+    check_header(file, reach)?;
     let table = SectionTable::read(alloc, file)?;
     check_arranged(alloc, &table, reach)?;
     Ok(table)
@@ -68,9 +67,7 @@ impl<'a> Image<'a> {
         ensures refused { IfErr result (λ refusal. NamesFirstFault file.entry.now reach refusal) }
     {
         let table = read_arranged(alloc, file, reach)?;
-        if let Err(fault) = check_known(&table) {
-            return Err(Refusal::Refused(fault));
-        }
+        check_known(&table)?;
         Ok(Image { table })
     }
 

@@ -2,7 +2,8 @@
 ghost use Rattle.std.specs.Prelude.{◌≡◌, ◌≢◌, ◌≤◌, ◌<◌, ◌⊎◌, ◌↔◌, ℕ, Bool, false, length, IsTrue, IfErr, OnOk, MatchOption};
 ghost use Rattle.dw_base.specs.Refusals.{IsRefusedFor};
 ghost use Rattle.elf_sections.specs.Elf.{IsElf64, section_count, offset_of};
-ghost use Rattle.elf_sections.specs.Faults.{debug_limit, movable_limit, movable_bytes, holds_e_shoff, is_overlapping, is_compressed, is_debug_relocation, is_misplaced, is_companion, is_too_long, is_overaligned, ImageFault, NameFault, HasFault, HasFaultAnyway, HasSection, DoSegmentsOverlap, IsSectionSound, HasDistinctNames, IsArranged, HasKnownSections};
+ghost use Rattle.elf_sections.specs.Faults.{debug_limit, movable_limit, movable_bytes, holds_e_shoff, is_overlapping, is_compressed, is_debug_relocation, is_misplaced, is_companion, is_too_long, is_overaligned, ImageFault, NameFault, HasSection, DoSegmentsOverlap, IsSectionSound, HasDistinctNames, HasKnownSections};
+ghost use Rattle.elf_sections.specs.inside.Faults.{HasFault, HasFaultAnyway, IsArranged};
 
 use crate::names::{is_debug_name, is_listed, is_written, is_zdebug_name};
 use crate::numbers::{u16_at, u64_at};
@@ -196,17 +197,11 @@ fn check_distinct(alloc: Global, table: &SectionTable) -> Result<(), Refusal>
     let mut names = BTreeSet::new(alloc);
     for i in 0..table.count() {
         let name = table.name(i);
-        if is_debug_name(name) {
-            match names.insert((name.len(), name)) {
-                Ok(true) => {}
-                Ok(false) => {
-                    return Err(Refusal::Refused(Fault {
-                        kind: Kind::TwoSections,
-                        place: table.offset(i),
-                    }));
-                }
-                Err(_) => return Err(Refusal::NoMemory),
-            }
+        if is_debug_name(name) && !names.insert((name.len(), name))? {
+            return Err(Refusal::Refused(Fault {
+                kind: Kind::TwoSections,
+                place: table.offset(i),
+            }));
         }
     }
     Ok(())
@@ -230,9 +225,7 @@ pub fn check_arranged(alloc: Global, table: &SectionTable, reach: Reach) -> Resu
     ensures fault { IfErr result (IsRefusedFor (HasFault table.now reach)) }
     ensures arranged { OnOk result (IsArranged table.now reach) }
 {
-    if let Err(fault) = check_bodies(table, reach) {
-        return Err(Refusal::Refused(fault));
-    }
+    check_bodies(table, reach)?;
     check_distinct(alloc, table)
 }
 

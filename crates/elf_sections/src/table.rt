@@ -2,10 +2,13 @@
 ghost use Rattle.std.specs.Prelude.{◌≡◌, ◌≢◌, ◌≤◌, ◌<◌, ◌+◌, ◌*◌, ◌^◌, ℕ, List, length, slice_range, IfOk, IfErr, OnOk, MatchOption};
 ghost use Rattle.dw_base.specs.declared.fault.Reach.TheVariants.{Wide};
 ghost use Rattle.elf_sections.specs.Elf.{section_count, names_index, segment_count, segments_at, segments_end, segment_end, section_end, loaded_end, offset_of, body_span, body_of, header_of, fixed_end_of, is_movable};
-ghost use Rattle.elf_sections.specs.Names.{names_of, name_of, IsNamed, AreTextEnds};
-ghost use Rattle.elf_sections.specs.Sections.{section_of, name_span, first_sections, IsFirstNamed, HasNone};
+ghost use Rattle.elf_sections.specs.Names.{names_of, name_of, IsNamed};
+ghost use Rattle.elf_sections.specs.inside.Names.{AreTextEnds};
+ghost use Rattle.elf_sections.specs.Sections.{section_of, name_span, IsFirstNamed, HasNone};
+ghost use Rattle.elf_sections.specs.inside.Sections.{first_sections};
 ghost use Rattle.dw_base.specs.Refusals.{IsRefusedFor};
-ghost use Rattle.elf_sections.specs.Faults.{HasFaultAnyway, HasSection, IsHeaderSmall, IsHeaderSound, HasSectionTable, HasTables};
+ghost use Rattle.elf_sections.specs.Faults.{HasSection, IsHeaderSmall, HasSectionTable};
+ghost use Rattle.elf_sections.specs.inside.Faults.{HasFaultAnyway, IsHeaderSound, HasTables};
 
 use crate::ends::fixed_end;
 use crate::fields::{header_place, read_body, read_flags, read_offset};
@@ -144,18 +147,13 @@ fn read_sections(alloc: Global, file: &[u8]) -> Result<Vec<Section>, Refusal>
     ensures fit { OnOk result ((i : ℕ) → i < section_count file.now → section_end file.now i ≤ length file.now) }
     ensures named { OnOk result ((i : ℕ) → i < section_count file.now → IsNamed file.now i) }
 {
-    let names = match read_names(file) {
-        Ok(names) => names,
-        Err(fault) => return Err(Refusal::Refused(fault)),
-    };
+    let names = read_names(file)?;
     let count = u32::from(u16_at(file, 60));
     let mut ends = BTreeSet::new(alloc);
     let mut sections = Vec::new(alloc);
     for i in 0..count {
         let section = read_section(file, names, &mut ends, i)?;
-        if sections.push(section).is_err() {
-            return Err(Refusal::NoMemory);
-        }
+        sections.push(section)?;
     }
     Ok(sections)
 }

@@ -1,7 +1,8 @@
 // Texts that end at a zero byte, where many may end at the same one.
 ghost use Rattle.std.specs.Prelude.{◌≡◌, ◌≢◌, ◌==◌, ◌+◌, ◌≤◌, ◌<◌, ℕ, length, slice_index, position, IfOk, IfSome, MatchOption};
 ghost use Rattle.std.specs.List.{Contains};
-ghost use Rattle.elf_sections.specs.Names.{text_at, IsTextEnd, AreTextEnds};
+ghost use Rattle.elf_sections.specs.Names.{text_at};
+ghost use Rattle.elf_sections.specs.inside.Names.{IsTextEnd, AreTextEnds};
 
 use dw_base::NoMemory;
 use std::collections::BTreeSet;

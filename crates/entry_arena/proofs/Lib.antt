@@ -4,7 +4,6 @@ pub mod Found
 pub mod FrontLaws
 pub mod Held
 pub mod PreorderLaws
-pub mod Renumbered
 mod Rows
 pub mod RunLaws
 pub mod Spans

@@ -13,4 +13,3 @@ pub mod Places
 pub mod Standing
 pub mod Growing
 pub mod Onward
-pub mod Renumbering

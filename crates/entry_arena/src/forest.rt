@@ -1,12 +1,8 @@
 // Forests, as they are held.
-ghost use Rattle.std.specs.Prelude.{◌≡◌, ◌≢◌, ◌≤◌, ◌<◌, ◌+◌, ◌^◌, ℕ, length, slice_index, None, Some, IsTrue, IfOk, IfErr, MatchOption, ◌↔◌};
-ghost use Rattle.std.specs.List.{All, Contains};
-ghost use Rattle.std.specs.List.Sorted.{IsStrictlyIncreasing};
+ghost use Rattle.std.specs.Prelude.{◌≡◌, ◌≢◌, ◌≤◌, ◌<◌, ◌+◌, ◌^◌, ℕ, length, None, Some, IsTrue, IfOk, IfErr, MatchOption, ◌↔◌};
 ghost use Rattle.form_codec.specs.Values.{bytes_in};
-ghost use Rattle.entry_arena.specs.declared.entry.Entry.{Entry as AnyEntry};
 ghost use Rattle.entry_arena.specs.declared.entry.Target.TheVariants.{Entry as TheEntry, ChainEnd as TheEnd};
 ghost use Rattle.entry_arena.specs.Arena.{nothing_of, with_entry, with_value, with_end, entry_at, value_at, chain_end_at, IsEntryAt, HasChainEnd, IsChainEndAt};
-ghost use Rattle.entry_arena.specs.Renumbering.{AreRenumberedBy, with_entries};
 ghost use Rattle.entry_arena.specs.Order.{IsInOrder, IsNextEntry, IsNextValue, IsNextEnd};
 
 use crate::entry::{ChainEnd, Entry, Target};
@@ -60,30 +56,6 @@ fn parent_of(ends: &[ChainEnd], place: u64) -> Option<u32>
     match ends.binary_search_by_key(&place, |end| end.at) {
         Ok(number) => Some(ends[number].entry),
         Err(_) => None,
-    }
-}
-
-// The place of a number among some that rise, which is one of them. Mostly all numbers are there, each at its own place.
-fn place_of(used: &[u32], number: u32) -> u32
-    requires rising { IsStrictlyIncreasing used.now }
-    requires known { Contains used.now number }
-    ensures inside { result < length used.now }
-    ensures is { slice_index used.now result ≡ number }
-{
-    if used.get(number as usize) == Some(&number) {
-        return number;
-    }
-    used.partition_point(|other| *other < number) as u32
-}
-
-// Gives each entry's declaration its place among some as its number.
-fn renumber_all(entries: &mut [Entry], used: &[u32])
-    requires rising { IsStrictlyIncreasing used.now }
-    requires known { All (λ (e : AnyEntry). Contains used.now e.decl) entries.old }
-    ensures { AreRenumberedBy used.now entries.old entries.new }
-{
-    for entry in entries.iter_mut() {
-        entry.decl = place_of(used, entry.decl);
     }
 }
 
@@ -156,17 +128,6 @@ impl<'a> Forest<'a> {
         self.entries.shrink_to_fit();
         self.values.shrink_to_fit();
         self.ends.shrink_to_fit();
-    }
-
-    /// Numbers the declarations of the entries anew, each by its place among `used`, counted from 0. These numbers rise, and that of
-    /// each entry's declaration is one of them.
-    pub fn renumber(&mut self, used: &[u32])
-        requires rising { IsStrictlyIncreasing used.now }
-        requires known { All (λ (e : AnyEntry). Contains used.now e.decl) self.old.entries }
-        ensures entries { AreRenumberedBy used.now self.old.entries self.new.entries }
-        ensures others { self.new ≡ with_entries self.old self.new.entries }
-    {
-        renumber_all(&mut self.entries, used);
     }
 
     /// How many entries there are.

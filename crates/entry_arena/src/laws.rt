@@ -4,7 +4,6 @@ ghost use Rattle.entry_arena.specs.ForestLaws.{TreesAreWalks, TablesHaveCodes, W
 ghost use Rattle.entry_arena.specs.Fronts.{WalksAreSpelled, WalksComeToEntries, WalksComeToEnds};
 ghost use Rattle.entry_arena.specs.Growing.{SectionsGrow, WalksArePushed};
 ghost use Rattle.entry_arena.specs.Onward.{WalksGoOn};
-ghost use Rattle.entry_arena.specs.Renumbering.{ForestsByOthers};
 ghost use Rattle.entry_arena.specs.Places.{WalksAreInOrder, WalksStandBefore, ValuesComeNext, EntriesComeNext, EndsComeNext};
 ghost use Rattle.entry_arena.specs.Preorders.{PreordersAreForests};
 ghost use Rattle.entry_arena.specs.Standing.{EntriesStand};
@@ -96,10 +95,4 @@ pub fn walks_stay()
 /// and has come to its end where all are.
 pub fn walks_go_on()
     ensures { WalksGoOn }
-{}
-
-/// A law: the entries of a unit by the declarations of one list are its entries by those of another, where each has the same
-/// declaration there.
-pub fn forests_by_others()
-    ensures { ForestsByOthers }
 {}

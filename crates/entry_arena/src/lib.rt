@@ -10,6 +10,6 @@ mod tests;
 pub use entry::{ChainEnd, Entry, Target};
 pub use forest::Forest;
 pub use laws::{
-    chains_end_once, entries_stand, forests_by_others, forests_spelled, one_forest, places_follow,
-    runs, steps_in_order, steps_whole, trees_are_walks, walks_go_on, walks_in_order, walks_stay,
+    chains_end_once, entries_stand, forests_spelled, one_forest, places_follow, runs,
+    steps_in_order, steps_whole, trees_are_walks, walks_go_on, walks_in_order, walks_stay,
 };

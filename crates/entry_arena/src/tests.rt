@@ -1,9 +1,6 @@
 // Forests of two units, as gcc and clang write them, and what begins at each place.
 ghost use Rattle.std.specs.Prelude.{◌≡◌, ◌≤◌, ◌<◌, ◌+◌, ℕ, [], length, IsTrue, ◌↔◌};
-ghost use Rattle.std.specs.List.{All, Contains};
-ghost use Rattle.std.specs.List.Sorted.{IsStrictlyIncreasing};
 ghost use Rattle.form_codec.specs.Values.{LiesIn};
-ghost use Rattle.entry_arena.specs.declared.entry.Entry.{Entry as AnyEntry};
 ghost use Rattle.entry_arena.specs.Arena.{entry_at, value_at, span_of};
 ghost use Rattle.entry_arena.specs.Order.{ComesBefore, ComesAfterAll, IsNextEntry, IsNextValue, IsNextEnd};
 
@@ -326,77 +323,5 @@ fn forests_of_samples(rt: HostRuntime) -> Result<(), Fail> {
     };
     check(&rt, rt.alloc(), gcc)?;
     check(&rt, rt.alloc(), clang)?;
-    Ok(())
-}
-
-fn rises(numbers: &[u32]) -> bool
-    ensures { IsTrue result → IsStrictlyIncreasing numbers.now }
-{
-    for index in 1..numbers.len() {
-        if numbers[index - 1] >= numbers[index] {
-            return false;
-        }
-    }
-    true
-}
-
-fn are_among(entries: &[Entry], numbers: &[u32]) -> bool
-    ensures { IsTrue result → All (λ (e : AnyEntry). Contains numbers.now e.decl) entries.now }
-{
-    for entry in entries {
-        if !numbers.contains(&entry.decl) {
-            return false;
-        }
-    }
-    true
-}
-
-// Numbers the declarations anew. The entries are to be those of gcc's unit, with these numbers.
-fn check_renumbered(rt: &impl Abort, forest: &mut Forest<'_>, used: &[u32], numbers: [u32; 4]) {
-    assert!(rt; rises(used));
-    assert!(rt; are_among(forest.entries(), used));
-    forest.renumber(used);
-    let rows = GCC_ENTRIES.iter().zip(numbers);
-    for (entry, (row, decl)) in forest.entries().iter().zip(rows) {
-        assert_eq!(rt;
-            *entry,
-            Entry {
-                decl,
-                ..entry_of(*row)
-            }
-        );
-    }
-}
-
-#[test]
-fn declarations_numbered_anew(rt: HostRuntime) -> Result<(), Fail> {
-    let values = gcc_values();
-    let sample = Sample {
-        section: &GCC,
-        entries: &GCC_ENTRIES,
-        values: &values,
-        ends: &GCC_ENDS,
-        span: Span { at: 96, len: 3 },
-        bytes: b"int",
-    };
-    let mut forest = Forest::new(rt.alloc(), &GCC);
-    for (row, decl) in GCC_ENTRIES.iter().zip([4, 7, 1, 4]) {
-        push(
-            &rt,
-            &mut forest,
-            sample,
-            Entry {
-                decl,
-                ..entry_of(*row)
-            },
-        )?;
-    }
-    check_renumbered(&rt, &mut forest, &[1, 4, 7], [1, 2, 0, 1]);
-    // Now all numbers are there, each at its own place.
-    check_renumbered(&rt, &mut forest, &[0, 1, 2], [1, 2, 0, 1]);
-    check_renumbered(&rt, &mut forest, &[0, 1, 2, 5], [1, 2, 0, 1]);
-    assert_eq!(rt; forest.len(), 4);
-    assert_eq!(rt; forest.values(), sample.values);
-    assert_eq!(rt; forest.chain_ends(), sample.ends);
     Ok(())
 }

@@ -1,7 +1,7 @@
 -- Codes and values that stand somewhere are read there, and each value of an entry follows its code and the values before it.
-use Rattle.std.proofs.Common.{◌≡◌, ◌≤◌, ◌<◌, ◌+◌, ◌-◌, ◌^◌, ◌∙◌, ℕ, List, [], ◌∷◌, length, take, drop, sym, ap, refl, subst, arith}
+use Rattle.std.proofs.Common.{◌≡◌, ◌≤◌, ◌<◌, ◌+◌, ◌-◌, ◌^◌, ℕ, List, [], ◌∷◌, length, take, drop, sym, ap, refl, subst, arith}
 use Rattle.std.specs.Prelude.{◌↔◌, ℤ, Result, Err, IsErrOf, pos}
-use Rattle.std.proofs.lemmas.List.{take-append-drop, drop_more, length-take-le, get_or-take}
+use Rattle.std.proofs.lemmas.List.{take-append-drop, drop_more, length-take-le}
 use Rattle.std.proofs.Math.Seq.{drop-length}
 use Rattle.dw_base.specs.declared.fault.Kind.{Kind}
 use Rattle.leb_codec.specs.declared.read.LebFault.{LebFault}
@@ -102,13 +102,6 @@ stands_to info columns from at on values to valued =
     let there = on values to valued in
     ended info there.0 at to (subst (λ (z : List Spec). ValuesBetween info z there.0 at to) (drop-length columns) there.1)
 
--- the first columns of a declaration, and one of them
-pub front_length : (columns : List Spec) (count : ℕ) → count ≤ length columns → length (take count columns) ≡ count
-front_length columns count inside = length-take-le count columns inside
-
-pub column_among : (columns : List Spec) (count i : ℕ) (c : Spec) → i < count → c ≡ spec_at columns i → c ≡ spec_at (take count columns) i
-column_among columns count i c less is = is ∙ sym (get_or-take count columns i (record { name = 0; form = 0; constant = pos 0 }) less)
-
 -- a unit that was read is held of its own section, by its own head
 pub held_by_itself : (info : List ℕ) (head : UnitHead) (ds : List Declared) (u : HeadAndForest) → IsUnitHeld info head ds u.forest → u.head ≡ head → u.forest.section ≡ info → IsUnitHeld u.forest.section u.head ds u.forest
 held_by_itself info head ds u held same_head same_info =
@@ -140,12 +133,12 @@ module _ (head : UnitHead) (ds : List Declared) (f : Arena) (held : IsUnitHeld f
     code_there = ((declared_at ds e.decl).code, stands.values_at, coded)
 
     module _ (columns : List Spec) (same_columns : columns ≡ (declared_at ds e.decl).columns) (column : ℕ) (below : column < (entry_at f.entries id).count) where
-      pub columns_there : column ≤ length columns
+      pub columns_there : column ≡ length (take column columns)
       columns_there =
           let counted : e.count ≡ length (declared_at ds e.decl).columns = subst (λ (z : Entry). z.count ≡ length (declared_at ds z.decl).columns) (sym same_entry) (owners.counted id inside) in
           let same_count : e.count ≡ (entry_at f.entries id).count = ap (λ z. z.count) same_entry in
           let size : length columns ≡ length (declared_at ds e.decl).columns = ap length same_columns in
-          omega arith
+          sym (length-take-le column columns (omega arith))
 
       own : List Value
       own = take column (take e.count (drop e.first f.values))

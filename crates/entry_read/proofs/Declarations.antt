@@ -1,5 +1,5 @@
 -- The declarations of a table that was read.
-use Rattle.std.proofs.Common.{◌≡◌, ◌≢◌, ◌≤◌, ◌<◌, ◌+◌, ◌∙◌, ℕ, zero, suc, List, [], ◌∷◌, length, sym, ap, subst, arith}
+use Rattle.std.proofs.Common.{◌≡◌, ◌≢◌, ◌≤◌, ◌<◌, ◌+◌, ◌∙◌, ℕ, zero, suc, List, [], ◌∷◌, length, sym, ap, arith}
 use Rattle.std.specs.Prelude.{false}
 use Rattle.std.proofs.lemmas.List.{get_or-map, length-map}
 use Rattle.std.proofs.lemmas.List.Elements.{All-nil, All-cons}
@@ -11,7 +11,6 @@ use Rattle.abbrev_tables.specs.Tables.{Declared, SpellsDeclared, SpellsColumn}
 use Rattle.abbrev_tables.specs.Listings.{Listing, decl_at, declared_in}
 use Rattle.abbrev_tables.specs.Index.{HasCode}
 use Rattle.abbrev_tables.proofs.Puts.{columns_inside as inside_all}
-use Rattle.abbrev_tables.proofs.PartLaws.{IsOneOf, one_of_whole, part_codes}
 use Rattle.entry_arena.specs.Trees.{declared_at}
 use Rattle.entry_arena.specs.ForestLaws.{HaveCodes}
 use Rattle.entry_arena.proofs.WalkLaws.{table_codes}
@@ -20,7 +19,7 @@ use Rattle.entry_read.specs.Readings.{AreKnown}
 
 -- the columns of a declaration are among those of the table
 pub columns_inside : (t : Listing) (i : ℕ) → IsTable t → i < length t.decls → (decl_at t.decls i).first + (decl_at t.decls i).count ≤ length t.specs
-columns_inside t i (section, at, h) l = inside_all 0 t.decls (length t.specs) i h.is.adjacent l
+columns_inside t i (section, at, h) l = inside_all 0 t.decls (length t.specs) i h.adjacent l
 
 pub count_same : (t : Listing) → length (declarations_of t) ≡ length t.decls
 count_same t = length-map t.decls (declared_in t.specs)
@@ -44,30 +43,13 @@ declared_known [] bytes i j l = absurd (omega arith)
 declared_known (d ∷ ds) bytes zero (first, rest, s, j, e) l = let columns = s.parts.3.3.3 in columns_known d.columns columns.0 columns.2
 declared_known (d ∷ ds) bytes (suc i) (first, rest, s, j, e) l = declared_known ds rest i j (omega arith)
 
--- a declaration of a part is one of the whole table
-one_known : (whole t : Listing) (i : ℕ) → IsOneOf whole t i → i < length (declarations_of t) → (number : ℕ) × (number < length (declarations_of whole)) × (declared_at (declarations_of t) i ≡ declared_at (declarations_of whole) number)
-one_known whole t i one inside =
-    let size : length (declarations_of whole) ≡ length whole.decls = count_same whole in
-    let there : one.number < length whole.decls = one.inside in
-    (one.number, omega arith, one.same)
-
 -- the columns of a declaration have forms that are known
 pub known_columns : (t : Listing) (i : ℕ) → IsTable t → i < length (declarations_of t) → AreKnown ((declared_at (declarations_of t) i).columns)
-known_columns t i (section, at, h) l =
-    let ds = h.stands.table.spelled in
-    let size : length (declarations_of t) ≡ length t.decls = count_same t in
-    let (number, inside, same) = one_known h.whole t i (one_of_whole section at t h i (omega arith)) l in
-    subst (λ (d : Declared). AreKnown d.columns) (sym same) (declared_known (declarations_of h.whole) ds.0 number ds.2 inside)
+known_columns t i (section, at, h) l = let ds = h.table.spelled in declared_known (declarations_of t) ds.0 i ds.2 l
 
 -- its codes differ, and none is 0
 pub have_codes : (t : Listing) → IsTable t → HaveCodes (declarations_of t)
-have_codes t (section, at, h) = record {
-  distinct = part_codes section at t h;
-  some = λ i l none.
-      let size : length (declarations_of t) ≡ length t.decls = count_same t in
-      let (number, inside, same) = one_known h.whole t i (one_of_whole section at t h i (omega arith)) l in
-      (table_codes (declarations_of h.whole) _ h.stands.table).some number inside (sym (ap (λ (d : Declared). d.code) same) ∙ none);
-}
+have_codes t (section, at, h) = table_codes (declarations_of t) _ h.table
 
 -- a code that is found is that of the declaration
 pub found_code : (t : Listing) (code number : ℕ) → number < length t.decls → (decl_at t.decls number).code ≡ code → (number < length (declarations_of t)) × ((declared_at (declarations_of t) number).code ≡ code)

@@ -16,7 +16,7 @@ use Rattle.entry_read.specs.declared.unit.Counts.{Counts}
 use Rattle.entry_read.specs.Units.{IsWithin, end_of, rest_of}
 use Rattle.entry_read.specs.Faults.{IsCutEntry, FaultNext, FaultUnit}
 use Rattle.dw_base.specs.Refusals.{IsFaultOf, IsRefusedFor}
-use Rattle.entry_read.specs.Readings.{FaultOfColumns, HasFront}
+use Rattle.entry_read.specs.inside.Readings.{FaultOfColumns, HasFront}
 
 -- a refusal of a fault
 pub refused : (holds : Kind → ℕ → Type 0) (origin place : ℕ) (kind : Kind) (r : Refusal) → r ≡ Refused (record { kind = kind; place = origin + place }) → holds kind place → IsRefusedFor (IsFaultOf holds origin) r

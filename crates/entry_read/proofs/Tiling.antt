@@ -5,7 +5,8 @@ use Rattle.std.proofs.lemmas.List.Elements.{All-nil, All-cons}
 use Rattle.dw_base.specs.declared.fault.Kind.{Kind}
 use Rattle.dw_base.specs.declared.fault.Kind.TheVariants.{Short, UnitHead as AHead}
 use Rattle.entry_read.specs.declared.head.UnitHead.{UnitHead}
-use Rattle.entry_read.specs.Heads.{HasHead, head_at, IsHead, unit_length, unit_end, Follow, Tile}
+use Rattle.fixed_width.specs.InitialLengths.{unit_length, unit_end, least_reserved}
+use Rattle.entry_read.specs.Heads.{HasHead, head_at, IsHead, Follow, Tile}
 use Rattle.entry_read.specs.Faults.{FaultHead, FaultHeads}
 use Rattle.dw_base.specs.Refusals.{IsFaulty}
 
@@ -48,12 +49,12 @@ end_apart section head at h e f =
 -- a header that meets the rules has no fault
 pub head_whole : (section : List ℕ) (at : ℕ) (kind : Kind) (place : ℕ) → HasHead section at → FaultHead section at kind place → ⊥
 head_whole section at Short place h (e, f) =
-    let usual : unit_length section at < 4294967280 = h.usual in
+    let usual : unit_length section at < least_reserved = h.usual in
     let inside : unit_end section at ≤ length section = h.inside in
     elim f [ inl x ↦ absurd (omega arith) | inr x ↦ absurd (let y : length section < unit_end section at = x.1 in omega arith) ]
-head_whole section at AHead place h (e, i, f) =
-    let usual : unit_length section at < 4294967280 = h.usual in
-    elim f [ inl x ↦ absurd (omega arith) | inr x ↦ x.1 h ]
+head_whole section at AHead place h (e, f) =
+    let usual : unit_length section at < least_reserved = h.usual in
+    elim f [ inl x ↦ absurd (let y : least_reserved ≤ unit_length section at = x.1 in omega arith) | inr x ↦ x.1 h ]
 head_whole section at _ place h f = f
 
 -- two heads at a place are one

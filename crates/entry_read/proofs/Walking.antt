@@ -25,7 +25,7 @@ use Rattle.entry_read.specs.declared.head.UnitHead.{UnitHead}
 use Rattle.entry_read.specs.declared.unit.Counts.{Counts}
 use Rattle.entry_read.specs.Units.{IsWithin, end_of, entries_at}
 use Rattle.entry_read.proofs.Parts.{values_push}
-use Rattle.entry_read.specs.Readings.{with_values, AddsValues, FaultOfColumns, IsWalked, IsWalkedBy, HasFront}
+use Rattle.entry_read.specs.inside.Readings.{with_values, AddsValues, FaultOfColumns, IsWalked, IsWalkedBy, HasFront}
 
 -- what is held of a section
 held_as : (info : List ℕ) (f : Arena) (values : List Value) → f.section ≡ info → held_with info (listed_to f 0) values ≡ with_values f values

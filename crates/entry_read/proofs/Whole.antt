@@ -18,7 +18,7 @@ use Rattle.entry_read.specs.declared.unit.Counts.{Counts}
 use Rattle.entry_read.specs.Units.{IsFront, IsUnit, IsWithin, end_of, entries_at}
 use Rattle.entry_read.specs.Faults.{FaultNext, FaultUnit, IsNoTree, IsCutEntry, PassesLimit}
 use Rattle.dw_base.specs.Refusals.{IsFaulty}
-use Rattle.entry_read.specs.Readings.{HasFront}
+use Rattle.entry_read.specs.inside.Readings.{HasFront}
 
 -- where no chain is open after an entry, a walk goes no further
 ended : (info : List ℕ) (ds : List Declared) (items : List Item) (now new : Listed) (chains left : List ℕ) → Walks info ds now chains items new left → now.entries ≢ [] → chains ≡ [] → new ≡ now

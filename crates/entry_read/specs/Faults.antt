@@ -1,5 +1,5 @@
 -- The faults of units, as conditions on the bytes. Places count from the section's first byte.
-use Rattle.std.specs.Prelude.{◌≡◌, ◌≢◌, ◌≤◌, ◌<◌, ◌+◌, ◌⊎◌, ℕ, List, [], length, slice_index}
+use Rattle.std.specs.Prelude.{◌≡◌, ◌≢◌, ◌≤◌, ◌<◌, ◌⊎◌, ℕ, List, [], length, slice_index}
 use Rattle.dw_base.specs.declared.fault.Kind.{Kind}
 use Rattle.dw_base.specs.declared.fault.Kind.TheVariants.{Limit, LebWide, Short, CodeMissing, UnitHead as AHead, Tree, Text}
 use Rattle.leb_codec.specs.Leb.{Uleb, IsShort, IsWideUnsigned}
@@ -9,16 +9,15 @@ use Rattle.entry_arena.specs.ForestLaws.{FaultyColumn}
 use Rattle.entry_arena.specs.Walks.{IsGoing}
 use Rattle.entry_read.specs.declared.head.UnitHead.{UnitHead}
 use Rattle.entry_read.specs.declared.unit.Counts.{Counts}
-use Rattle.entry_read.specs.Heads.{unit_length, unit_end, least_reserved, HasHead, Follow}
+use Rattle.fixed_width.specs.InitialLengths.{IsWhole, IsCut, IsReserved}
+use Rattle.entry_read.specs.Heads.{HasHead, Follow}
 use Rattle.entry_read.specs.Units.{end_of, rest_of, IsWithin, IsFront}
 
--- The unit at a place has a fault in its header. It is Short alone where the unit isn't whole in the section, and UnitHead
--- where it is and breaks a rule of headers, or where its length is a reserved one.
+-- The unit at a place has a fault in its header. It is Short alone where the section cuts the unit, and UnitHead
+-- where the unit is whole and breaks a rule of headers, or its length is a reserved one.
 abbrev pub FaultHead : List ℕ → ℕ → Kind → ℕ → Type 0
-FaultHead section at Short place =
-    (place ≡ at) × ((length section < at + 4) ⊎ ((unit_length section at < least_reserved) × (length section < unit_end section at)))
-FaultHead section at AHead place =
-    (place ≡ at) × (at + 4 ≤ length section) × ((least_reserved ≤ unit_length section at) ⊎ ((unit_end section at ≤ length section) × (¬ HasHead section at)))
+FaultHead section at Short place = (place ≡ at) × IsCut section at
+FaultHead section at AHead place = (place ≡ at) × (IsReserved section at ⊎ (IsWhole section at × (¬ HasHead section at)))
 FaultHead section at _ place = ⊥
 
 -- After units that are the section's front, another begins at a place and has a fault in its header.

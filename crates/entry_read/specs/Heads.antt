@@ -1,15 +1,11 @@
 -- The header of a unit of .debug_info (DWARF 5 section 7.5.1), in the 32-bit format.
 use Rattle.std.specs.Prelude.{◌≡◌, ◌≤◌, ◌<◌, ◌+◌, ◌-◌, ◌⊎◌, ℕ, List, [], ◌∷◌, length, slice_index, slice_index_or, nat_eq, if◌then◌else◌}
+use Rattle.dw_base.specs.declared.constants.TheConstants.{DW_UT_COMPILE, DW_UT_TYPE, DW_UT_PARTIAL, DW_UT_SKELETON}
+use Rattle.fixed_width.specs.InitialLengths.{unit_length, version, unit_end, least_reserved}
 use Rattle.fixed_width.specs.Numbers.{number_at}
 use Rattle.entry_read.specs.declared.head.UnitHead.{UnitHead}
 
--- the fields that each header has, where the unit stands at a place
-abbrev pub unit_length : List ℕ → ℕ → ℕ
-unit_length section at = number_at 4 at section
-
-abbrev pub version : List ℕ → ℕ → ℕ
-version section at = number_at 2 (at + 4) section
-
+-- the fields that each header has after its length and its version, where the unit stands at a place
 abbrev pub unit_type : List ℕ → ℕ → ℕ
 unit_type section at = slice_index section (at + 6)
 
@@ -33,16 +29,16 @@ type_offset_at head = head.at + 20
 
 -- the types of units that are read: DW_UT_compile, DW_UT_type, DW_UT_partial and DW_UT_skeleton
 abbrev pub compile_unit : ℕ
-compile_unit = 1
+compile_unit = DW_UT_COMPILE
 
 abbrev pub type_unit : ℕ
-type_unit = 2
+type_unit = DW_UT_TYPE
 
 abbrev pub partial_unit : ℕ
-partial_unit = 3
+partial_unit = DW_UT_PARTIAL
 
 abbrev pub skeleton_unit : ℕ
-skeleton_unit = 4
+skeleton_unit = DW_UT_SKELETON
 
 abbrev pub IsUnitType : ℕ → Type 0
 IsUnitType kind = (kind ≡ compile_unit) ⊎ ((kind ≡ type_unit) ⊎ ((kind ≡ partial_unit) ⊎ (kind ≡ skeleton_unit)))
@@ -50,14 +46,6 @@ IsUnitType kind = (kind ≡ compile_unit) ⊎ ((kind ≡ type_unit) ⊎ ((kind �
 -- how many bytes the header of a unit of a type has
 abbrev pub header_size : ℕ → ℕ
 header_size kind = if nat_eq kind type_unit then 24 else if nat_eq kind skeleton_unit then 20 else 12
-
--- where the unit ends, whose length counts from after its own field
-abbrev pub unit_end : List ℕ → ℕ → ℕ
-unit_end section at = at + 4 + unit_length section at
-
--- the least of the lengths that are reserved, of which one tells the 64-bit format (DWARF 5 section 7.4)
-abbrev pub least_reserved : ℕ
-least_reserved = 4294967280
 
 -- the rules of a header: version 5, a type that is read, addresses of 8 bytes, and the whole header in its unit
 pub record HasHead (section : List ℕ) (at : ℕ) : Type 0 where

@@ -4,3 +4,5 @@ pub mod Faults
 pub mod Laws
 pub mod Readings
 pub mod Places
+pub mod Short
+pub mod inside

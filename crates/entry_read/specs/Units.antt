@@ -2,8 +2,7 @@
 -- from the section's first byte.
 use Rattle.std.specs.Prelude.{◌≡◌, ◌≤◌, ◌<◌, ◌+◌, ◌^◌, ℕ, List, [], slice_index}
 use Rattle.abbrev_tables.specs.Tables.{Declared}
-use Rattle.abbrev_tables.specs.Listings.{Listing, declarations_in}
-use Rattle.abbrev_tables.specs.Parts.{IsPartAt}
+use Rattle.abbrev_tables.specs.Listings.{Listing, declarations_in, IsTableAt}
 use Rattle.entry_arena.specs.Arena.{Arena}
 use Rattle.entry_arena.specs.Trees.{Listed, listed_to, bytes_between, nothing_from, IsForest}
 use Rattle.entry_arena.specs.Walks.{Item, Walks}
@@ -27,9 +26,9 @@ end_of head = head.at + head.len
 abbrev pub declarations_of : Listing → List Declared
 declarations_of t = declarations_in t.specs t.decls
 
--- a table that stands somewhere in some section, or a part of it
+-- a table that stands somewhere in some section
 abbrev pub IsTable : Listing → Type 0
-IsTable t = (section : List ℕ) × (at : ℕ) × IsPartAt section at t
+IsTable t = (section : List ℕ) × (at : ℕ) × IsTableAt section at t
 
 -- The unit's entries are one tree, and only bytes 0 follow it up to the unit's end.
 pub record IsUnit (info : List ℕ) (head : UnitHead) (ds : List Declared) (forest : Listed) : Type 0 where

@@ -10,11 +10,12 @@ ghost use Rattle.entry_read.specs.Heads.{IsHead};
 ghost use Rattle.entry_read.specs.Units.{declarations_of, IsTable, IsWithin, end_of, entries_at};
 ghost use Rattle.entry_read.specs.Faults.{FaultUnit};
 ghost use Rattle.dw_base.specs.Refusals.{IsFaultOf, IsRefusedFor};
-ghost use Rattle.entry_read.specs.Readings.{AreKnown, AddsValues, FaultOfColumns, IsWalked, IsWalkedBy, HasFront};
+ghost use Rattle.entry_read.specs.Readings.{AreKnown};
+ghost use Rattle.entry_read.specs.inside.Readings.{AddsValues, FaultOfColumns, IsWalked, IsWalkedBy, HasFront};
 
 use crate::head::{UnitHead, header_size};
 use crate::unit::Counts;
-use abbrev_tables::{Columns, Table};
+use abbrev_tables::{Spec, Table};
 use dw_base::{Fault, Kind, NoMemory, Refusal};
 use entry_arena::{Entry, Forest};
 use form_codec::read_value;
@@ -89,11 +90,11 @@ fn read_code(info: &[u8], at: usize, end: usize) -> Result<ReadU, Kind>
 
 /// The columns, in their order, of the declaration with a number in the abbreviation table by which a unit is read (DWARF 5
 /// section 7.5.3). Declarations are counted from 0, as `decl` of an entry counts them. There is no error.
-pub fn columns_of(table: &Table, number: u32) -> Columns<'_>
+pub fn columns_of(table: &Table, number: u32) -> &[Spec]
     requires table { IsTable table.now }
     requires inside { number < length (declarations_of table.now) }
-    ensures columns { result ≡ (declared_at (declarations_of table.now) number).columns }
-    ensures known { AreKnown result }
+    ensures columns { result.now ≡ (declared_at (declarations_of table.now) number).columns }
+    ensures known { AreKnown result.now }
 {
     table.columns(number)
 }
@@ -104,7 +105,7 @@ fn read_values<'a>(
     info: &[u8],
     from: usize,
     end: usize,
-    columns: &Columns<'_>,
+    columns: &[Spec],
     origin: u64,
 ) -> Result<usize, Refusal>
     requires order { from ≤ end }
@@ -117,12 +118,8 @@ fn read_values<'a>(
     ensures fault { IfErr result (IsRefusedFor (IsFaultOf (FaultOfColumns info.now end columns.now from) origin)) }
 {
     let mut at = from;
-    for index in 0..columns.len() {
-        let column = columns.column(index);
-        let read = match read_value(info, at, end, column.form, column.constant, origin) {
-            Ok(read) => read,
-            Err(fault) => return Err(Refusal::Refused(fault)),
-        };
+    for column in columns {
+        let read = read_value(info, at, end, column.form, column.constant, origin)?;
         forest.push_value(read.value)?;
         at = read.end;
     }
@@ -163,7 +160,7 @@ fn read_entry<'a>(
 {
     let first = forest.value_count();
     let columns = columns_of(table, start.number);
-    let to = read_values(forest, info, start.values_at, end, &columns, origin)?;
+    let to = read_values(forest, info, start.values_at, end, columns, origin)?;
     let entry = Entry {
         at: start.at as u64,
         len: (to - start.at) as u64,

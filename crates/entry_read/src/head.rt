@@ -1,12 +1,14 @@
 // The headers of units.
 ghost use Rattle.std.specs.Prelude.{◌≡◌, ◌≤◌, ◌<◌, ◌+◌, ◌^◌, ◌++◌, ◌∷◌, [], length, IfOk, IfErr, OnOk, MatchOption, MatchResult, IsTrue, ◌↔◌};
 ghost use Rattle.std.specs.List.{All};
-ghost use Rattle.entry_read.specs.Heads.{IsUnitType, header_size as size_of_header, unit_end, unit_length, least_reserved, HasHead, head_at, IsHead, Tile};
+ghost use Rattle.fixed_width.specs.InitialLengths.{unit_end, IsWhole};
+ghost use Rattle.entry_read.specs.Heads.{IsUnitType, header_size as size_of_header, HasHead, head_at, IsHead, Tile};
 ghost use Rattle.entry_read.specs.Faults.{FaultHead, FaultHeads};
 ghost use Rattle.dw_base.specs.Refusals.{IsFaultOf, IsFaulty, IsRefusedFor};
 
+use dw_base::constants::{DW_UT_COMPILE, DW_UT_SKELETON, DW_UT_TYPE};
 use dw_base::{Fault, Kind, NoMemory, Refusal};
-use fixed_width::{u16_at, u32_at, u64_at};
+use fixed_width::{LengthFault, end_of_unit, u32_at, u64_at, version_of_unit};
 use std::alloc::Global;
 
 /// The header of a unit (DWARF 5 section 7.5.1). Places count from the section's first byte.
@@ -26,13 +28,6 @@ pub struct UnitHead {
     pub type_at: u64,
 }
 
-const TYPE: u8 = 2;
-
-const SKELETON: u8 = 4;
-
-// The first of the lengths that are reserved (DWARF 5 section 7.4).
-const FIRST_RESERVED: u32 = 0xffff_fff0;
-
 // The fewest bytes of a header.
 const LEAST_HEADER: usize = 12;
 
@@ -40,7 +35,7 @@ const LEAST_HEADER: usize = 12;
 fn is_unit_type(kind: u8) -> bool
     ensures { IsTrue result ↔ IsUnitType kind }
 {
-    kind >= 1 && kind <= 4
+    kind >= DW_UT_COMPILE && kind <= DW_UT_SKELETON
 }
 
 /// How many bytes the header of a unit of a type has.
@@ -49,20 +44,19 @@ pub fn header_size(kind: u8) -> usize
     ensures small { result ≤ 24 }
 {
     match kind {
-        TYPE => 24,
-        SKELETON => 20,
+        DW_UT_TYPE => 24,
+        DW_UT_SKELETON => 20,
         _ => LEAST_HEADER,
     }
 }
 
 // The header at a place, whose unit ends in the section.
 fn parse(info: &[u8], at: usize, end: usize) -> Option<UnitHead>
-    requires usual { unit_length info.now at < least_reserved }
+    requires whole { IsWhole info.now at }
     requires end { end ≡ unit_end info.now at }
-    requires inside { end ≤ length info.now }
     ensures { MatchOption result (¬ HasHead info.now at) (λ head. HasHead info.now at × (head ≡ head_at info.now at)) }
 {
-    if end - at < LEAST_HEADER || u16_at(info, at + 4) != 5 || info[at + 7] != 8 {
+    if end - at < LEAST_HEADER || version_of_unit(info, at) != 5 || info[at + 7] != 8 {
         return None;
     }
     let kind = info[at + 6];
@@ -80,7 +74,7 @@ fn parse(info: &[u8], at: usize, end: usize) -> Option<UnitHead>
         } else {
             0
         },
-        type_at: if kind == TYPE {
+        type_at: if kind == DW_UT_TYPE {
             u64::from(u32_at(info, at + 20))
         } else {
             0
@@ -93,21 +87,12 @@ fn read_head(info: &[u8], at: usize) -> Result<UnitHead, Kind>
     requires { at ≤ length info.now }
     ensures { MatchResult result (λ head. HasHead info.now at × (head ≡ head_at info.now at)) (λ kind. FaultHead info.now at kind at) }
 {
-    let left = info.len() - at;
-    if left < 4 {
-        return Err(Kind::Short);
-    }
-    let length = u32_at(info, at);
-    if length >= FIRST_RESERVED {
-        return Err(Kind::UnitHead);
-    }
-    if length as usize > left - 4 {
-        return Err(Kind::Short);
-    }
-    match parse(info, at, at + 4 + length as usize) {
-        Some(head) => Ok(head),
-        None => Err(Kind::UnitHead),
-    }
+    let end = match end_of_unit(info, at) {
+        Ok(end) => end,
+        Err(LengthFault::Cut) => return Err(Kind::Short),
+        Err(LengthFault::Reserved) => return Err(Kind::UnitHead),
+    };
+    parse(info, at, end).ok_or(Kind::UnitHead)
 }
 
 // Appends a head.

@@ -1,5 +1,5 @@
 // Places of values.
-ghost use Rattle.std.specs.Prelude.{◌≡◌, ◌≤◌, ◌<◌, ℕ, List, length, take};
+ghost use Rattle.std.specs.Prelude.{◌≡◌, ◌<◌, ℕ, List, length};
 ghost use Rattle.leb_codec.specs.Leb.{Uleb};
 ghost use Rattle.form_codec.specs.declared.value.Value.{Value};
 ghost use Rattle.form_codec.specs.Forms.{Meaning, SpellsValue};
@@ -10,7 +10,7 @@ ghost use Rattle.entry_read.specs.Places.{StandsAtColumn};
 
 use crate::entries::columns_of;
 use crate::unit::Unit;
-use abbrev_tables::{Columns, Table};
+use abbrev_tables::{Spec, Table};
 use form_codec::read_value;
 use leb_codec::read_u;
 
@@ -38,15 +38,13 @@ fn value_end(info: &[u8], at: usize, form: u64, constant: i64) -> usize
     }
 }
 
-// Where the values of the first `count` columns end, from a place on.
-fn values_end(info: &[u8], from: usize, columns: &Columns<'_>, count: usize) -> usize
-    requires count { count ≤ length columns.now }
-    requires there { (values : List Value) × (to : ℕ) × ValuesBetween info.now (take count columns.now) values from to }
-    ensures { (values : List Value) (to : ℕ) → ValuesBetween info.now (take count columns.now) values from to → result ≡ to }
+// Where the values of columns from a place on end.
+fn values_end(info: &[u8], from: usize, columns: &[Spec]) -> usize
+    requires { (values : List Value) × (to : ℕ) × ValuesBetween info.now columns.now values from to }
+    ensures { (values : List Value) (to : ℕ) → ValuesBetween info.now columns.now values from to → result ≡ to }
 {
     let mut at = from;
-    for index in 0..count {
-        let column = columns.column(index);
+    for column in columns {
         at = value_end(info, at, column.form, column.constant);
     }
     at
@@ -70,5 +68,5 @@ pub fn place_of_value(unit: &Unit<'_>, table: &Table, id: u32, column: u32) -> u
     let info = forest.section();
     let columns = columns_of(table, entry.decl);
     let values_at = code_end(info, entry.at as usize);
-    values_end(info, values_at, &columns, column as usize) as u64
+    values_end(info, values_at, &columns[..column as usize]) as u64
 }

@@ -687,14 +687,7 @@ fn columns_in(
     if number >= table.len() {
         return Err("no declaration")?;
     }
-    let columns = columns_of(&table, number);
-    assert_eq!(rt;
-        (columns.len(), columns.is_empty()),
-        (expected.len(), expected.is_empty())
-    );
-    for (index, spec) in expected.iter().enumerate() {
-        assert_eq!(rt; columns.column(index), *spec);
-    }
+    assert_eq!(rt; columns_of(&table, number), expected);
     Ok(())
 }
 

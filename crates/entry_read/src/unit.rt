@@ -1,9 +1,5 @@
 // Units.
 ghost use Rattle.std.specs.Prelude.{◌≡◌, ◌≤◌, ◌<◌, ◌+◌, ◌^◌, ◌↔◌, ℕ, [], length, slice_index, IfOk, IfErr, IsTrue};
-ghost use Rattle.std.specs.List.{All, Contains};
-ghost use Rattle.std.specs.List.Sorted.{IsStrictlyIncreasing};
-ghost use Rattle.entry_arena.specs.declared.entry.Entry.{Entry as AnyEntry};
-ghost use Rattle.entry_arena.specs.Renumbering.{AreRenumberedBy, with_entries};
 ghost use Rattle.entry_arena.specs.Trees.{listed_to};
 ghost use Rattle.entry_read.specs.Heads.{IsHead};
 ghost use Rattle.entry_read.specs.Units.{declarations_of, IsTable, IsUnitHeld, IsWithin};
@@ -56,18 +52,6 @@ impl<'a> Unit<'a> {
     {
         &self.forest
     }
-
-    /// Numbers the declarations of the entries anew, each by its place among `used`, counted from 0. These numbers rise, and that of
-    /// each entry's declaration is one of them.
-    pub fn renumber(&mut self, used: &[u32])
-        requires rising { IsStrictlyIncreasing used.now }
-        requires known { All (λ (e : AnyEntry). Contains used.now e.decl) self.old.forest.entries }
-        ensures head { self.new.head ≡ self.old.head }
-        ensures entries { AreRenumberedBy used.now self.old.forest.entries self.new.forest.entries }
-        ensures others { self.new.forest ≡ with_entries self.old.forest self.new.forest.entries }
-    {
-        self.forest.renumber(used);
-    }
 }
 
 // Whether all bytes are 0.
@@ -78,10 +62,9 @@ fn is_padding(bytes: &[u8]) -> bool
 }
 
 /// Reads the unit of `head` in `info`, the body of .debug_info (DWARF 5 section 7.5), from which the head was read.
-/// `table` is an abbreviation table that was read, the one that the header names, or a part of it, which then is what the
-/// entries are held against. `before` counts the entries and values of the units before it, and `origin` is the file
-/// offset of the section's first byte. Padded LEB128 numbers are read.
-/// Values keep their bytes, so that no expression is read.
+/// `table` is the abbreviation table that the header names. `before` counts the entries and values of the units before it, and
+/// `origin` is the file offset of the section's first byte. Padded LEB128 numbers are read. Values keep their bytes, so that no
+/// expression is read.
 ///
 /// The entries are one tree, after which the unit may have more bytes 0. A refusal names one of the faults of the unit:
 /// Tree at the unit's first byte where the root's code is 0, the unit ends inside a chain of siblings, or a byte other

@@ -1,1 +1,2 @@
+pub mod InitialLengths
 pub mod Numbers

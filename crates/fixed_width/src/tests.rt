@@ -1,5 +1,5 @@
 // Numbers read and written at their places.
-use crate::{put_u32, put_u64, u16_at, u32_at, u64_at};
+use crate::{LengthFault, end_of_unit, put_u32, put_u64, u16_at, u32_at, u64_at, version_of_unit};
 
 const BYTES: [u8; 10] = [1, 2, 3, 4, 5, 6, 7, 8, 9, 10];
 
@@ -19,5 +19,19 @@ fn no_other_byte_changes(rt: HostRuntime) {
     assert_eq!(rt;
         bytes,
         [1, 0xa1, 0xb1, 0xb2, 0xb3, 0xb4, 0xb5, 0xb6, 0xb7, 0xb8]
+    );
+}
+
+#[test]
+fn a_unit_ends_by_its_length(rt: HostRuntime) {
+    // a unit of a length of 3, with version 5 and one byte, after another byte
+    let section = [9, 3, 0, 0, 0, 5, 0, 7];
+    assert_eq!(rt; end_of_unit(&section, 1), Ok(8));
+    assert_eq!(rt; version_of_unit(&section, 1), 5);
+    assert_eq!(rt; end_of_unit(&section[..7], 1), Err(LengthFault::Cut));
+    assert_eq!(rt; end_of_unit(&section, 5), Err(LengthFault::Cut));
+    assert_eq!(rt;
+        end_of_unit(&[0xf0, 0xff, 0xff, 0xff], 0),
+        Err(LengthFault::Reserved)
     );
 }

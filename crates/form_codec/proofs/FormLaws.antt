@@ -26,7 +26,8 @@ use Rattle.form_codec.specs.Forms.{Meaning, SpellsShape, SpellsValue, SpellsShor
 use Rattle.form_codec.specs.Forms.Meaning.{Whole, Bits, Text, Expression, InUnit}
 use Rattle.form_codec.specs.Values.{meant_in, bytes_in, LiesIn, IsPlaced, IsClear, IsValueIn, IsReadValue}
 use Rattle.form_codec.specs.declared.value.ReadValue.{ReadValue}
-use Rattle.form_codec.specs.Written.{low_bytes, Encodes, HasNoEncoding, IsEncoding, HasNoForm, IsFormEncoding, HasNoCode, IsCodeEncoding, HasConstant, SpanLies, IsShapeSize}
+use Rattle.form_codec.specs.Written.{low_bytes, HasNoEncoding, HasConstant, IsShapeSize}
+use Rattle.form_codec.specs.inside.Written.{Encodes, IsEncoding, HasNoForm, IsFormEncoding, HasNoCode, IsCodeEncoding, SpanLies}
 use Rattle.form_codec.proofs.Codes.{code_once}
 
 pub match_map : {P Q : Type 0} {R S : Encoding → Type 0} (o : Option Encoding) → (P → Q) → ((e : Encoding) → R e → S e) → MatchOption o P R → MatchOption o Q S

@@ -10,7 +10,7 @@ use Rattle.form_codec.specs.declared.value.Value.TheVariants as value
 use Rattle.form_codec.specs.Forms.{Meaning, size_of, data_of, in_role}
 use Rattle.form_codec.specs.Forms.Meaning.{Address, AddressNumber, Whole, Bits, SixteenBytes, IsSet, Data, Expression, InUnit, InSection, TypeSignature, InSup, Text, StringPlace, LineStringPlace, SupStringPlace, StringNumber, SectionPlace, LocationList, RangeList}
 use Rattle.form_codec.specs.Values.{meant_in}
-use Rattle.form_codec.specs.Written.{HasNumber}
+use Rattle.form_codec.specs.inside.Written.{HasNumber}
 
 one_number : (meaning : Meaning) (a b : ℕ) → HasNumber meaning a → HasNumber meaning b → a ≡ b
 one_number (Address n) a b p q = sym p ∙ q

@@ -21,7 +21,8 @@ use Rattle.fixed_width.specs.Numbers.{number}
 use Rattle.form_codec.specs.Forms.{SpellsShape, size_of, code_of, shape_of, in_role, of_content}
 use Rattle.form_codec.specs.Forms.Meaning.{Whole, SixteenBytes, Data, Expression, Text}
 use Rattle.form_codec.specs.Faults.{IsCutOff, FaultShape, FaultValue}
-use Rattle.form_codec.specs.Values.{meant_in, IsPlaced, IsReadShape, IsReadValue, IsFirstZero}
+use Rattle.form_codec.specs.Values.{meant_in, IsPlaced, IsReadValue}
+use Rattle.form_codec.specs.inside.Values.{IsReadShape, IsFirstZero}
 
 number_take : (n m : ℕ) (l : List ℕ) → n ≤ m → number n (take m l) ≡ number n l
 unfolding number

@@ -26,7 +26,8 @@ use Rattle.fixed_width.proofs.Numbers.{number_back}
 use Rattle.form_codec.specs.Forms.{size_of, in_role, of_content}
 use Rattle.form_codec.specs.Forms.Meaning.{Whole, SixteenBytes, IsSet, Data, Text}
 use Rattle.form_codec.specs.Values.{meant_in, bytes_in, LiesIn}
-use Rattle.form_codec.specs.Written.{low_bytes, HasNoEncoding, IsEncoding}
+use Rattle.form_codec.specs.Written.{low_bytes, HasNoEncoding}
+use Rattle.form_codec.specs.inside.Written.{IsEncoding}
 
 -- the lowest bytes of a number
 pub low_len : (w : Width) (n : ℕ) → length (low_bytes w n) ≡ size_of w

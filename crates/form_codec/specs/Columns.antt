@@ -34,16 +34,19 @@ pub record ColumnWithin (code : ℕ) (constant : ℤ) (meanings : List Meaning) 
   pub within : EntriesWithin code constant meanings entries
   pub cost : entries + constant_bytes code constant ≤ n
 
+-- The form admits all of the values, and no form that does takes fewer bytes.
+pub record IsLeastForm (meanings : List Meaning) (code : ℕ) (constant : ℤ) : Type 0 where
+  pub bytes : ℕ
+  pub enough : ColumnWithin code constant meanings bytes
+  pub least : (other : ℕ) (c : ℤ) (n : ℕ) → ColumnWithin other c meanings n → bytes ≤ n
+
 -- of two forms that take as few bytes the input's comes first, and else the one with the lower code
 abbrev pub ComesFirst : ℕ → ℕ → ℕ → Type 0
 ComesFirst input code other = (code ≡ input) ⊎ ((other ≢ input) × (code ≤ other))
 
--- No form that admits all of the values takes fewer bytes, and of those that take as few this one comes first.
-pub record IsLeastForm (input : ℕ) (meanings : List Meaning) (code : ℕ) (constant : ℤ) : Type 0 where
-  pub bytes : ℕ
-  pub enough : ColumnWithin code constant meanings bytes
-  pub least : (other : ℕ) (c : ℤ) (n : ℕ) → ColumnWithin other c meanings n → bytes ≤ n
-  pub first : (other : ℕ) (c : ℤ) → ColumnWithin other c meanings bytes → ComesFirst input code other
+-- of the least forms this one comes first
+abbrev pub IsFirstForm : ℕ → List Meaning → ℕ → Type 0
+IsFirstForm input meanings code = (other : ℕ) (c : ℤ) → IsLeastForm meanings other c → ComesFirst input code other
 
 -- the form is one of references to entries: ref_addr, ref1, ref2, ref4, ref8 or ref_udata, with the codes from 16 to 21
 abbrev pub is_reference : ℕ → Bool

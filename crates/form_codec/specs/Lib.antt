@@ -4,3 +4,4 @@ pub mod Forms
 pub mod Values
 pub mod Wholes
 pub mod Written
+pub mod inside

@@ -1,12 +1,11 @@
 -- Values with spans, which count from the first byte of their section.
-use Rattle.std.specs.Prelude.{◌≡◌, ◌≢◌, ◌≤◌, ◌<◌, ◌+◌, ◌-◌, ℕ, ℤ, List, length, take, drop, slice_index}
+use Rattle.std.specs.Prelude.{◌≡◌, ◌≤◌, ◌+◌, ◌-◌, ℕ, ℤ, List, length, take, drop}
 use Rattle.dw_base.specs.declared.fault.Span.{Span}
 use Rattle.spelled.specs.Spelled.{AreBytes}
 use Rattle.form_codec.specs.declared.value.Value.{Value}
 use Rattle.form_codec.specs.declared.value.Value.TheVariants as value
 use Rattle.form_codec.specs.declared.value.ReadValue.{ReadValue}
-use Rattle.form_codec.specs.declared.form.Shape.{Shape}
-use Rattle.form_codec.specs.Forms.{Meaning, SpellsShape, SpellsValue, HasNoZero}
+use Rattle.form_codec.specs.Forms.{Meaning, SpellsValue, HasNoZero}
 use Rattle.form_codec.specs.Forms.Meaning.{Address, AddressNumber, Whole, Bits, SixteenBytes, IsSet, Data, Expression, InUnit, InSection, TypeSignature, InSup, Text, StringPlace, LineStringPlace, SupStringPlace, StringNumber, SectionPlace, LocationList, RangeList}
 
 -- the bytes of a span
@@ -68,17 +67,4 @@ pub record IsReadValue (code : ℕ) (constant : ℤ) (section : List ℕ) (at en
   pub starts : at ≤ r.end
   pub inside : r.end ≤ end
   pub spelled : SpellsValue code constant (meant_in section r.value) (take (r.end - at) (drop at section))
-  pub placed : IsPlaced r.value at r.end
-
--- the first byte that is 0 stands at a place
-pub record IsFirstZero (place : ℕ) (bytes : List ℕ) : Type 0 where
-  pub inside : place < length bytes
-  pub zero_there : slice_index bytes place ≡ 0
-  pub clear : (k : ℕ) → k < place → slice_index bytes k ≢ 0
-
--- what readers of a shape give: what the bytes from a place up to the answered end spell
-pub record IsReadShape (shape : Shape) (bytes : List ℕ) (at : ℕ) (r : ReadValue) : Type 0 where
-  pub starts : at ≤ r.end
-  pub inside : r.end ≤ length bytes
-  pub spelled : SpellsShape shape (meant_in bytes r.value) (take (r.end - at) (drop at bytes))
   pub placed : IsPlaced r.value at r.end

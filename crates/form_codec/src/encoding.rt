@@ -6,7 +6,8 @@ ghost use Rattle.form_codec.specs.declared.form.Shape.TheVariants as shape;
 ghost use Rattle.form_codec.specs.Forms.{size_of, in_role as meant_in_role};
 ghost use Rattle.form_codec.specs.Forms.Meaning.{Whole, Data};
 ghost use Rattle.form_codec.specs.Values.{meant_in, bytes_in};
-ghost use Rattle.form_codec.specs.Written.{HasNumber, IsNumbered, IsInRole, IsEncoding, HasNoEncoding, HasConstant};
+ghost use Rattle.form_codec.specs.Written.{HasNoEncoding, HasConstant};
+ghost use Rattle.form_codec.specs.inside.Written.{HasNumber, IsNumbered, IsInRole, IsEncoding};
 
 use crate::form::{Content, Role, Shape, Width};
 use crate::value::Value;

@@ -16,4 +16,4 @@ pub use laws::{constants, values_end, values_whole};
 pub use read::{known, read_value};
 pub use value::{ReadValue, Value};
 pub use whole::Whole;
-pub use write::{admits, size_in, size_of, spelled_size, write_value};
+pub use write::{admits, put_low, size_in, size_of, spelled_size, write_value};

@@ -4,7 +4,8 @@ ghost use Rattle.form_codec.specs.declared.form.Shape.TheVariants as shape;
 ghost use Rattle.fixed_width.specs.Numbers.{number};
 ghost use Rattle.form_codec.specs.Forms.{IsKnown, size_of, shape_of, data_of, in_role as meant_in_role, of_content as meant_content, HasNoZero};
 ghost use Rattle.form_codec.specs.Faults.{FaultShape, FaultValue};
-ghost use Rattle.form_codec.specs.Values.{meant_in, bytes_in, IsPlaced, IsReadShape, IsReadValue, IsValueIn, IsFirstZero};
+ghost use Rattle.form_codec.specs.Values.{meant_in, bytes_in, IsPlaced, IsReadValue, IsValueIn};
+ghost use Rattle.form_codec.specs.inside.Values.{IsReadShape, IsFirstZero};
 
 use crate::form::{Content, Form, Role, Width};
 use crate::value::{ReadValue, Value};

@@ -6,7 +6,8 @@ ghost use Rattle.leb_codec.specs.Digits.{Extends};
 ghost use Rattle.form_codec.specs.Forms.{Admits, SpellsShortest, counted};
 ghost use Rattle.form_codec.specs.Forms.Meaning.{Whole};
 ghost use Rattle.form_codec.specs.Values.{meant_in, bytes_in, LiesIn, IsValueIn};
-ghost use Rattle.form_codec.specs.Written.{low_bytes, Encodes, SpanLies, HasConstant, HasNoEncoding, IsShapeSize, HasNoForm, IsFormEncoding, HasNoCode, IsCodeEncoding};
+ghost use Rattle.form_codec.specs.Written.{low_bytes, HasConstant, HasNoEncoding, IsShapeSize};
+ghost use Rattle.form_codec.specs.inside.Written.{Encodes, SpanLies, HasNoForm, IsFormEncoding, HasNoCode, IsCodeEncoding};
 
 use crate::encoding::{Encoding, constant_in, encoding_of};
 use crate::form::{Form, Shape, Width};
@@ -119,7 +120,8 @@ pub fn size_in(shape: Shape, value: &Value) -> Option<u64>
     Some(counted_size(value, encoded_size(encoding)))
 }
 
-fn put_number(out: &mut Vec<u8>, width: Width, number: u64) -> Result<(), NoMemory>
+/// Appends as many bytes of a number as a width has, the lowest first. An Err leaves a front of these bytes behind `out`.
+pub fn put_low(out: &mut Vec<u8>, width: Width, number: u64) -> Result<(), NoMemory>
     ensures ok { OnOk result (out.new.items ≡ out.old.items ++ low_bytes width number) }
     ensures err { OnErr result (Extends out.old.items out.new.items) }
 {
@@ -146,11 +148,11 @@ fn append(out: &mut Vec<u8>, encoding: Encoding, section: &[u8]) -> Result<(), N
 {
     match encoding {
         Encoding::Nothing => Ok(()),
-        Encoding::Fixed(width, number) => put_number(out, width, number),
+        Encoding::Fixed(width, number) => put_low(out, width, number),
         Encoding::Uleb(number) => put_u(out, number),
         Encoding::Sleb(number) => put_s(out, number),
         Encoding::Counted(width, span) => {
-            put_number(out, width, span.len)?;
+            put_low(out, width, span.len)?;
             put_span(out, span, section)
         }
         Encoding::UlebCounted(span) => {

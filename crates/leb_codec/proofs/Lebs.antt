@@ -6,7 +6,7 @@ use Rattle.std.proofs.lemmas.Nat.{pow-add}
 use Rattle.std.proofs.Math.Nat.{pow-succ', pow-le-pow_right, mul-le-mul, mod-eq_of_lt}
 use Rattle.std.specs.Option.{SomeIff}
 use Rattle.leb_codec.specs.Leb.{weighed, IsLeb, IsWideUnsigned}
-use Rattle.leb_codec.specs.Digits.{IsSum}
+use Rattle.leb_codec.specs.inside.Digits.{IsSum}
 
 pub weighed-push : (i : ℕ) (bytes : List ℕ) (byte : ℕ) → weighed i (bytes ++ byte ∷ []) ≡ weighed i bytes + (byte % 128) * 128 ^ (i + length bytes)
 weighed-push i [] byte =

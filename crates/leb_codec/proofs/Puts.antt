@@ -4,7 +4,8 @@ use Rattle.std.proofs.lemmas.List.{append_assoc}
 use Rattle.std.proofs.lemmas.Bool.{cases_lt}
 use Rattle.std.proofs.Math.Nat.{pow-succ', mul-le-mul_right}
 use Rattle.leb_codec.specs.Leb.{IsLeastUnsignedLen}
-use Rattle.leb_codec.specs.Digits.{digit_of, digits_of, Extends}
+use Rattle.leb_codec.specs.Digits.{Extends}
+use Rattle.leb_codec.specs.inside.Digits.{digit_of, digits_of}
 use Rattle.leb_codec.proofs.Lebs.{pow128}
 
 -- a number in its low seven bits and the others, at a weight

@@ -8,7 +8,7 @@ use Rattle.std.proofs.lemmas.Bool.{cases_lt, cases_Bool, le-leb, lt-leb}
 use Rattle.std.proofs.Math.Nat.{pow-succ', mul-le-mul_right}
 use Rattle.leb_codec.specs.Leb.{weighed, IsLeb, SpellsUnsigned, SpellsSigned, signed_of, is_negative, FitsUnsignedLen, FitsSignedLen, magnitude}
 use Rattle.leb_codec.specs.LebLaws.{UnsignedSpellings, SignedSpellings}
-use Rattle.leb_codec.specs.Digits.{digits_of}
+use Rattle.leb_codec.specs.inside.Digits.{digits_of}
 use Rattle.leb_codec.proofs.Lebs.{weighed_more}
 use Rattle.leb_codec.proofs.Lens.{least_below, fits_unsigned, least_below_signed, fits_signed, doubled, half_power}
 

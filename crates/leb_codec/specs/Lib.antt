@@ -5,3 +5,4 @@ pub mod LebLaws
 pub mod Least
 pub mod LineCosts
 pub mod Numbering
+pub mod inside

@@ -1,7 +1,7 @@
 // Numbers read.
 ghost use Rattle.std.specs.Prelude.{◌≡◌, ◌≤◌, ◌<◌, ◌+◌, ◌-◌, ◌*◌, ◌^◌, ◌↔◌, ℕ, Option, length, take, drop, IfOk, IfSome, IsErrOf};
 ghost use Rattle.leb_codec.specs.Leb.{SpellsUnsigned, IsShort, IsWideUnsigned};
-ghost use Rattle.leb_codec.specs.Digits.{IsSum};
+ghost use Rattle.leb_codec.specs.inside.Digits.{IsSum};
 
 /// Why a number isn't read.
 #[derive(Clone, Copy, Debug, PartialEq, Eq)]

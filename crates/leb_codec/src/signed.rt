@@ -2,7 +2,7 @@
 ghost use Rattle.std.specs.Prelude.{◌≡◌, ◌≤◌, ◌<◌, ◌+◌, ◌-◌, ◌^◌, ◌↔◌, ◌∷◌, ℕ, Option, [], length, take, drop, IfOk, IfSome, IsErrOf, MatchOption, FitsSigned};
 ghost use Rattle.std.specs.Int.{w64};
 ghost use Rattle.leb_codec.specs.Leb.{SpellsSigned, IsShort, IsWideSigned, signed_of, signed_weighed};
-ghost use Rattle.leb_codec.specs.Digits.{IsSum};
+ghost use Rattle.leb_codec.specs.inside.Digits.{IsSum};
 
 use crate::read::{LebFault, add_digit};
 

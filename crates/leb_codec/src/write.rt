@@ -3,7 +3,8 @@ ghost use Rattle.std.specs.Prelude.{◌≡◌, ◌≤◌, ◌<◌, ◌-◌, ◌*
 ghost use Rattle.spelled.specs.Spelled.{Appends};
 ghost use Rattle.leb_codec.specs.Leb.{ShortestUnsigned, ShortestSigned, PaddedUnsigned, least_unsigned_len, least_signed_len};
 ghost use Rattle.leb_codec.specs.Leb.{magnitude as magnitude_of};
-ghost use Rattle.leb_codec.specs.Digits.{digits_of, digit_of, Extends};
+ghost use Rattle.leb_codec.specs.Digits.{Extends};
+ghost use Rattle.leb_codec.specs.inside.Digits.{digits_of, digit_of};
 
 use dw_base::NoMemory;
 

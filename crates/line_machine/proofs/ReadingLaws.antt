@@ -11,7 +11,7 @@ use Rattle.line_machine.specs.declared.opcode.Opcode.TheVariants.{EndSequence, S
 use Rattle.fixed_width.specs.Numbers.{number_at}
 use Rattle.line_machine.specs.Opcodes.{WithUleb, WithFixed, SpellsOperation, SpellsExtended, SpellsOpcode}
 use Rattle.line_machine.specs.Faults.{FaultOpcode, IsSized, IsWrongCount}
-use Rattle.line_machine.specs.Readings.{FaultOperation}
+use Rattle.line_machine.specs.inside.Readings.{FaultOperation}
 use Rattle.line_machine.proofs.Parts.{first_at, part_from, number_part}
 use Rattle.spelled.proofs.Parts.{take_sum, length_part, bytes_part}
 use Rattle.spelled.specs.Spelled.{AreBytes}

@@ -2,7 +2,8 @@
 use Rattle.std.proofs.Common.{◌≡◌, ◌<◌, ◌+◌, ℕ, List, [], ◌∷◌, ◌++◌, length, ◌∙◌, sym, ap, refl, arith}
 use Rattle.std.proofs.lemmas.List.{append_assoc, append_cancel_left}
 use Rattle.std.specs.Prelude.{ℤ, ⊤}
-use Rattle.spelled.specs.Spelled.{HasUniqueFronts, HasBytes}
+use Rattle.spelled.specs.Spelled.{HasUniqueFronts}
+use Rattle.spelled.specs.inside.Spelled.{HasBytes}
 use Rattle.spelled.proofs.Parts.{same_front}
 use Rattle.leb_codec.proofs.Fronts.{unique_u, unique_s}
 use Rattle.line_machine.specs.declared.opcode.Opcode.{Opcode}

@@ -43,10 +43,14 @@ ComesFirst head base range other_base other_range =
     IsPairOf head base range
     ⊎ ((¬ IsPairOf head other_base other_range) × ((range < other_range) ⊎ ((range ≡ other_range) × (base ≤ℤ other_base))))
 
+-- of the pairs that have as short a member the pair of this one comes first
+abbrev pub IsFirstEncoding : Head → List Row → Encoding → Type 0
+IsFirstEncoding head rows e = (other : Encoding) → IsEncoding head rows other → length other.bytes ≡ length e.bytes → ComesFirst head e.base e.range other.base other.range
+
 -- The member that is taken: no member is shorter, and of the pairs that have as short a one its pair comes first.
 pub record IsTaken (head : Head) (rows : List Row) (e : Encoding) : Type 0 where
   pub least : IsLeast (IsEncoding head rows) encoding_size e
-  pub first : (other : Encoding) → IsEncoding head rows other → length other.bytes ≡ length e.bytes → ComesFirst head e.base e.range other.base other.range
+  pub first : IsFirstEncoding head rows e
 
 -- a row that a program can have: one that ends a sequence has an address alone, and the line of another is below 2^32
 abbrev pub IsRow : Row → Type 0

@@ -1,5 +1,6 @@
 -- The faults of line number programs, as conditions on the bytes.
 use Rattle.std.specs.Prelude.{◌≡◌, ◌≢◌, ◌<◌, ◌+◌, ◌^◌, ◌⊎◌, ℕ, List, ◌∷◌, ◌++◌, length, drop, slice_index, true, false}
+use Rattle.fixed_width.specs.InitialLengths.{LeavesSection}
 use Rattle.spelled.specs.Spelled.{Joined, StandsAt, FaultUntilEnd}
 use Rattle.leb_codec.specs.Leb.{Uleb, IsLeb, IsShort, IsWideUnsigned, IsWideSigned}
 use Rattle.dw_base.specs.declared.fault.Kind.{Kind}
@@ -8,7 +9,7 @@ use Rattle.line_machine.specs.declared.head.Head.{Head}
 use Rattle.line_machine.specs.declared.opcode.Opcode.{Opcode}
 use Rattle.line_machine.specs.Opcodes.{SpellsOpcode}
 use Rattle.line_machine.specs.Rows.{start, rows_from, registers_after, IsSound, ends}
-use Rattle.line_machine.specs.Heads.{LeavesSection, IsCutHeader, HasHead, head_at, program_of}
+use Rattle.line_machine.specs.Heads.{IsCutHeader, HasHead, head_at, program_of}
 
 -- the code of a standard opcode with a ULEB128
 abbrev pub HasUleb : ℕ → ℕ → Type 0

@@ -1,18 +1,13 @@
 -- The header of a line number program (DWARF 5 section 6.2.4) in .debug_line, in the 32-bit format.
-use Rattle.std.specs.Prelude.{◌≡◌, ◌≢◌, ◌≤◌, ◌<◌, ◌+◌, ◌-◌, ◌⊎◌, ℕ, ℤ, List, [], ◌∷◌, length, take, drop, slice_index, not, nat_eq}
+use Rattle.std.specs.Prelude.{◌≡◌, ◌≢◌, ◌≤◌, ◌<◌, ◌+◌, ◌-◌, ◌⊎◌, ℕ, ℤ, List, [], ◌∷◌, take, drop, slice_index, not, nat_eq}
 use Rattle.std.specs.Int.{w8, cast_signed}
 use Rattle.dw_base.specs.declared.fault.Span.{Span}
+use Rattle.fixed_width.specs.InitialLengths.{version, unit_end, LeavesSection}
 use Rattle.fixed_width.specs.Numbers.{number_at}
 use Rattle.line_machine.specs.Opcodes.{IsBase}
 use Rattle.line_machine.specs.declared.head.Head.{Head}
 
--- the fields of the header at a place
-abbrev pub unit_length : List ℕ → ℕ → ℕ
-unit_length section at = number_at 4 at section
-
-abbrev pub version : List ℕ → ℕ → ℕ
-version section at = number_at 2 (at + 4) section
-
+-- the fields of the header at a place, after its length and its version
 abbrev pub address_size : List ℕ → ℕ → ℕ
 address_size section at = slice_index section (at + 6)
 
@@ -47,10 +42,6 @@ operand_counts = 0 ∷ 1 ∷ 1 ∷ 1 ∷ 1 ∷ 0 ∷ 0 ∷ 0 ∷ 1 ∷ 0 ∷ 0 �
 abbrev pub standard_opcode_lengths : List ℕ → ℕ → List ℕ
 standard_opcode_lengths section at = take (opcode_base section at - 1) (drop (at + 18) section)
 
--- where the unit ends, whose length counts from after its own field
-abbrev pub unit_end : List ℕ → ℕ → ℕ
-unit_end section at = at + 4 + unit_length section at
-
 -- where the directory and file tables begin
 abbrev pub tables_at : List ℕ → ℕ → ℕ
 tables_at section at = at + 17 + opcode_base section at
@@ -58,10 +49,6 @@ tables_at section at = at + 17 + opcode_base section at
 -- where the program begins, which header_length counts from after its own field
 abbrev pub program_at : List ℕ → ℕ → ℕ
 program_at section at = at + 12 + header_length section at
-
--- The unit at a place isn't in the section: its length isn't, or what it counts, or it is one of the reserved ones.
-abbrev pub LeavesSection : List ℕ → ℕ → Type 0
-LeavesSection section at = (length section < at + 4) ⊎ ((length section < unit_end section at) ⊎ (4294967280 ≤ unit_length section at))
 
 -- The unit is in the section, and ends inside its header.
 abbrev pub IsCutHeader : List ℕ → ℕ → Type 0

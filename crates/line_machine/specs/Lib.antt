@@ -4,5 +4,5 @@ pub mod Faults
 pub mod Heads
 pub mod Laws
 pub mod Opcodes
-pub mod Readings
 pub mod Rows
+pub mod inside

@@ -1,9 +1,10 @@
 // The header of a line number program.
 ghost use Rattle.std.specs.Prelude.{◌≡◌, ◌≤◌, ◌<◌, ◌+◌, ◌^◌, ◌↔◌, length, IfOk, IfErr, MatchOption, IsTrue};
-ghost use Rattle.line_machine.specs.Heads.{LeavesSection, HasNumbers, HasLengths, HasHead, head_at, unit_end, between};
+ghost use Rattle.fixed_width.specs.InitialLengths.{unit_end, IsWhole};
+ghost use Rattle.line_machine.specs.Heads.{HasNumbers, HasLengths, HasHead, head_at, between};
 
 use dw_base::{Fault, Kind, Span};
-use fixed_width::{u16_at, u32_at};
+use fixed_width::{end_of_unit, u32_at, version_of_unit};
 
 /// The header of a line number program (DWARF 5 section 6.2.4). Places count from the section's first byte.
 #[derive(Clone, Copy, Debug, PartialEq, Eq)]
@@ -31,9 +32,6 @@ pub struct Head {
 /// (DWARF 5 sections 6.2.4 and 6.2.5.2). Lower opcode bases have the first of them.
 pub const OPERAND_COUNTS: [u8; 12] = [0, 1, 1, 1, 1, 0, 0, 0, 1, 0, 0, 1];
 
-// The first of the lengths that are reserved (DWARF 5 section 7.4).
-const FIRST_RESERVED: u32 = 0xffff_fff0;
-
 // The fewest bytes of a header.
 const LEAST_HEADER: usize = 27;
 
@@ -43,7 +41,7 @@ fn has_numbers(section: &[u8], at: usize) -> bool
     ensures { IsTrue result ↔ HasNumbers section.now at }
 {
     let opcode_base = section[at + 17];
-    u16_at(section, at + 4) == 5
+    version_of_unit(section, at) == 5
         && section[at + 6] == 8
         && section[at + 7] == 0
         && section[at + 12] != 0
@@ -71,7 +69,7 @@ fn has_lengths(section: &[u8], at: usize, end: usize) -> bool
 
 // The header at a place, whose unit ends in the section.
 fn parse(section: &[u8], at: usize, end: usize) -> Option<Head>
-    requires here { ¬ LeavesSection section.now at }
+    requires whole { IsWhole section.now at }
     requires end { end ≡ unit_end section.now at }
     ensures { MatchOption result (¬ HasHead section.now at) (λ head. HasHead section.now at × (head ≡ head_at section.now at)) }
 {
@@ -132,26 +130,15 @@ impl Head {
     {
         let start = at as usize;
         let place = origin + at;
-        let left = section.len() - start;
-        if left < 4 {
+        let Ok(end) = end_of_unit(section, start) else {
             return Err(Fault {
                 kind: Kind::Short,
                 place,
             });
-        }
-        let length = u32_at(section, start);
-        if length >= FIRST_RESERVED || length as usize > left - 4 {
-            return Err(Fault {
-                kind: Kind::Short,
-                place,
-            });
-        }
-        match parse(section, start, start + 4 + length as usize) {
-            Some(head) => Ok(head),
-            None => Err(Fault {
-                kind: Kind::LineHead,
-                place,
-            }),
-        }
+        };
+        parse(section, start, end).ok_or(Fault {
+            kind: Kind::LineHead,
+            place,
+        })
     }
 }

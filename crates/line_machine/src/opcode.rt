@@ -1,11 +1,12 @@
 // One opcode of a line number program, and its reader.
 ghost use Rattle.std.specs.Prelude.{◌≡◌, ◌≤◌, ◌<◌, ◌+◌, ◌-◌, ◌⊎◌, ◌∷◌, [], ℕ, List, length, take, drop, slice_index, IfOk, IfErr};
+ghost use Rattle.dw_base.specs.declared.constants.TheConstants as constants;
 ghost use Rattle.leb_codec.specs.Leb.{Uleb, Sleb, IsWideUnsigned, IsWideSigned};
 ghost use Rattle.line_machine.specs.Opcodes.{SpellsOpcode, SpellsOperation, WithUleb, IsBase};
 ghost use Rattle.line_machine.specs.Faults.{FaultOpcode};
-ghost use Rattle.line_machine.specs.Readings.{FaultLeb, FaultOperation};
+ghost use Rattle.line_machine.specs.inside.Readings.{FaultLeb, FaultOperation};
 
-use dw_base::{Fault, Kind};
+use dw_base::{Fault, Kind, constants};
 use fixed_width::{u16_at, u64_at};
 use leb_codec::{LebFault, ReadS, ReadU, read_s, read_u};
 
@@ -88,28 +89,28 @@ fn signed_at(bytes: &[u8], at: usize) -> Result<ReadS, Fault>
 
 // The standard opcode of a code that has no operand.
 fn without_operand(code: u8) -> Opcode
-    requires { (code ≡ 1) ⊎ (code ≡ 6) ⊎ (code ≡ 7) ⊎ (code ≡ 8) ⊎ (code ≡ 10) ⊎ (code ≡ 11) }
+    requires { (code ≡ constants.DW_LNS_COPY) ⊎ (code ≡ constants.DW_LNS_NEGATE_STMT) ⊎ (code ≡ constants.DW_LNS_SET_BASIC_BLOCK) ⊎ (code ≡ constants.DW_LNS_CONST_ADD_PC) ⊎ (code ≡ constants.DW_LNS_SET_PROLOGUE_END) ⊎ (code ≡ constants.DW_LNS_SET_EPILOGUE_BEGIN) }
     ensures { (base : ℕ) → code < base → SpellsOpcode base result (code ∷ []) }
 {
     match code {
-        1 => Opcode::Copy,
-        6 => Opcode::NegateStmt,
-        7 => Opcode::SetBasicBlock,
-        8 => Opcode::ConstAddPc,
-        10 => Opcode::SetPrologueEnd,
+        constants::DW_LNS_COPY => Opcode::Copy,
+        constants::DW_LNS_NEGATE_STMT => Opcode::NegateStmt,
+        constants::DW_LNS_SET_BASIC_BLOCK => Opcode::SetBasicBlock,
+        constants::DW_LNS_CONST_ADD_PC => Opcode::ConstAddPc,
+        constants::DW_LNS_SET_PROLOGUE_END => Opcode::SetPrologueEnd,
         _ => Opcode::SetEpilogueBegin,
     }
 }
 
 // The standard opcode of a code that has a ULEB128.
 fn with_unsigned(code: u8, value: u64) -> Opcode
-    requires { (code ≡ 2) ⊎ (code ≡ 4) ⊎ (code ≡ 5) ⊎ (code ≡ 12) }
+    requires { (code ≡ constants.DW_LNS_ADVANCE_PC) ⊎ (code ≡ constants.DW_LNS_SET_FILE) ⊎ (code ≡ constants.DW_LNS_SET_COLUMN) ⊎ (code ≡ constants.DW_LNS_SET_ISA) }
     ensures { (base : ℕ) (bytes : List ℕ) → code < base → WithUleb code value bytes → SpellsOpcode base result bytes }
 {
     match code {
-        2 => Opcode::AdvancePc(value),
-        4 => Opcode::SetFile(value),
-        5 => Opcode::SetColumn(value),
+        constants::DW_LNS_ADVANCE_PC => Opcode::AdvancePc(value),
+        constants::DW_LNS_SET_FILE => Opcode::SetFile(value),
+        constants::DW_LNS_SET_COLUMN => Opcode::SetColumn(value),
         _ => Opcode::SetIsa(value),
     }
 }
@@ -126,21 +127,24 @@ fn read_standard(rest: &[u8], opcode_base: u8) -> Result<ReadOpcode, Fault>
     ensures bound { IfErr result (λ f. f.place ≤ length rest.now) }
 {
     match rest[0] {
-        code @ (2 | 4 | 5 | 12) => {
+        code @ (constants::DW_LNS_ADVANCE_PC
+        | constants::DW_LNS_SET_FILE
+        | constants::DW_LNS_SET_COLUMN
+        | constants::DW_LNS_SET_ISA) => {
             let operand = unsigned_at(rest, 1)?;
             Ok(ReadOpcode {
                 opcode: with_unsigned(code, operand.value),
                 end: operand.end,
             })
         }
-        3 => {
+        constants::DW_LNS_ADVANCE_LINE => {
             let operand = signed_at(rest, 1)?;
             Ok(ReadOpcode {
                 opcode: Opcode::AdvanceLine(operand.value),
                 end: operand.end,
             })
         }
-        9 => {
+        constants::DW_LNS_FIXED_ADVANCE_PC => {
             if rest.len() < 3 {
                 return Err(fault_at(Kind::Short, 1));
             }
@@ -165,9 +169,12 @@ fn read_operation(bytes: &[u8], at: usize, count: usize) -> Result<Opcode, Fault
     ensures bound { IfErr result (λ f. f.place ≤ length bytes.now) }
 {
     match bytes[at] {
-        1 if count == 1 => Ok(Opcode::EndSequence),
-        2 if count == 9 => Ok(Opcode::SetAddress(u64_at(bytes, at + 1))),
-        4 => {
+        constants::DW_LNE_END_SEQUENCE if count == 1 => Ok(Opcode::EndSequence),
+        constants::DW_LNE_SET_ADDRESS if count == 9 => Ok(Opcode::SetAddress(u64_at(
+            bytes,
+            at + 1,
+        ))),
+        constants::DW_LNE_SET_DISCRIMINATOR => {
             let operand = unsigned_at(bytes, at + 1)?;
             if operand.end == at + count {
                 Ok(Opcode::SetDiscriminator(operand.value))

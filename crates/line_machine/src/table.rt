@@ -51,10 +51,7 @@ pub fn rows(alloc: Global, section: &[u8], head: &Head, origin: u64) -> Result<V
     let mut rows: Vec<Row> = Vec::new(alloc);
     let mut place = Place::start(head.stmt);
     loop {
-        let step = match next_row(section, head, origin, place) {
-            Ok(step) => step,
-            Err(fault) => return Err(Refusal::Refused(fault)),
-        };
+        let step = next_row(section, head, origin, place)?;
         let Some(row) = step.row else {
             return Ok(rows);
         };

@@ -16,7 +16,7 @@ use Rattle.line_step.specs.declared.way.RowWay.{RowWay}
 use Rattle.line_step.specs.Ways.{IsAddressWay, IsRowWay}
 use Rattle.line_params.specs.Shortest.{ShortestOpcode}
 use Rattle.line_params.specs.Order.{opcode_if, stmt_opcodes, number_opcodes, mark_opcodes, fixed_opcodes, advance_opcodes, address_opcodes, address_before, line_opcodes, row_opcode, StepOpcodes, RowOpcodes, EndOpcodes}
-use Rattle.line_params.specs.Appended.{AppendsOpcodes, AppendsSome}
+use Rattle.line_params.specs.inside.Appended.{AppendsOpcodes, AppendsSome}
 
 pub adds_none : (a : List ℕ) → AppendsOpcodes [] a a
 adds_none a = ([], refl, sym (append-nil a))

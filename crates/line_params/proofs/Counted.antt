@@ -13,7 +13,7 @@ use Rattle.line_params.specs.declared.step.Step.{Step}
 use Rattle.line_params.specs.declared.step.Step.TheVariants.{Row as RowStep, End as EndStep}
 use Rattle.line_params.specs.contracts.step.StepPartialEq.TheImpl.{eq-value}
 use Rattle.line_params.specs.Steps.{steps_from, steps_of, step_to, line_left_by, address_left_by}
-use Rattle.line_params.specs.Counting.{price_of, counted_price, count_of, IsCounted, step_in}
+use Rattle.line_params.specs.inside.Counting.{price_of, counted_price, count_of, IsCounted, step_in}
 
 -- the test that a set of steps asks
 pub same_true : (s t : Step) → eq-value.it s t ≡ true → s ≡ t

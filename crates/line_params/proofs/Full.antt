@@ -7,7 +7,7 @@ use Rattle.line_step.specs.declared.way.AddressOpcodes.{AddressOpcodes}
 use Rattle.line_step.specs.declared.way.AddressOpcodes.TheVariants.{SetAddress, AdvanceBy}
 use Rattle.line_step.specs.declared.way.AddressWay.{AddressWay}
 use Rattle.line_step.specs.Ways.{opcodes_bytes, IsAdvance, Advances, IsAddressWay}
-use Rattle.line_params.specs.Appended.{IsFullAdvance}
+use Rattle.line_params.specs.inside.Appended.{IsFullAdvance}
 
 -- one fixed_advance_pc less would be enough
 form_fewer : (range scale distance bytes : ℕ) (a : Advance) → bytes ≡ a.const_adds + 3 * a.fixed_adds + advance_pc_bytes a.operand → IsAdvance range scale distance a → a.fixed_sum < 65535 * (a.fixed_adds - 1) → AdvanceForm range scale distance (bytes - 3)

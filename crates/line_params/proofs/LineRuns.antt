@@ -9,7 +9,7 @@ use Rattle.leb_codec.proofs.Lens.{signed_lens}
 use Rattle.line_step.proofs.Parts.{line_none, line_some}
 use Rattle.line_step.proofs.Powers.{half_some}
 use Rattle.line_step.proofs.Remainders.{some_len, neg_rises, pos_rises}
-use Rattle.line_params.specs.PairSearch.{IsLineCost, IsLeastOfLen}
+use Rattle.line_params.specs.inside.PairSearch.{IsLineCost, IsLeastOfLen}
 
 pub least_of_one : IsLeastOfLen 1 (pos 1)
 least_of_one = record {

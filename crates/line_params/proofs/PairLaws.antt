@@ -10,8 +10,8 @@ use Rattle.line_params.specs.declared.choice.Choice.{Choice}
 use Rattle.line_params.specs.declared.count.CountedStep.{CountedStep}
 use Rattle.line_params.specs.declared.step.Step.{Step}
 use Rattle.line_params.specs.Pairs.{IsLeastPair}
-use Rattle.line_params.specs.Counting.{IsCounted, CountedWithin, counted_price, count_of, floor_of}
-use Rattle.line_params.specs.PairSearch.{AddsCost, AreSums, IsTried, IsBestTried, IsFirstLeast, base_at}
+use Rattle.line_params.specs.inside.Counting.{IsCounted, CountedWithin, counted_price, count_of, floor_of}
+use Rattle.line_params.specs.inside.PairSearch.{AddsCost, AreSums, IsTried, IsBestTried, IsFirstLeast, base_at}
 use Rattle.line_params.proofs.Prices.{number_or_not, none_least, more_least, counted_more, counted_split, count_cost, count_part, rest_low, rest_few, all_least, within_counted, counted_within}
 
 -- the place of a line_base

@@ -12,7 +12,7 @@ use Rattle.line_params.specs.declared.count.CountedStep.{CountedStep}
 use Rattle.line_params.specs.declared.step.Step.{Step}
 use Rattle.line_params.specs.declared.step.Step.TheVariants.{Row as RowStep, End as EndStep}
 use Rattle.line_params.specs.Steps.{StepCosts, StepsWithin}
-use Rattle.line_params.specs.Counting.{price_of, counted_price, IsCounted, ArePrices, CountedWithin, floor_of, level, count_of}
+use Rattle.line_params.specs.inside.Counting.{price_of, counted_price, IsCounted, ArePrices, CountedWithin, floor_of, level, count_of}
 
 abbrev IsOrNot : Step → Step → Type 0
 IsOrNot t s = (t ≡ s) ⊎ (t ≡ s → ⊥)

@@ -11,7 +11,7 @@ use Rattle.line_params.specs.declared.step.Step.TheVariants.{Row as RowStep, End
 use Rattle.line_params.specs.declared.sums.StepRun.{StepRun}
 use Rattle.line_params.specs.declared.window.Windows.{Windows}
 use Rattle.line_params.specs.Steps.{StepCosts}
-use Rattle.line_params.specs.PairSearch.{AreWindows, IsStepRun, AddsCost, base_at}
+use Rattle.line_params.specs.inside.PairSearch.{AreWindows, IsStepRun, AddsCost, base_at}
 use Rattle.line_params.proofs.Prices.{end_least}
 
 pub max_below : (x y z : ℤ) → x ≤ℤ z → y ≤ℤ z → int_max x y ≤ℤ z

@@ -8,7 +8,7 @@ use Rattle.leb_codec.specs.LineCosts.{IsLeastCost, AdvanceWithin, RowWithin, Ste
 use Rattle.line_step.proofs.NearWays.{nowhere}
 use Rattle.line_step.proofs.RowWays.{div_rises, opcode_is}
 use Rattle.line_params.specs.declared.window.Windows.{Windows}
-use Rattle.line_params.specs.PairSearch.{PartWithin, BeforeSpecial, IsReached, AreWindows, IsLineCost}
+use Rattle.line_params.specs.inside.PairSearch.{PartWithin, BeforeSpecial, IsReached, AreWindows, IsLineCost}
 
 -- the special opcode of a part and a remainder is reached with what the part takes
 reached : (range scale d part r bytes : ℕ) → r < range → part * range + r ≤ 242 → AdvanceWithin range scale (address_distance (part * scale) d) bytes → (s : ℕ) × (s ≤ 242) × (s % range ≡ r) × BeforeSpecial range scale d s bytes

@@ -16,7 +16,7 @@ use Rattle.line_step.specs.declared.way.AddressWay.{AddressWay}
 use Rattle.line_step.specs.Ways.{opcodes_bytes, IsAdvance, Advances, IsAddressWay}
 use Rattle.line_step.proofs.Parts.{pc_none, pc_some, line_none}
 use Rattle.line_params.specs.Order.{opcode_if, fixed_opcodes, advance_opcodes, address_opcodes, line_opcodes}
-use Rattle.line_params.specs.Appended.{IsFull, IsFullAdvance}
+use Rattle.line_params.specs.inside.Appended.{IsFull, IsFullAdvance}
 use Rattle.line_params.proofs.Doing.{Does, does_none, does_append, does_same, does_one, does_change, size_code, size_uleb, size_sleb, size_fixed, size_address}
 use Rattle.line_params.proofs.Full.{way_full}
 

@@ -21,7 +21,7 @@ use Rattle.line_params.specs.declared.step.Step.TheVariants.{Row as RowStep, End
 use Rattle.line_params.specs.Shortest.{ShortestOpcode}
 use Rattle.line_params.specs.Steps.{step_to, steps_from, steps_of, StepCosts, StepsWithin, left_by, set_bytes, set_bytes_from, fixed_bytes}
 use Rattle.line_params.specs.Order.{RowOpcodes, EndOpcodes, OpcodesIf, RowsOpcodes, AreInOrder}
-use Rattle.line_params.specs.Appended.{RowFits}
+use Rattle.line_params.specs.inside.Appended.{RowFits}
 use Rattle.line_params.proofs.ShortestLaws.{shortest_spell}
 use Rattle.line_params.proofs.Doing.{Does, does_none, does_append, len_most}
 use Rattle.line_params.proofs.Setting.{IsClear, register_same, register_other, no_discriminator, some_discriminator}

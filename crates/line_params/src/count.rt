@@ -2,7 +2,7 @@
 ghost use Rattle.std.specs.Prelude.{◌≡◌, ◌<◌, ◌+◌, ◌-◌, ◌^◌, ℕ, pos, length, map, All, IfOk, OnOk};
 ghost use Rattle.line_machine.specs.Class.{AreRows, IsRow};
 ghost use Rattle.line_params.specs.Steps.{steps_of, step_to, line_left_by, address_left_by};
-ghost use Rattle.line_params.specs.Counting.{IsCounted, HasLine, HasCountedLine, step_in, counted_price, count_of};
+ghost use Rattle.line_params.specs.inside.Counting.{IsCounted, HasLine, HasCountedLine, step_in, counted_price, count_of};
 
 use crate::step::Step;
 use dw_base::NoMemory;
@@ -76,20 +76,13 @@ fn count_step(
     ensures prices { OnOk result ((price : Step → ℕ) → counted_price price counted.new.items ≡ counted_price price counted.old.items + price step) }
     ensures lines { OnOk result (All HasCountedLine counted.old.items → HasLine step → All HasCountedLine counted.new.items) }
 {
-    let (index, is_new) = match seen.insert_full(step) {
-        Ok(place) => place,
-        Err(_) => return Err(NoMemory),
-    };
-    if is_new {
-        let first = CountedStep { step, count: 1 };
-        match counted.push(first) {
-            Ok(()) => Ok(()),
-            Err(_) => Err(NoMemory),
-        }
-    } else {
+    let (index, is_new) = seen.insert_full(step)?;
+    if !is_new {
         counted[index].count += 1;
-        Ok(())
+        return Ok(());
     }
+    counted.push(CountedStep { step, count: 1 })?;
+    Ok(())
 }
 
 // The different steps in the order in which they first come.
@@ -103,10 +96,7 @@ fn first_counts(alloc: Global, rows: &[Row]) -> Result<Vec<CountedStep>, NoMemor
     let mut counted = Vec::new(alloc);
     let mut place = START;
     for row in rows {
-        match count_step(&mut seen, &mut counted, step_to_row(place, row)) {
-            Ok(()) => {}
-            Err(error) => return Err(error),
-        }
+        count_step(&mut seen, &mut counted, step_to_row(place, row))?;
         place = place_after(row);
     }
     Ok(counted)
@@ -119,12 +109,7 @@ pub fn count_steps(alloc: Global, rows: &[Row]) -> Result<Vec<CountedStep>, NoMe
     ensures counted { IfOk result (λ counted. IsCounted (steps_of rows.now) counted.items) }
     ensures lines { IfOk result (λ counted. All HasCountedLine counted.items) }
 {
-    let mut counted = match first_counts(alloc, rows) {
-        Ok(counted) => counted,
-        Err(error) => return Err(error),
-    };
-    match counted.sort_by(|a, b| b.count.cmp(&a.count)) {
-        Ok(()) => Ok(counted),
-        Err(_) => Err(NoMemory),
-    }
+    let mut counted = first_counts(alloc, rows)?;
+    counted.sort_by(|a, b| b.count.cmp(&a.count))?;
+    Ok(counted)
 }

@@ -1,7 +1,7 @@
 // The bytes of line distances.
 ghost use Rattle.std.specs.Prelude.{◌≡◌, ◌≤◌, ◌<◌, ◌+◌, ◌-◌, ◌*◌, ◌^◌, pos, neg_ℤ, ◌≤ℤ◌};
 ghost use Rattle.leb_codec.specs.LineCosts.{advance_line_bytes};
-ghost use Rattle.line_params.specs.PairSearch.{IsLineRun, IsLeastOfLen};
+ghost use Rattle.line_params.specs.inside.PairSearch.{IsLineRun, IsLeastOfLen};
 
 use leb_codec::len_s;
 

@@ -4,7 +4,7 @@ ghost use Rattle.leb_codec.specs.LineCosts.{address_distance, fixed_advance_limi
 ghost use Rattle.line_machine.specs.Rows.{HasLine};
 ghost use Rattle.line_params.specs.Shortest.{HasCode};
 ghost use Rattle.line_params.specs.Order.{opcode_if, stmt_opcodes, number_opcodes, mark_opcodes, fixed_opcodes, advance_opcodes, address_opcodes, address_before, line_opcodes, row_opcode, StepOpcodes, RowOpcodes, EndOpcodes};
-ghost use Rattle.line_params.specs.Appended.{AppendsOpcodes, AppendsSome, IsFull, IsFullAdvance};
+ghost use Rattle.line_params.specs.inside.Appended.{AppendsOpcodes, AppendsSome, IsFull, IsFullAdvance};
 
 use crate::write::put_opcode;
 use dw_base::NoMemory;

@@ -39,14 +39,8 @@ pub fn least_pair(alloc: Global, head: &Head, rows: &[Row]) -> Result<Pair, NoMe
     if rows.len() > MOST_ROWS {
         return Err(NoMemory);
     }
-    let counted = match count_steps(alloc, rows) {
-        Ok(counted) => counted,
-        Err(error) => return Err(error),
-    };
-    let mut sums = match zeros(alloc, BASES) {
-        Ok(sums) => sums,
-        Err(error) => return Err(error),
-    };
+    let counted = count_steps(alloc, rows)?;
+    let mut sums = zeros(alloc, BASES)?;
     Ok(best_choice(head, &counted, &mut sums).pair)
 }
 
@@ -54,8 +48,5 @@ pub fn least_pair(alloc: Global, head: &Head, rows: &[Row]) -> Result<Pair, NoMe
 fn zeros(alloc: Global, count: usize) -> Result<Vec<u64>, NoMemory>
     ensures { IfOk result (λ sums. length sums.items ≡ count) }
 {
-    match vec![in alloc; 0u64; count] {
-        Ok(sums) => Ok(sums),
-        Err(_) => Err(NoMemory),
-    }
+    Ok(vec![in alloc; 0u64; count]?)
 }

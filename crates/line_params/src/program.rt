@@ -41,17 +41,12 @@ pub fn shrink_program(alloc: Global, head: &Head, rows: &Vec<Row>) -> Result<Pro
     // Read here, so that the proof knows it for a byte.
     let _scale = head.min;
     let rows = rows.as_slice();
-    let pair = match least_pair(alloc, head, rows) {
-        Ok(pair) => pair,
-        Err(error) => return Err(error),
-    };
-    match write_rows(alloc, head, pair.base, pair.range, rows) {
-        Ok(bytes) => Ok(Program {
-            base: pair.base,
-            range: pair.range,
-            bytes,
-            runs: Vec::new(alloc),
-        }),
-        Err(error) => Err(error),
-    }
+    let pair = least_pair(alloc, head, rows)?;
+    let bytes = write_rows(alloc, head, pair.base, pair.range, rows)?;
+    Ok(Program {
+        base: pair.base,
+        range: pair.range,
+        bytes,
+        runs: Vec::new(alloc),
+    })
 }

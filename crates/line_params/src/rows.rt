@@ -4,7 +4,7 @@ ghost use Rattle.line_machine.specs.Rows.{HasLine};
 ghost use Rattle.line_machine.specs.Class.{IsEncoding, IsRow, AreRows};
 ghost use Rattle.line_params.specs.Steps.{StepsWithin, steps_of, fixed_bytes, left_by};
 ghost use Rattle.line_params.specs.Order.{OpcodesIf, AreInOrder};
-ghost use Rattle.line_params.specs.Appended.{AppendsSome, RowFits};
+ghost use Rattle.line_params.specs.inside.Appended.{AppendsSome, RowFits};
 
 use crate::opcodes::{address_distance, put_end, put_row};
 use dw_base::NoMemory;

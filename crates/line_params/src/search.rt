@@ -2,8 +2,8 @@
 ghost use Rattle.std.specs.Prelude.{◌≡◌, ◌≤◌, ◌<◌, ◌+◌, ◌-◌, ◌*◌, ◌^◌, ℕ, ℤ, All, length, slice_index, false, IsTrue};
 ghost use Rattle.leb_codec.specs.LineCosts.{IsLeastCost};
 ghost use Rattle.line_params.specs.Steps.{StepCosts};
-ghost use Rattle.line_params.specs.Counting.{CountedWithin, HasCountedLine, HasLine, count_of, counted_price, floor_of};
-ghost use Rattle.line_params.specs.PairSearch.{AreSums, IsBestTried, IsFirstLeast, base_at};
+ghost use Rattle.line_params.specs.inside.Counting.{CountedWithin, HasCountedLine, HasLine, count_of, counted_price, floor_of};
+ghost use Rattle.line_params.specs.inside.PairSearch.{AreSums, IsBestTried, IsFirstLeast, base_at};
 
 use crate::choice::Choice;
 use crate::count::CountedStep;

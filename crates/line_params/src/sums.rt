@@ -1,7 +1,7 @@
 // What steps cost under each line_base.
 ghost use Rattle.std.specs.Prelude.{◌≡◌, ◌≤◌, ◌<◌, ◌+◌, ◌-◌, ◌*◌, ◌^◌, ℕ, ℤ, pos, neg_ℤ, ◌≤ℤ◌, ◌<ℤ◌, ◌-ℤ◌, length, slice_index};
-ghost use Rattle.line_params.specs.Counting.{HasCountedLine};
-ghost use Rattle.line_params.specs.PairSearch.{AddsCost, IsStepRun, base_at};
+ghost use Rattle.line_params.specs.inside.Counting.{HasCountedLine};
+ghost use Rattle.line_params.specs.inside.PairSearch.{AddsCost, IsStepRun, base_at};
 ghost use Rattle.line_params.specs.declared.step.Step.TheVariants.{Row as RowStep};
 
 use crate::count::CountedStep;

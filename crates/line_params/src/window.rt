@@ -1,7 +1,7 @@
 // The address before a row's special opcode.
 ghost use Rattle.std.specs.Prelude.{◌≡◌, ◌≤◌, ◌<◌, ◌*◌, ◌/◌, ◌%◌};
 ghost use Rattle.leb_codec.specs.LineCosts.{IsLeastCost, AdvanceWithin, last_special, address_distance};
-ghost use Rattle.line_params.specs.PairSearch.{PartWithin, AreWindows};
+ghost use Rattle.line_params.specs.inside.PairSearch.{PartWithin, AreWindows};
 
 use line_step::advance;
 

@@ -7,7 +7,7 @@ ghost use Rattle.line_machine.specs.declared.opcode.Opcode.{Opcode as AnOpcode};
 ghost use Rattle.line_params.specs.Shortest.{ShortestUleb, WithShortestUleb, WithShortestSleb, ShortestExtended, ShortestOpcode, HasCode};
 
 use byteorder::{ByteOrder, LittleEndian};
-use dw_base::NoMemory;
+use dw_base::{NoMemory, constants};
 use leb_codec::{len_u, put_s, put_u};
 use line_machine::Opcode;
 
@@ -77,7 +77,7 @@ fn put_end_sequence(out: &mut Vec<u8>) -> Result<(), NoMemory>
     ensures err { OnErr result (Extends out.old.items out.new.items) }
 {
     put_extended(out, 1)?;
-    put_code(out, 1)
+    put_code(out, constants::DW_LNE_END_SEQUENCE)
 }
 
 // Appends a set_address.
@@ -86,7 +86,7 @@ fn put_set_address(out: &mut Vec<u8>, address: u64) -> Result<(), NoMemory>
     ensures err { OnErr result (Extends out.old.items out.new.items) }
 {
     put_extended(out, 9)?;
-    put_with_u64(out, 2, address)
+    put_with_u64(out, constants::DW_LNE_SET_ADDRESS, address)
 }
 
 // Appends a set_discriminator.
@@ -95,7 +95,7 @@ fn put_set_discriminator(out: &mut Vec<u8>, value: u64) -> Result<(), NoMemory>
     ensures err { OnErr result (Extends out.old.items out.new.items) }
 {
     put_extended(out, 1 + u64::from(len_u(value)))?;
-    put_with_unsigned(out, 4, value)
+    put_with_unsigned(out, constants::DW_LNE_SET_DISCRIMINATOR, value)
 }
 
 // Appends the shortest bytes of an opcode, or a front of them.
@@ -105,18 +105,22 @@ fn push_opcode(out: &mut Vec<u8>, opcode: Opcode, opcode_base: u8) -> Result<(),
     ensures err { OnErr result (Extends out.old.items out.new.items) }
 {
     match opcode {
-        Opcode::Copy => put_code(out, 1),
-        Opcode::AdvancePc(value) => put_with_unsigned(out, 2, value),
-        Opcode::AdvanceLine(value) => put_with_signed(out, 3, value),
-        Opcode::SetFile(value) => put_with_unsigned(out, 4, value),
-        Opcode::SetColumn(value) => put_with_unsigned(out, 5, value),
-        Opcode::NegateStmt => put_code(out, 6),
-        Opcode::SetBasicBlock => put_code(out, 7),
-        Opcode::ConstAddPc => put_code(out, 8),
-        Opcode::FixedAdvancePc(value) => put_with_u16(out, 9, value),
-        Opcode::SetPrologueEnd => put_code(out, 10),
-        Opcode::SetEpilogueBegin => put_code(out, 11),
-        Opcode::SetIsa(value) => put_with_unsigned(out, 12, value),
+        Opcode::Copy => put_code(out, constants::DW_LNS_COPY),
+        Opcode::AdvancePc(value) => put_with_unsigned(out, constants::DW_LNS_ADVANCE_PC, value),
+        Opcode::AdvanceLine(value) => put_with_signed(out, constants::DW_LNS_ADVANCE_LINE, value),
+        Opcode::SetFile(value) => put_with_unsigned(out, constants::DW_LNS_SET_FILE, value),
+        Opcode::SetColumn(value) => put_with_unsigned(out, constants::DW_LNS_SET_COLUMN, value),
+        Opcode::NegateStmt => put_code(out, constants::DW_LNS_NEGATE_STMT),
+        Opcode::SetBasicBlock => put_code(out, constants::DW_LNS_SET_BASIC_BLOCK),
+        Opcode::ConstAddPc => put_code(out, constants::DW_LNS_CONST_ADD_PC),
+        Opcode::FixedAdvancePc(value) => put_with_u16(
+            out,
+            constants::DW_LNS_FIXED_ADVANCE_PC,
+            value,
+        ),
+        Opcode::SetPrologueEnd => put_code(out, constants::DW_LNS_SET_PROLOGUE_END),
+        Opcode::SetEpilogueBegin => put_code(out, constants::DW_LNS_SET_EPILOGUE_BEGIN),
+        Opcode::SetIsa(value) => put_with_unsigned(out, constants::DW_LNS_SET_ISA, value),
         Opcode::EndSequence => put_end_sequence(out),
         Opcode::SetAddress(address) => put_set_address(out, address),
         Opcode::SetDiscriminator(value) => put_set_discriminator(out, value),

@@ -7,7 +7,7 @@ use Rattle.line_step.specs.declared.way.AddressOpcodes.{AddressOpcodes}
 use Rattle.line_step.specs.declared.way.AddressOpcodes.TheVariants.{SetAddress, AdvanceBy}
 use Rattle.line_step.specs.declared.way.AddressWay.{AddressWay}
 use Rattle.line_step.specs.Ways.{opcodes_bytes, Advances, IsNotAfter, ComesFirst, IsAddressWay}
-use Rattle.line_step.specs.Search.{IsOperandFor, IsWay, HasCounts, LeavesLeast, IsBestWith, IsBefore, HasCountsBefore, ComesFirstBefore, IsBestBefore}
+use Rattle.line_step.specs.inside.Search.{IsOperandFor, IsWay, HasCounts, LeavesLeast, IsBestWith, IsBefore, HasCountsBefore, ComesFirstBefore, IsBestBefore}
 
 set_way : (range scale d : ℕ) → IsWay range scale d (record { opcodes = SetAddress; bytes = 11 })
 set_way range scale d = record {

@@ -5,7 +5,7 @@ use Rattle.std.proofs.Math.Nat.{mul-le-mul_right}
 use Rattle.leb_codec.specs.Leb.{least_unsigned_len}
 use Rattle.leb_codec.specs.LineCosts.{advance_pc_bytes}
 use Rattle.leb_codec.proofs.Lens.{unsigned_lens}
-use Rattle.line_step.specs.Search.{IsOperandFor}
+use Rattle.line_step.specs.inside.Search.{IsOperandFor}
 use Rattle.line_step.proofs.Parts.{pc_none, pc_some, pc_rises, pc_below, pc_short, pc_free}
 
 -- no advance_pc is wanted

@@ -9,7 +9,7 @@ use Rattle.std.proofs.lemmas.Bool.{cases_lt}
 use Rattle.leb_codec.specs.Leb.{FitsSignedLen, least_signed_len}
 use Rattle.leb_codec.specs.LineCosts.{advance_line_bytes}
 use Rattle.leb_codec.proofs.Lens.{signed_lens}
-use Rattle.line_step.specs.Search.{IsRemainderFor}
+use Rattle.line_step.specs.inside.Search.{IsRemainderFor}
 use Rattle.line_step.proofs.Parts.{line_none, line_some, line_opcode, zero_or}
 use Rattle.line_step.proofs.Powers.{half_some}
 

@@ -12,7 +12,7 @@ use Rattle.line_step.specs.declared.way.RowOpcode.{RowOpcode}
 use Rattle.line_step.specs.declared.way.RowOpcode.TheVariants.{Copy, Special}
 use Rattle.line_step.specs.declared.way.RowWay.{RowWay}
 use Rattle.line_step.specs.Ways.{IsAddressWay, IsRowWay, opcode_number, line_before, distance_before, OpcodeWithin}
-use Rattle.line_step.specs.Search.{IsRemainderFor, IsLinePart, IsOfPart, IsBestOfPart, IsOfParts, IsBestOfParts}
+use Rattle.line_step.specs.inside.Search.{IsRemainderFor, IsLinePart, IsOfPart, IsBestOfPart, IsOfParts, IsBestOfParts}
 use Rattle.line_step.proofs.Parts.{line_opcode}
 use Rattle.line_step.proofs.Remainders.{near_len}
 

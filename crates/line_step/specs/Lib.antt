@@ -1,4 +1,4 @@
 pub mod Formulas
 pub mod Laws
-pub mod Search
 pub mod Ways
+pub mod inside

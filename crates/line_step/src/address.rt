@@ -2,7 +2,7 @@
 ghost use Rattle.std.specs.Prelude.{◌≡◌, ◌≢◌, ◌≤◌, ◌<◌, ◌+◌, ◌*◌, ◌/◌, ◌^◌, ℕ, IfSome, IsNone};
 ghost use Rattle.leb_codec.specs.LineCosts.{IsLeastCost, AdvanceWithin, AdvanceForm, advance_pc_bytes};
 ghost use Rattle.line_step.specs.Ways.{IsAddressWay};
-ghost use Rattle.line_step.specs.Search.{IsOperandFor, IsBestWith, IsBestBefore};
+ghost use Rattle.line_step.specs.inside.Search.{IsOperandFor, IsBestWith, IsBestBefore};
 
 use crate::way::{AddressOpcodes, AddressWay, Advance};
 use leb_codec::len_u;

@@ -2,7 +2,7 @@
 ghost use Rattle.std.specs.Prelude.{◌≡◌, ◌≤◌, ◌<◌, ◌+◌, ◌-◌, ◌*◌, ◌/◌, ◌^◌, ℕ, pos, neg_ℤ, ◌≤ℤ◌, ◌<ℤ◌, ◌-ℤ◌, ◌+ℤ◌, IfSome, IsNone};
 ghost use Rattle.leb_codec.specs.LineCosts.{IsLeastCost, StepWithin, SpecialWithin, advance_line_bytes, last_special};
 ghost use Rattle.line_step.specs.Ways.{IsRowWay};
-ghost use Rattle.line_step.specs.Search.{IsRemainderFor, IsLinePart, IsBestOfPart, IsBestOfParts};
+ghost use Rattle.line_step.specs.inside.Search.{IsRemainderFor, IsLinePart, IsBestOfPart, IsBestOfParts};
 
 use crate::address::{LAST_SPECIAL, advance_way};
 use crate::way::{RowOpcode, RowWay};

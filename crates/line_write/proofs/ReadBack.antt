@@ -7,7 +7,8 @@ use Rattle.std.proofs.lemmas.List.{length-append, take-take}
 use Rattle.byteorder.specs.Endian.{little_bytes}
 use Rattle.byteorder.specs.Numbers.{length-bytes_low_first}
 use Rattle.fixed_width.specs.Numbers.{number_at}
-use Rattle.line_machine.specs.Heads.{unit_length, version, header_length, minimum_instruction_length, default_is_stmt, line_base, line_range, opcode_base, standard_opcode_lengths, operand_counts, unit_end, tables_at, program_at, LeavesSection, HasNumbers, HasHead, head_at, program_of}
+use Rattle.fixed_width.specs.InitialLengths.{unit_length, version, unit_end, LeavesSection}
+use Rattle.line_machine.specs.Heads.{header_length, minimum_instruction_length, default_is_stmt, line_base, line_range, opcode_base, standard_opcode_lengths, operand_counts, tables_at, program_at, HasNumbers, HasHead, head_at, program_of}
 use Rattle.line_machine.specs.Class.{Encoding, IsPair}
 use Rattle.line_machine.proofs.Parts.{number_part}
 use Rattle.line_write.specs.Programs.{version_of, instruction_of, tables_of, counted, header_of, body_of}
@@ -23,7 +24,7 @@ pub record Bounds (section : List ℕ) (at : ℕ) : Type 0 where
 
 pub bounds : (section : List ℕ) (at : ℕ) → HasHead section at → Bounds section at
 bounds section at rules =
-    let no : ¬ (length section < at + 4 + unit_length section at) = λ z. rules.here (inr (inl z)) in
+    let no : ¬ (length section < at + 4 + unit_length section at) = λ z. rules.here (inr (inr z)) in
     record {
       tables = rules.lengths.before_program;
       program = rules.lengths.in_unit;
@@ -260,13 +261,13 @@ module _ (section : List ℕ) (at : ℕ) (e : Encoding) (bytes : List ℕ) (p : 
 
   stays : ¬ LeavesSection bytes p
   stays (inl short) = let all : p + 30 + length t + length e.bytes ≤ length bytes = inside in absurd (omega arith)
-  stays (inr (inl long)) =
-      let all : p + 30 + length t + length e.bytes ≤ length bytes = inside in
-      let size : unit_length bytes p ≡ 26 + length t + length e.bytes = length_is in
-      absurd (omega arith)
-  stays (inr (inr reserved)) =
+  stays (inr (inl reserved)) =
       let size : unit_length bytes p ≡ 26 + length t + length e.bytes = length_is in
       let size2 : length (body_of section (head_at section at) e) ≡ 26 + length t + length e.bytes = body_size v i t e.bytes b e.range old.version old.instruction in
+      absurd (omega arith)
+  stays (inr (inr long)) =
+      let all : p + 30 + length t + length e.bytes ≤ length bytes = inside in
+      let size : unit_length bytes p ≡ 26 + length t + length e.bytes = length_is in
       absurd (omega arith)
 
   has : HasHead bytes p

@@ -9,10 +9,12 @@ use Rattle.dw_base.specs.Refusals.{IsFaultOf, IsFaulty}
 use Rattle.line_machine.specs.declared.head.Head.{Head}
 use Rattle.line_machine.specs.declared.registers.Row.{Row}
 use Rattle.line_machine.specs.Rows.{GivesRows, HasRows}
-use Rattle.line_machine.specs.Heads.{head_at, IsHead, unit_end, program_of}
+use Rattle.fixed_width.specs.InitialLengths.{unit_end}
+use Rattle.line_machine.specs.Heads.{head_at, IsHead, program_of}
 use Rattle.line_machine.specs.Faults.{HeadFault, ProgramFault, row_limit}
 use Rattle.line_machine.proofs.Programs.{based_of, one_reading}
-use Rattle.line_write.specs.Programs.{Follow, Tile, GivesFew}
+use Rattle.line_write.specs.Programs.{Follow, Tile}
+use Rattle.line_write.specs.inside.Programs.{GivesFew}
 use Rattle.line_write.specs.Faults.{total_limit, LinesFault}
 use Rattle.line_write.specs.Readings.{AreRead}
 use Rattle.line_write.proofs.ReadBack.{bounds}

@@ -6,11 +6,13 @@ use Rattle.spelled.specs.Spelled.{Joined}
 use Rattle.line_machine.specs.declared.head.Head.{Head}
 use Rattle.line_machine.specs.declared.registers.Row.{Row}
 use Rattle.line_machine.specs.Rows.{GivesRows}
-use Rattle.line_machine.specs.Heads.{head_at, IsHead, unit_end, header_length, opcode_base, program_of}
+use Rattle.fixed_width.specs.InitialLengths.{unit_end}
+use Rattle.line_machine.specs.Heads.{head_at, IsHead, header_length, opcode_base, program_of}
 use Rattle.line_machine.specs.Class.{Encoding, IsTaken, with_pair}
 use Rattle.line_params.specs.Order.{AreInOrder}
 use Rattle.line_machine.specs.Faults.{row_limit}
-use Rattle.line_write.specs.Programs.{Follow, Tile, tables_of, counted, body_of, IsLeastFor, IsRewrittenUnit, AreRewritten}
+use Rattle.line_write.specs.Programs.{Follow, Tile, tables_of, counted, body_of, IsRewrittenUnit, AreRewritten}
+use Rattle.line_write.specs.inside.Programs.{IsLeastFor}
 use Rattle.line_write.specs.Meaning.{ProgramMeaning, HasMeaning, HaveMeanings, SameLines}
 use Rattle.line_write.specs.Least.{encoding_at, IsLeastProgram, IsOrderedProgram, AreEach, LeastLines, OrderedLines}
 use Rattle.line_write.specs.Faults.{total_limit}
@@ -113,9 +115,9 @@ module _ (section : List ℕ) (at : ℕ) (w : Written section (head_at section a
       min = back.min;
       stmt = ap (λ z. not (nat_eq z 0)) back.is_stmt;
       opcode_base = back.opcode_base;
-      taken = subst IsTakenFor same w.taken;
+      least = (subst IsTakenFor same w.taken).least;
     };
-    ordered = record { rows = w.rows; given = w.given; order = subst IsOrdered same w.order };
+    ordered = record { rows = w.rows; given = w.given; first = (subst IsTakenFor same w.taken).first; order = subst IsOrdered same w.order };
   }
 
 -- a unit that was written is read back

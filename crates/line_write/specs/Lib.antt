@@ -4,3 +4,4 @@ pub mod Least
 pub mod Meaning
 pub mod Programs
 pub mod Readings
+pub mod inside

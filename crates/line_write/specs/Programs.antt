@@ -1,5 +1,5 @@
 -- The line number programs of a section (DWARF 5 section 6.2.4), one after the other, and how each is written anew.
-use Rattle.std.specs.Prelude.{◌≡◌, ◌+◌, ℕ, ℤ, List, [], ◌∷◌, ◌++◌, length, take, drop, ◌≤◌, ◌*◌}
+use Rattle.std.specs.Prelude.{◌≡◌, ◌+◌, ℕ, ℤ, List, [], ◌∷◌, ◌++◌, length, take, drop}
 use Rattle.std.specs.Int.{w8, cast_unsigned}
 use Rattle.byteorder.specs.Endian.{little_bytes}
 use Rattle.spelled.specs.Spelled.{Joined}
@@ -7,7 +7,6 @@ use Rattle.line_machine.specs.declared.head.Head.{Head}
 use Rattle.line_machine.specs.declared.registers.Row.{Row}
 use Rattle.line_machine.specs.Rows.{GivesRows}
 use Rattle.line_machine.specs.Heads.{IsHead, program_of, operand_counts}
-use Rattle.line_machine.specs.Faults.{row_limit}
 use Rattle.line_machine.specs.Class.{Encoding, IsTaken}
 use Rattle.line_params.specs.Order.{AreInOrder}
 
@@ -45,20 +44,6 @@ header_of section head base range =
 -- what unit_length counts: the rest of the header, and the program
 abbrev pub body_of : List ℕ → Head → Encoding → List ℕ
 body_of section head e = version_of section head ++ (counted (header_of section head e.base e.range) ++ e.bytes)
-
--- The program of a head gives rows, no more than one may have.
-abbrev pub GivesFew : List ℕ → Head → Type 0
-GivesFew section head = (rows : List Row) × GivesRows head (program_of section head) rows × (length rows ≤ row_limit)
-
--- The encoding is the one that is taken for the rows of a head's program, and its opcodes stand in the order that
--- line_params states. No row has more than 68 of its bytes.
-pub record IsLeastFor (section : List ℕ) (head : Head) (encoding : Encoding) : Type 0 where
-  pub rows : List Row
-  pub given : GivesRows head (program_of section head) rows
-  pub few : length rows ≤ row_limit
-  pub taken : IsTaken head rows encoding
-  pub order : AreInOrder head.stmt encoding.base encoding.range head.min rows encoding.bytes
-  pub short : length encoding.bytes ≤ 68 * length rows
 
 -- The unit is the head's with the encoding that is taken for its rows, whose opcodes stand in the order that line_params
 -- states.

@@ -1,7 +1,8 @@
 // All programs of a section written anew.
 ghost use Rattle.std.specs.Prelude.{◌≡◌, ◌≤◌, ◌<◌, ◌+◌, ◌*◌, ◌^◌, [], ◌∷◌, ◌++◌, length, IfOk, OnOk};
 ghost use Rattle.line_machine.specs.Heads.{IsHead};
-ghost use Rattle.line_write.specs.Programs.{GivesFew, IsLeastFor, AreRewritten};
+ghost use Rattle.line_write.specs.Programs.{AreRewritten};
+ghost use Rattle.line_write.specs.inside.Programs.{GivesFew, IsLeastFor};
 ghost use Rattle.line_write.specs.Meaning.{SameLines};
 ghost use Rattle.line_write.specs.Least.{LeastLines, OrderedLines};
 ghost use Rattle.line_write.specs.Faults.{total_limit};

@@ -36,14 +36,8 @@ pub fn read_lines(alloc: Global, section: &[u8], origin: u64) -> Result<Vec<Head
     let mut at = 0;
     let mut total = 0;
     while at < section.len() as u64 {
-        let head = match Head::read(section, at, origin) {
-            Ok(head) => head,
-            Err(fault) => return Err(Refusal::Refused(fault)),
-        };
-        match count_rows(section, &head, origin) {
-            Ok(count) => total += count,
-            Err(fault) => return Err(Refusal::Refused(fault)),
-        }
+        let head = Head::read(section, at, origin)?;
+        total += count_rows(section, &head, origin)?;
         if total > TOTAL_LIMIT {
             return Err(Refusal::Refused(Fault {
                 kind: Kind::Limit,

@@ -7,7 +7,7 @@ use Rattle.dw_base.specs.declared.fault.Kind.{Kind}
 use Rattle.dw_base.specs.declared.fault.Kind.TheVariants.{Short, ListEntry}
 use Rattle.dw_base.specs.Refusals.{IsFaulty}
 use Rattle.list_model.specs.declared.contribution.Contribution.{Contribution}
-use Rattle.list_model.specs.Headers.{unit_length, unit_end}
+use Rattle.fixed_width.specs.InitialLengths.{unit_length, unit_end, least_reserved}
 use Rattle.list_model.specs.Contributions.{offset_entry_count, part_end, IsContribution, ContributionsFollow, ContributionsTile, HoldsList}
 use Rattle.list_model.specs.Faults.{FaultContribution, FaultContributions}
 
@@ -32,7 +32,7 @@ each_part section (part ∷ parts) a end f = All-cons (IsContribution section) p
 -- a contribution has no fault
 part_whole : (section : List ℕ) (part : Contribution) (kind : Kind) (place : ℕ) → IsContribution section part → FaultContribution section part.at kind place → ⊥
 part_whole section part Short place h (inl (e, f)) =
-    let usual : unit_length section part.at < 4294967280 = h.whole.usual in
+    let usual : unit_length section part.at < least_reserved = h.whole.usual in
     let inside : unit_end section part.at ≤ length section = h.whole.inside in
     let fits : part.at + 12 ≤ unit_end section part.at = h.header.fits in
     elim f [

@@ -6,7 +6,8 @@ use Rattle.list_model.specs.declared.entry.EntryKind.TheVariants.{StartxLength, 
 use Rattle.list_model.specs.declared.walk.Step.{Step}
 use Rattle.list_model.specs.declared.walk.Step.TheVariants.{Base, Between, Elsewhere, Over}
 use Rattle.list_model.specs.Items.{IsIndexed, HasBounds}
-use Rattle.list_model.specs.Steps.{IsSpan, IsStep}
+use Rattle.list_model.specs.Steps.{IsStep}
+use Rattle.list_model.specs.inside.Steps.{IsSpan}
 use Rattle.list_model.specs.Items.Bounds.{between}
 
 -- an item of these bounds has these bounds as numbers

@@ -8,7 +8,8 @@ use Rattle.dw_base.specs.declared.fault.Kind.TheVariants.{Short, ListEntry}
 use Rattle.dw_base.specs.Refusals.{IsFaulty}
 use Rattle.fixed_width.specs.Numbers.{number, number_at}
 use Rattle.list_model.specs.declared.tables.AddrTable.{AddrTable}
-use Rattle.list_model.specs.Headers.{unit_length, unit_end, IsWhole, IsHeader}
+use Rattle.fixed_width.specs.InitialLengths.{unit_length, unit_end, IsWhole, least_reserved}
+use Rattle.list_model.specs.Headers.{IsHeader}
 use Rattle.list_model.specs.Addresses.{table_header_size, IsAddrTable, TablesFollow, IsReached, HasBase}
 use Rattle.list_model.specs.Faults.{FaultTable, FaultBefore}
 
@@ -21,7 +22,7 @@ byte_at section at =
     omega arith
 
 -- some table stands at a place
-abbrev HasTable : List ℕ → ℕ → Type 0
+abbrev pub HasTable : List ℕ → ℕ → Type 0
 HasTable section at = (count : ℕ) × IsAddrTable section (record { at = at; count = count })
 
 has_table : (section : List ℕ) (table : AddrTable) (at : ℕ) → IsAddrTable section table → table.at ≡ at → HasTable section at
@@ -30,7 +31,7 @@ has_table section table at h e = (table.count, subst (λ (z : ℕ). IsAddrTable 
 -- a table has no fault
 table_whole : (section : List ℕ) (at : ℕ) (kind : Kind) (place : ℕ) → HasTable section at → FaultTable section at kind place → ⊥
 table_whole section at Short place (count, h) (inl (e, f)) =
-    let usual : unit_length section at < 4294967280 = h.whole.usual in
+    let usual : unit_length section at < least_reserved = h.whole.usual in
     let inside : unit_end section at ≤ length section = h.whole.inside in
     let fits : at + 8 ≤ unit_end section at = h.header.fits in
     elim f [
@@ -54,7 +55,7 @@ cut_fault section at end cut whole header ends left some =
     inr (whole, header, record { index = (end - at - 8) / 8; begins = omega arith; inside = omega arith; outside = omega arith })
 
 -- tables lead to no place before their own
-follow_order : (section : List ℕ) (tables : List AddrTable) (a b : ℕ) → TablesFollow section tables a b → a ≤ b
+pub follow_order : (section : List ℕ) (tables : List AddrTable) (a b : ℕ) → TablesFollow section tables a b → a ≤ b
 follow_order section [] a b e = let same : a ≡ b = e in omega arith
 follow_order section (t ∷ tables) a b f =
     let rest : unit_end section t.at ≤ b = follow_order section tables (unit_end section t.at) b f.2 in
@@ -63,11 +64,11 @@ follow_order section (t ∷ tables) a b f =
     omega arith
 
 -- two tables at a place end alike
-same_end : (section : List ℕ) (one other : AddrTable) (a : ℕ) → one.at ≡ a → other.at ≡ a → unit_end section one.at ≡ unit_end section other.at
+pub same_end : (section : List ℕ) (one other : AddrTable) (a : ℕ) → one.at ≡ a → other.at ≡ a → unit_end section one.at ≡ unit_end section other.at
 same_end section one other a e f = ap (unit_end section) (e ∙ sym f)
 
 -- of two places that tables lead to, a table stands at the lower one and ends before the other
-below : (section : List ℕ) (ts us : List AddrTable) (a p q : ℕ) → TablesFollow section ts a p → TablesFollow section us a q → p < q → HasTable section p × (unit_end section p ≤ q)
+pub below : (section : List ℕ) (ts us : List AddrTable) (a p q : ℕ) → TablesFollow section ts a p → TablesFollow section us a q → p < q → HasTable section p × (unit_end section p ≤ q)
 below section [] [] a p q f g less =
     let e : a ≡ p = f in
     let d : a ≡ q = g in
@@ -90,7 +91,7 @@ reached_below : (section : List ℕ) (p q : ℕ) → IsReached section p → IsR
 reached_below section p q (ts, f) (us, g) less = below section ts us 0 p q f g less
 
 -- one more table
-follow_push : (section : List ℕ) (tables : List AddrTable) (table : AddrTable) (a b : ℕ) → TablesFollow section tables a b → table.at ≡ b → IsAddrTable section table → TablesFollow section (tables ++ table ∷ []) a (unit_end section b)
+pub follow_push : (section : List ℕ) (tables : List AddrTable) (table : AddrTable) (a b : ℕ) → TablesFollow section tables a b → table.at ≡ b → IsAddrTable section table → TablesFollow section (tables ++ table ∷ []) a (unit_end section b)
 follow_push section [] table a b e at h = (at ∙ sym e, h, ap (unit_end section) at)
 follow_push section (x ∷ tables) table a b f at h = (f.0, f.1, follow_push section tables table (unit_end section x.at) b f.2 at h)
 

@@ -1,8 +1,9 @@
 -- The address tables of .debug_addr (DWARF 5 section 7.27), in the 32-bit format, with addresses of 8 bytes. Places count from
 -- the section's first byte.
-use Rattle.std.specs.Prelude.{◌≡◌, ◌≤◌, ◌<◌, ◌+◌, ◌*◌, ℕ, List, [], ◌∷◌, length}
+use Rattle.std.specs.Prelude.{◌≡◌, ◌≢◌, ◌≤◌, ◌<◌, ◌+◌, ◌*◌, ℕ, List, [], ◌∷◌, length}
 use Rattle.fixed_width.specs.Numbers.{number_at}
-use Rattle.list_model.specs.Headers.{unit_end, IsWhole, IsHeader}
+use Rattle.fixed_width.specs.InitialLengths.{unit_end, IsWhole}
+use Rattle.list_model.specs.Headers.{IsHeader}
 use Rattle.list_model.specs.declared.tables.AddrTable.{AddrTable}
 
 -- how many bytes its header has
@@ -35,6 +36,13 @@ TablesFollow section (table ∷ tables) at end = (table.at ≡ at) × IsAddrTabl
 -- tables stand from the section's first byte up to a place
 abbrev pub IsReached : List ℕ → ℕ → Type 0
 IsReached section at = (tables : List AddrTable) × TablesFollow section tables 0 at
+
+-- All tables of a section: they stand one after the other from its first byte up to a place at which none stands. That is the
+-- section's end, or a table has a fault there.
+pub record AreAllTables (section : List ℕ) (tables : List AddrTable) : Type 0 where
+  pub end : ℕ
+  pub follow : TablesFollow section tables 0 end
+  pub over : (table : AddrTable) → IsAddrTable section table → table.at ≢ end
 
 -- A table would begin at a place: there are bytes, and tables stand from the section's first byte up to there. The place is 8
 -- bytes before a base or earlier.

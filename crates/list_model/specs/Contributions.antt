@@ -2,7 +2,8 @@
 -- 8 bytes: a header, a table of offsets, and lists. Places count from the section's first byte.
 use Rattle.std.specs.Prelude.{◌≡◌, ◌≤◌, ◌<◌, ◌+◌, ◌-◌, ◌*◌, ℕ, List, [], ◌∷◌, length, take, drop}
 use Rattle.fixed_width.specs.Numbers.{number_at}
-use Rattle.list_model.specs.Headers.{unit_end, IsWhole, IsHeader}
+use Rattle.fixed_width.specs.InitialLengths.{unit_end, IsWhole}
+use Rattle.list_model.specs.Headers.{IsHeader}
 use Rattle.list_model.specs.declared.contribution.Contribution.{Contribution}
 
 -- how many bytes its header has

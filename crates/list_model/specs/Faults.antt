@@ -2,7 +2,8 @@
 use Rattle.std.specs.Prelude.{◌≡◌, ◌≤◌, ◌<◌, ◌+◌, ◌⊎◌, ℕ, List, length}
 use Rattle.dw_base.specs.declared.fault.Kind.{Kind}
 use Rattle.dw_base.specs.declared.fault.Kind.TheVariants.{Short, ListEntry}
-use Rattle.list_model.specs.Headers.{unit_end, IsWhole, LeavesSection, IsHeader, IsHeaderCut}
+use Rattle.fixed_width.specs.InitialLengths.{unit_end, IsWhole, LeavesSection}
+use Rattle.list_model.specs.Headers.{IsHeader, IsHeaderCut}
 use Rattle.list_model.specs.Addresses.{table_header_size, address_place, IsMet}
 use Rattle.list_model.specs.Contributions.{part_header_size, offset_size, offset_entry_count, offset_place, ContributionsFollow}
 use Rattle.list_model.specs.declared.contribution.Contribution.{Contribution}

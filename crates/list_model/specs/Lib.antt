@@ -7,3 +7,4 @@ pub mod Items
 pub mod Laws
 pub mod Reading
 pub mod Steps
+pub mod inside

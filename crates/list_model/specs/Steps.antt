@@ -1,19 +1,11 @@
 -- What one entry does in a walk over a list.
-use Rattle.std.specs.Prelude.{◌≡◌, ℕ, List}
-use Rattle.std.specs.List.{Contains}
-use Rattle.dw_base.specs.declared.fault.Kind.{Kind}
+use Rattle.std.specs.Prelude.{ℕ, List}
 use Rattle.list_model.specs.declared.context.Context.{Context}
 use Rattle.list_model.specs.declared.entry.EntryKind.{EntryKind}
 use Rattle.list_model.specs.declared.walk.Step.{Step}
 use Rattle.list_model.specs.declared.walk.Step.TheVariants.{Base, Between, Elsewhere, Over}
-use Rattle.list_model.specs.Items.{Bounds, SetsBase, HasBounds, Fits, indexes_in, FaultIndex}
+use Rattle.list_model.specs.Items.{Bounds, SetsBase, HasBounds, Fits}
 use Rattle.list_model.specs.Items.Bounds.{between, elsewhere}
-
--- an item from a start up to an end, which may be sums past 2^64 - 1
-abbrev pub IsSpan : ℕ → ℕ → Step → Type 0
-IsSpan start end (Between first last) = (first ≡ start) × (last ≡ end) × Fits (between start end)
-IsSpan start end Over = ¬ Fits (between start end)
-IsSpan start end _ = ⊥
 
 -- This is what an entry of a kind, with these operands, does under a base in a walk over a list.
 abbrev pub IsStep : List ℕ → Context → ℕ → EntryKind → ℕ → ℕ → Step → Type 0
@@ -21,7 +13,3 @@ IsStep addr context base kind a b (Base next) = SetsBase addr context kind a nex
 IsStep addr context base kind a b (Between start end) = HasBounds addr context base kind a b (between start end) × Fits (between start end)
 IsStep addr context base kind a b Elsewhere = HasBounds addr context base kind a b elsewhere
 IsStep addr context base kind a b Over = (item : Bounds) × HasBounds addr context base kind a b item × (¬ Fits item)
-
--- one of the operands of an entry of a kind is an index that can't be looked up
-abbrev pub AsksInVain : Context → EntryKind → ℕ → ℕ → Kind → Type 0
-AsksInVain context kind a b fault = (index : ℕ) × Contains (indexes_in kind a b) index × FaultIndex context fault index

@@ -5,9 +5,9 @@ ghost use Rattle.dw_base.specs.Refusals.{IsFaultOf, IsFaulty, IsRefusedFor};
 ghost use Rattle.list_model.specs.Contributions.{IsContribution, ContributionsTile};
 ghost use Rattle.list_model.specs.Faults.{FaultContribution, FaultContributions};
 
-use crate::header::{end_of, fault_at, has_header};
+use crate::header::{fault_at, has_header};
 use dw_base::{Fault, Kind, NoMemory, Refusal};
-use fixed_width::u32_at;
+use fixed_width::{end_of_unit, u32_at};
 use std::alloc::Global;
 
 /// A contribution to .debug_rnglists (DWARF 5 section 7.28) or .debug_loclists (section 7.29): a header, a table of offsets, and
@@ -36,7 +36,7 @@ fn contribution_at(section: &[u8], at: usize, origin: u64) -> Result<Contributio
     ensures part { IfOk result (λ part. (part.at ≡ at) × IsContribution section.now part) }
     ensures fault { IfErr result (IsFaultOf (FaultContribution section.now at) origin) }
 {
-    let Some(end) = end_of(section, at) else {
+    let Ok(end) = end_of_unit(section, at) else {
         return Err(fault_at(Kind::Short, origin, at));
     };
     if !has_header(section, at, end, HEADER_SIZE) {
@@ -85,10 +85,7 @@ pub fn contributions(
     let mut parts: Vec<Contribution> = Vec::new(alloc);
     let mut at = 0;
     while at < section.len() {
-        let part = match contribution_at(section, at, origin) {
-            Ok(part) => part,
-            Err(fault) => return Err(Refusal::Refused(fault)),
-        };
+        let part = contribution_at(section, at, origin)?;
         push(&mut parts, part)?;
         at += part.len as usize;
     }

@@ -21,5 +21,5 @@ pub use entry::{EntryKind, ListKind, Operand, RawEntry};
 pub use item::{Item, Items, Meaning};
 pub use laws::{addresses_have_one_table, contributions_tile, entries_end, entries_say};
 pub use read::{ReadEntry, kind_of, list_entry_limit, read_entry};
-pub use tables::{AddrTable, addr_table, address};
+pub use tables::{AddrTable, addr_table, addr_tables, address, table_with_base};
 pub use walk::{Step, entry_step};

@@ -7,7 +7,7 @@ ghost use Rattle.list_model.specs.Reading.{IsReadEntry, list_entry_limit as most
 
 use crate::entry::{EntryKind, ListKind, Operand, RawEntry};
 use crate::header::{ADDRESS_SIZE, fault_at};
-use dw_base::{Fault, Kind, Reach, Span};
+use dw_base::{Fault, Kind, Reach, Span, constants};
 use fixed_width::u64_at;
 use leb_codec::{LebFault, ReadU, read_u};
 
@@ -28,14 +28,21 @@ pub fn kind_of(list: ListKind, code: u8) -> Option<EntryKind>
     ensures { MatchOption result ((kind : EntryKind) → code_of list kind ≢ Some code) (λ kind. code_of list kind ≡ Some code) }
 {
     let kind = match (list, code) {
-        (_, 1) => EntryKind::BaseAddressx,
-        (_, 2) => EntryKind::StartxEndx,
-        (_, 3) => EntryKind::StartxLength,
-        (_, 4) => EntryKind::OffsetPair,
-        (ListKind::Locations, 5) => EntryKind::DefaultLocation,
-        (ListKind::Ranges, 5) | (ListKind::Locations, 6) => EntryKind::BaseAddress,
-        (ListKind::Ranges, 6) | (ListKind::Locations, 7) => EntryKind::StartEnd,
-        (ListKind::Ranges, 7) | (ListKind::Locations, 8) => EntryKind::StartLength,
+        (ListKind::Ranges, constants::DW_RLE_BASE_ADDRESSX) => EntryKind::BaseAddressx,
+        (ListKind::Ranges, constants::DW_RLE_STARTX_ENDX) => EntryKind::StartxEndx,
+        (ListKind::Ranges, constants::DW_RLE_STARTX_LENGTH) => EntryKind::StartxLength,
+        (ListKind::Ranges, constants::DW_RLE_OFFSET_PAIR) => EntryKind::OffsetPair,
+        (ListKind::Ranges, constants::DW_RLE_BASE_ADDRESS) => EntryKind::BaseAddress,
+        (ListKind::Ranges, constants::DW_RLE_START_END) => EntryKind::StartEnd,
+        (ListKind::Ranges, constants::DW_RLE_START_LENGTH) => EntryKind::StartLength,
+        (ListKind::Locations, constants::DW_LLE_BASE_ADDRESSX) => EntryKind::BaseAddressx,
+        (ListKind::Locations, constants::DW_LLE_STARTX_ENDX) => EntryKind::StartxEndx,
+        (ListKind::Locations, constants::DW_LLE_STARTX_LENGTH) => EntryKind::StartxLength,
+        (ListKind::Locations, constants::DW_LLE_OFFSET_PAIR) => EntryKind::OffsetPair,
+        (ListKind::Locations, constants::DW_LLE_DEFAULT_LOCATION) => EntryKind::DefaultLocation,
+        (ListKind::Locations, constants::DW_LLE_BASE_ADDRESS) => EntryKind::BaseAddress,
+        (ListKind::Locations, constants::DW_LLE_START_END) => EntryKind::StartEnd,
+        (ListKind::Locations, constants::DW_LLE_START_LENGTH) => EntryKind::StartLength,
         _ => return None,
     };
     Some(kind)

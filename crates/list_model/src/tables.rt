@@ -1,12 +1,13 @@
 // Address tables, and the addresses in them.
-ghost use Rattle.std.specs.Prelude.{◌≡◌, ◌≤◌, ◌<◌, ◌+◌, ◌^◌, length, OnOk, IfOk, IfErr, MatchOption};
+ghost use Rattle.std.specs.Prelude.{◌≡◌, ◌≤◌, ◌<◌, ◌+◌, ◌^◌, ◌++◌, ◌∷◌, [], List, ℕ, length, OnOk, IfOk, IfErr, MatchOption};
 ghost use Rattle.dw_base.specs.Refusals.{IsFaultOf, IsFaulty};
-ghost use Rattle.list_model.specs.Addresses.{address_place, address_of, IsAddrTable, HasBase};
+ghost use Rattle.list_model.specs.Addresses.{address_place, address_of, IsAddrTable, AreAllTables, HasBase};
 ghost use Rattle.list_model.specs.Faults.{FaultTable, FaultBefore};
 
-use crate::header::{ADDRESS_SIZE, end_of, fault_at, has_header};
-use dw_base::{Fault, Kind};
-use fixed_width::u64_at;
+use crate::header::{ADDRESS_SIZE, fault_at, has_header};
+use dw_base::{Fault, Kind, NoMemory};
+use fixed_width::{end_of_unit, u64_at};
+use std::alloc::Global;
 
 /// A table of addresses (DWARF 5 section 7.27).
 #[derive(Clone, Copy, Debug, PartialEq, Eq)]
@@ -28,7 +29,7 @@ fn table_at(section: &[u8], at: usize, origin: u64) -> Result<AddrTable, Fault>
     ensures table { IfOk result (λ table. (table.at ≡ at) × IsAddrTable section.now table) }
     ensures fault { IfErr result (IsFaultOf (FaultTable section.now at) origin) }
 {
-    let Some(end) = end_of(section, at) else {
+    let Ok(end) = end_of_unit(section, at) else {
         return Err(fault_at(Kind::Short, origin, at));
     };
     if !has_header(section, at, end, HEADER_SIZE) {
@@ -79,6 +80,44 @@ pub fn addr_table(addr: &[u8], base: u64, origin: u64) -> Result<Option<AddrTabl
         at = place_of(&table, table.count);
     }
     Ok(None)
+}
+
+// Appends a table.
+fn push(tables: &mut Vec<AddrTable>, table: AddrTable) -> Result<(), NoMemory>
+    ensures { OnOk result (tables.new.items ≡ tables.old.items ++ table ∷ []) }
+{
+    tables.push(table)?;
+    Ok(())
+}
+
+/// The address tables of `addr`, the body of .debug_addr (DWARF 5 section 7.27), one after the other from its first byte on, up
+/// to its end or to a table that has one of the faults that `addr_table` tells. The only error is want of memory.
+pub fn addr_tables(alloc: Global, addr: &[u8]) -> Result<Vec<AddrTable>, NoMemory>
+    requires room { length addr.now < 2 ^ 64 }
+    ensures { IfOk result (λ tables. AreAllTables addr.now tables.items) }
+{
+    let mut tables = Vec::new(alloc);
+    let mut at = 0;
+    while at < addr.len() {
+        let Ok(table) = table_at(addr, at, 0) else {
+            break;
+        };
+        push(&mut tables, table)?;
+        at = place_of(&table, table.count);
+    }
+    Ok(tables)
+}
+
+/// The one of all tables of a section whose addresses begin at the place `base`, or None exactly where there is none. It takes no
+/// memory.
+pub fn table_with_base(tables: &[AddrTable], base: u64) -> Option<AddrTable>
+    ensures { (addr : List ℕ) → AreAllTables addr tables.now → MatchOption result ((table : AddrTable) → HasBase addr base table → ⊥) (HasBase addr base) }
+{
+    let at = base.checked_sub(HEADER_SIZE as u64)?;
+    match tables.binary_search_by_key(&at, |table| table.at) {
+        Ok(number) => Some(tables[number]),
+        Err(_) => None,
+    }
 }
 
 /// The address with the number `index` in a table, counted from 0 (DWARF 5 section 7.27), or None exactly where `index` is the

@@ -3,7 +3,8 @@ ghost use Rattle.std.specs.Prelude.{◌<◌};
 
 use crate::{
     AddrTable, Context, Contribution, EntryKind, Item, Items, ListKind, RawEntry, ReadEntry, Step,
-    addr_table, address, contributions, entry_step, kind_of, list_entry_limit, read_entry,
+    addr_table, addr_tables, address, contributions, entry_step, kind_of, list_entry_limit,
+    read_entry, table_with_base,
 };
 use dw_base::{Fault, Kind, Reach, Refusal, Span};
 use std::alloc::Global;
@@ -41,7 +42,9 @@ fn address_in(addr: &[u8], base: u64, index: u64) -> Option<u64> {
 }
 
 #[test]
-fn a_table_has_one_base(rt: HostRuntime) {
+fn a_table_has_one_base(rt: HostRuntime) -> Result<(), Fail> {
+    let all = addr_tables(rt.alloc(), &PAIR).ok().ok_or("no memory")?;
+    assert_eq!(rt; all.as_slice(), [FIRST, SECOND].as_slice());
     let found = [
         (8, Some(FIRST)),
         (32, Some(SECOND)),
@@ -59,8 +62,15 @@ fn a_table_has_one_base(rt: HostRuntime) {
     ];
     for (base, table) in found {
         assert_eq!(rt; addr_table(&PAIR, base, ORIGIN), Ok(table), "at {base}");
+        assert_eq!(rt; table_with_base(&all, base), table, "at {base}");
     }
     assert_eq!(rt; addr_table(&[], 8, ORIGIN), Ok(None));
+    // The second table is cut.
+    let front = addr_tables(rt.alloc(), &PAIR[..39])
+        .ok()
+        .ok_or("no memory")?;
+    assert_eq!(rt; front.as_slice(), [FIRST].as_slice());
+    Ok(())
 }
 
 #[test]

@@ -3,7 +3,8 @@ ghost use Rattle.std.specs.Prelude.{◌≡◌, ◌<◌, ◌+◌, ◌^◌, ◌∷
 ghost use Rattle.dw_base.specs.Refusals.{IsFaultOf, IsFaulty};
 ghost use Rattle.list_model.specs.Entries.{Entry, Says};
 ghost use Rattle.list_model.specs.Items.{HasTable, IsIndexed, FaultIndex, FaultIndexes};
-ghost use Rattle.list_model.specs.Steps.{AsksInVain, IsStep, IsSpan};
+ghost use Rattle.list_model.specs.Steps.{IsStep};
+ghost use Rattle.list_model.specs.inside.Steps.{AsksInVain, IsSpan};
 
 use crate::context::Context;
 use crate::entry::{EntryKind, ListKind, RawEntry};

@@ -2,7 +2,8 @@
 use Rattle.std.proofs.Common.{◌≡◌, ◌≤◌, ◌<◌, ◌+◌, ◌++◌, ◌∙◌, ℕ, List, [], ◌∷◌, length, sym, ap, refl, subst, arith, inl, inr}
 use Rattle.std.proofs.lemmas.List.{append_assoc, append_cancel_left, length-append}
 use Rattle.std.proofs.lemmas.Option.{same_Some}
-use Rattle.spelled.specs.Spelled.{HasUniqueFronts, HasOneEnd, NeverBoth, EndsApart, Joined, FaultUntilEnd, GoesOn}
+use Rattle.spelled.specs.Spelled.{HasUniqueFronts, NeverBoth, EndsApart, Joined, FaultUntilEnd}
+use Rattle.spelled.specs.inside.Spelled.{HasOneEnd, GoesOn}
 use Rattle.spelled.proofs.Joins.{until_end_unique, until_end_whole, joined_agree}
 use Rattle.dw_base.specs.declared.fault.Span.{Span}
 use Rattle.dw_base.specs.declared.fault.Kind.{Kind}

@@ -12,7 +12,7 @@ use Rattle.list_model.specs.declared.contribution.Contribution.{Contribution}
 use Rattle.list_model.specs.declared.entry.ListKind.TheVariants.{Ranges}
 use Rattle.list_model.specs.declared.entry.RawEntry.{RawEntry}
 use Rattle.list_model.specs.declared.read.ReadEntry.{ReadEntry}
-use Rattle.list_model.specs.Headers.{unit_end}
+use Rattle.fixed_width.specs.InitialLengths.{unit_end}
 use Rattle.list_model.specs.Contributions.{IsContribution, part_end, bytes_from}
 use Rattle.list_model.specs.Entries.{Entry, SpellsEntry, BeginsWithEnd, FaultEntry}
 use Rattle.list_model.specs.Reading.{AreReadFrom, IsReadEntry, list_entry_limit}

@@ -19,7 +19,7 @@ use Rattle.list_model.specs.Steps.{IsStep}
 use Rattle.list_model.specs.Items.Bounds.{between, elsewhere}
 use Rattle.range_lists.specs.declared.items.Walk.{Walk}
 use Rattle.range_lists.specs.Ranges.{AreRangeEntries, IsMeaning}
-use Rattle.range_lists.specs.Walks.{WalksOn}
+use Rattle.range_lists.specs.inside.Walks.{WalksOn}
 
 -- what is held of some bounds: their items, or that one is a sum past 2^64 - 1
 abbrev pub AreHeld : Bool → List Bounds → List Item → Type 0

@@ -1,3 +1,3 @@
 pub mod Laws
 pub mod Ranges
-pub mod Walks
+pub mod inside

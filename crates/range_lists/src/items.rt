@@ -5,7 +5,7 @@ ghost use Rattle.dw_base.specs.Refusals.{IsFaultOf, IsFaulty, IsRefusedFor};
 ghost use Rattle.list_model.specs.declared.entry.ListKind.TheVariants.{Ranges};
 ghost use Rattle.list_model.specs.Items.{HasTable, FaultIndexes};
 ghost use Rattle.range_lists.specs.Ranges.{AreRangeEntries, IsMeaning};
-ghost use Rattle.range_lists.specs.Walks.{HasItem, WalksOn};
+ghost use Rattle.range_lists.specs.inside.Walks.{HasItem, WalksOn};
 
 use crate::laws::ranges_mean;
 use dw_base::{NoMemory, Refusal, Span};
@@ -80,10 +80,8 @@ pub fn range_items(
         dead: false,
     };
     for entry in raw.iter() {
-        match entry_step(ListKind::Ranges, entry, walk.base, context, addr, origin) {
-            Ok(step) => walk.go_on(step)?,
-            Err(fault) => return Err(Refusal::Refused(fault)),
-        }
+        let step = entry_step(ListKind::Ranges, entry, walk.base, context, addr, origin)?;
+        walk.go_on(step)?;
     }
     if walk.dead {
         return Ok(Meaning::Dead);

@@ -54,10 +54,8 @@ pub fn read_ranges(
     let mut raws: Vec<RawEntry> = Vec::new(alloc);
     let mut place = at as usize;
     loop {
-        let read = match read_entry(ListKind::Ranges, bytes, place, origin) {
-            Ok(Some(read)) => read,
-            Ok(None) => return Ok(raws),
-            Err(fault) => return Err(Refusal::Refused(fault)),
+        let Some(read) = read_entry(ListKind::Ranges, bytes, place, origin)? else {
+            return Ok(raws);
         };
         if raws.len() == list_entry_limit(reach) {
             return Err(Refusal::Refused(Fault {

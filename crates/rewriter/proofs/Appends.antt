@@ -17,9 +17,9 @@ use Rattle.value_links.specs.declared.units.NamedTable.{NamedTable}
 use Rattle.value_links.specs.World.{table_at}
 use Rattle.rewriter.specs.declared.uses.Uses.{Uses}
 use Rattle.rewriter.specs.declared.tables.NewTable.{NewTable}
-use Rattle.rewriter.specs.Tables.{TableAnew, AreColumnsChosen, TablesStand, anew_at, table_anew, new_table_at}
-use Rattle.rewriter.specs.Counting.{counts_in}
-use Rattle.rewriter.specs.Appended.{StandsAnew, IsAppended, AreAppended}
+use Rattle.rewriter.specs.inside.Tables.{TableAnew, AreColumnsChosen, TablesStand, anew_at, table_anew, new_table_at}
+use Rattle.rewriter.specs.inside.Counting.{counts_in}
+use Rattle.rewriter.specs.inside.Appended.{StandsAnew, IsAppended, AreAppended}
 use Rattle.rewriter.proofs.Renumbers.{AreNumbersOf, seat, count_used}
 use Rattle.rewriter.proofs.Writables.{tags_narrow, writable, distinct}
 
@@ -58,6 +58,7 @@ stands_on section more old uses new s = record {
   inside = omega (arith, length-append section more, s.inside);
   stands = table_stays section more new.at s.listing s.stands;
   written = subst (λ (bytes : List ℕ). IsWritten old new.numbers new.columns bytes) (sym (same_between section more new.at s.listing.end s.stands.starts s.stands.inside)) s.written;
+  short = subst (λ (bytes : List ℕ). ShortestTable (declarations_of s.listing) bytes) (sym (same_between section more new.at s.listing.end s.stands.starts s.stands.inside)) s.short;
   renumbered = s.renumbered;
   only = s.only;
 }
@@ -171,6 +172,7 @@ module _ (old : Listing) (known : IsTable old) (uses numbers : List ℕ) (are : 
           inside = omega (arith, length-append before bytes, filled);
           stands = stands;
           written = subst (λ (zs : List ℕ). IsWritten old numbers columns zs) (sym (last_between before bytes t.end found.3)) written;
+          short = subst (λ (zs : List ℕ). ShortestTable (declarations_of t) zs) (sym (last_between before bytes t.end found.3)) (subst (λ (ds : List Declared). ShortestTable ds bytes) (sym found.2) written.spelled);
           renumbered = renumbered_as (declarations_of t) found.2;
           only = ap length found.2 ∙ count_is ∙ count_used uses numbers are written.order written.ordered;
         };

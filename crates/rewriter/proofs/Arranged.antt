@@ -15,8 +15,8 @@ use Rattle.unit_write.specs.Placing.{EntrySize, ArePlaced}
 use Rattle.unit_write.specs.Moved.{IsPlacedAt}
 use Rattle.value_links.specs.World.{World}
 use Rattle.rewriter.specs.declared.tables.NewTable.{NewTable}
-use Rattle.rewriter.specs.Placed.{places_at, unit_in, ArePlacesOf}
-use Rattle.rewriter.specs.Held.{HavePlaces, AllHavePlaces}
+use Rattle.rewriter.specs.inside.Placed.{places_at, unit_in, ArePlacesOf}
+use Rattle.rewriter.specs.inside.Held.{HavePlaces, AllHavePlaces}
 
 -- as many entries, and as many ends, as places
 abbrev Counts : Listed → Listed → List ℕ → List ℕ → Type 0

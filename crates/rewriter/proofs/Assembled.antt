@@ -5,8 +5,7 @@ use Rattle.std.specs.declared.result.Result.{Result}
 use Rattle.std.specs.declared.result.Result.TheVariants.{Ok, Err}
 use Rattle.std.specs.List.{All}
 use Rattle.std.proofs.lemmas.Bool.{true≢false, eq-eqb}
-use Rattle.std.proofs.lemmas.List.Elements.{All-cons, All-nil}
-use Rattle.std.proofs.lemmas.Slice.Eq.{bytes_eq-Decides}
+use Rattle.std.proofs.lemmas.List.Elements.{All-weaker}
 use Rattle.dw_base.specs.declared.fault.Reach.TheVariants.{Narrow, Wide}
 use Rattle.elf_sections.specs.Elf.{section_count, names_index, offset_of, size_of, fixed_end_of, is_movable, body_of}
 use Rattle.elf_sections.specs.Names.{name_of, is_written}
@@ -20,47 +19,23 @@ use Rattle.elf_place.proofs.BodyLaws.{body_after-kept}
 use Rattle.value_links.specs.Sections.{info_name, abbrev_name, line_name, aranges_name, rnglists_name, loclists_name}
 use Rattle.value_links.specs.Laws.{HasNoLists, IsImageInOrder}
 use Rattle.rewriter.specs.declared.sections.NewSections.{NewSections}
-use Rattle.rewriter.specs.Bodies.{NewBytes, IsBodyWith, AddsBody, AreBodiesWith, new_bytes}
-use Rattle.rewriter.specs.Sections.{AreFor, HasSections, body_in}
-use Rattle.rewriter.proofs.NewBodies.{added, all_bodies, spared, bodies_apart, bytes_in, bodies_few, HaveOwnNames, written_bodies, body_written}
+use Rattle.rewriter.specs.inside.Bodies.{NewBytes, IsBodyWith, AddsBody, AreBodiesWith, new_bytes}
+use Rattle.value_links.specs.Placed.{body_in}
+use Rattle.rewriter.specs.inside.Sections.{AreFor, HasSections}
+use Rattle.rewriter.proofs.NewBodies.{added, all_bodies, spared, bodies_apart, bytes_in, bodies_few, bytes_few, own_names, all_written, written_bodies, bodies_written}
 
 -- NAMES
-
--- what holds of the bytes of each of the four sections holds of all
-each_section : (P : NewBytes → Type 0) (new : NewSections) → P (record { name = info_name; bytes = new.info.items }) → P (record { name = abbrev_name; bytes = new.abbrevs.items }) → P (record { name = line_name; bytes = new.lines.items }) → P (record { name = aranges_name; bytes = new.aranges.items }) → All P (new_bytes new)
-each_section P new info abbrevs lines aranges =
-    let last : NewBytes = record { name = aranges_name; bytes = new.aranges.items } in
-    let third : NewBytes = record { name = line_name; bytes = new.lines.items } in
-    let second : NewBytes = record { name = abbrev_name; bytes = new.abbrevs.items } in
-    let first : NewBytes = record { name = info_name; bytes = new.info.items } in
-    All-cons P first (second ∷ third ∷ last ∷ []) info (All-cons P second (third ∷ last ∷ []) abbrevs (All-cons P third (last ∷ []) lines (All-cons P last [] aranges (All-nil P))))
-
--- two names that differ in a byte
-differ : (one other : List ℕ) → bytes_eq one other ≡ false → one ≢ other
-differ one other apart same = true≢false (sym ((bytes_eq-Decides one other).1 same) ∙ apart)
-
-own_names : (new : NewSections) → HaveOwnNames (new_bytes new)
-own_names new =
-    let last : NewBytes = record { name = aranges_name; bytes = new.aranges.items } in
-    let third : NewBytes = record { name = line_name; bytes = new.lines.items } in
-    let second : NewBytes = record { name = abbrev_name; bytes = new.abbrevs.items } in (
-      All-cons (λ (n : NewBytes). info_name ≢ n.name) second (third ∷ last ∷ []) (differ info_name abbrev_name refl) (All-cons (λ (n : NewBytes). info_name ≢ n.name) third (last ∷ []) (differ info_name line_name refl) (All-cons (λ (n : NewBytes). info_name ≢ n.name) last [] (differ info_name aranges_name refl) (All-nil (λ (n : NewBytes). info_name ≢ n.name)))),
-      (
-        All-cons (λ (n : NewBytes). abbrev_name ≢ n.name) third (last ∷ []) (differ abbrev_name line_name refl) (All-cons (λ (n : NewBytes). abbrev_name ≢ n.name) last [] (differ abbrev_name aranges_name refl) (All-nil (λ (n : NewBytes). abbrev_name ≢ n.name))),
-        (
-          All-cons (λ (n : NewBytes). line_name ≢ n.name) last [] (differ line_name aranges_name refl) (All-nil (λ (n : NewBytes). line_name ≢ n.name)),
-          (All-nil (λ (n : NewBytes). aranges_name ≢ n.name), tt),
-        ),
-      ),
-    )
 
 -- a name that isn't written anew is none of those that are
 unwritten : (name wanted : List ℕ) → is_written wanted ≡ true → is_written name ≡ false → name ≢ wanted
 unwritten name wanted anew kept same = true≢false (sym anew ∙ sym (ap is_written same) ∙ kept)
 
+written : (new : NewSections) → All (λ (n : NewBytes). is_written n.name ≡ true) (new_bytes new)
+written new = all_written (new_bytes new) refl
+
 unlisted : (new : NewSections) (name : List ℕ) → is_written name ≡ false → All (λ (n : NewBytes). name ≢ n.name) (new_bytes new)
 unlisted new name kept =
-    each_section (λ (n : NewBytes). name ≢ n.name) new (unwritten name info_name refl kept) (unwritten name abbrev_name refl kept) (unwritten name line_name refl kept) (unwritten name aranges_name refl kept)
+    All-weaker (λ (n : NewBytes). is_written n.name ≡ true) (λ (n : NewBytes). name ≢ n.name) (λ (n : NewBytes) anew. unwritten name n.name anew kept) (new_bytes new) (written new)
 
 -- the four bodies, one after the other
 pub four_added : (file : List ℕ) (new : NewSections) (first second third fourth : List ℕ) (none one two three four : List NewBody) → first ≡ info_name → second ≡ abbrev_name → third ≡ line_name → fourth ≡ aranges_name → none ≡ [] → AddsBody file (record { name = first; bytes = new.info.items }) none one → AddsBody file (record { name = second; bytes = new.abbrevs.items }) one two → AddsBody file (record { name = third; bytes = new.lines.items }) two three → AddsBody file (record { name = fourth; bytes = new.aranges.items }) three four → AreBodiesWith file (new_bytes new) four
@@ -101,7 +76,7 @@ module _ (file : List ℕ) (new : NewSections) (bodies : List NewBody) (made : A
   kept i own = spared file (new_bytes new) bodies i made (unlisted new (name_of file i) own)
 
   pub apart : AreApart bodies
-  apart = bodies_apart file (new_bytes new) bodies made (own_names new)
+  apart = bodies_apart file (new_bytes new) bodies made (own_names (new_bytes new) refl)
 
   module _ (order : IsImageInOrder file Narrow) where
     replaceable : (name : List ℕ) → is_written name ≡ true → (i : ℕ) → IsFirstNamed file name i → IsReplaceable file i
@@ -112,7 +87,7 @@ module _ (file : List ℕ) (new : NewSections) (bodies : List NewBody) (made : A
 
     pub movable : All (λ (body : NewBody). IsReplaceable file body.section) bodies
     movable =
-        all_bodies (λ (body : NewBody). IsReplaceable file body.section) file (new_bytes new) bodies made (each_section (λ (n : NewBytes). (body : NewBody) → IsBodyWith file n body → IsReplaceable file body.section) new (λ body is. replaceable info_name refl body.section is.first) (λ body is. replaceable abbrev_name refl body.section is.first) (λ body is. replaceable line_name refl body.section is.first) (λ body is. replaceable aranges_name refl body.section is.first))
+        all_bodies (λ (body : NewBody). IsReplaceable file body.section) file (new_bytes new) bodies made (All-weaker (λ (n : NewBytes). is_written n.name ≡ true) (λ (n : NewBytes). (body : NewBody) → IsBodyWith file n body → IsReplaceable file body.section) (λ (n : NewBytes) anew body is. replaceable n.name anew body.section is.first) (new_bytes new) (written new))
 
     pub names : KeepsNames file bodies
     names some =
@@ -123,8 +98,8 @@ module _ (file : List ℕ) (new : NewSections) (bodies : List NewBody) (made : A
     total : bytes_of bodies ≤ 4 * 2 ^ 32
     total =
         let few : bytes_of bodies ≤ bytes_in (new_bytes new) = bodies_few file (new_bytes new) bodies made in
-        let whole : bytes_in (new_bytes new) ≡ 0 + length new.info.items + length new.abbrevs.items + length new.lines.items + length new.aranges.items = refl in
-        omega (arith, fits.info_fits, fits.abbrevs_fit, fits.lines_fit, fits.aranges_fit)
+        let most : bytes_in (new_bytes new) ≤ length (new_bytes new) * 2 ^ 32 = bytes_few (new_bytes new) fits.fit in
+        omega (arith, few, most)
 
     pub few : bytes_of bodies < 2 ^ 35
     few = omega (arith, total)
@@ -134,7 +109,7 @@ module _ (file : List ℕ) (new : NewSections) (bodies : List NewBody) (made : A
 
     pub small : AreSmall bodies
     small = record {
-      each = all_bodies (λ (body : NewBody). length body.bytes.items < 2 ^ 32) file (new_bytes new) bodies made (each_section (λ (n : NewBytes). (body : NewBody) → IsBodyWith file n body → length body.bytes.items < 2 ^ 32) new (short (record { name = info_name; bytes = new.info.items }) fits.info_fits) (short (record { name = abbrev_name; bytes = new.abbrevs.items }) fits.abbrevs_fit) (short (record { name = line_name; bytes = new.lines.items }) fits.lines_fit) (short (record { name = aranges_name; bytes = new.aranges.items }) fits.aranges_fit));
+      each = all_bodies (λ (body : NewBody). length body.bytes.items < 2 ^ 32) file (new_bytes new) bodies made (All-weaker (λ (n : NewBytes). length n.bytes < 2 ^ 32 - 1) (λ (n : NewBytes). (body : NewBody) → IsBodyWith file n body → length body.bytes.items < 2 ^ 32) short (new_bytes new) fits.fit);
       all = omega (arith, total);
     }
 
@@ -165,13 +140,8 @@ module _ (file : List ℕ) (new : NewSections) (bodies : List NewBody) (made : A
 
       pub has_sections : AreFor file new → IsRead written Wide → HasNoLists file → All (λ (body : NewBody). body_of written body.section ≡ body.bytes.items) bodies → (section_count file ≡ 0 → written ≡ file) → (section_count file ≢ 0 → IsLaidOut file (body_after file bodies) written) → HasSections file new written
       has_sections lacks read lists holds bare placed =
-          let found = written_bodies file written (new_bytes new) bodies made holds in
-          let d : NewBytes = record { name = []; bytes = [] } in
           record {
-            info = body_written file written same.headers.count same.names info_name new.info.items lacks.info (found 0 d (omega arith));
-            abbrevs = body_written file written same.headers.count same.names abbrev_name new.abbrevs.items lacks.abbrevs (found 1 d (omega arith));
-            lines = body_written file written same.headers.count same.names line_name new.lines.items lacks.lines (found 2 d (omega arith));
-            aranges = body_written file written same.headers.count same.names aranges_name new.aranges.items lacks.aranges (found 3 d (omega arith));
+            sections = bodies_written file written same.headers.count same.names (new_bytes new) lacks.each (written_bodies file written (new_bytes new) bodies made holds);
             image = record {
               loaded = same.loaded;
               headers = same.headers;

@@ -2,7 +2,8 @@
 use Rattle.std.proofs.Common.{◌≡◌, ◌≢◌, ◌≤◌, ◌<◌, ◌+◌, ◌-◌, ◌^◌, ℕ, zero, suc, List, [], ◌∷◌, length, slice_index, ◌∙◌, sym, ap, subst, arith}
 use Rattle.abbrev_tables.specs.Tables.{Declared}
 use Rattle.abbrev_tables.specs.Listings.{Listing}
-use Rattle.entry_read.specs.Heads.{least_reserved, type_unit}
+use Rattle.fixed_width.specs.InitialLengths.{least_reserved}
+use Rattle.entry_read.specs.Heads.{type_unit}
 use Rattle.entry_read.specs.Units.{HeadAndForest, entries_at}
 use Rattle.unit_write.specs.declared.places.Places.{Places}
 use Rattle.unit_write.specs.declared.write.NewNumbers.{NewNumbers}
@@ -13,10 +14,11 @@ use Rattle.value_links.specs.Reading.{Reading, unit_at}
 use Rattle.value_links.specs.World.{World, head_and_forest, table_at, Holds}
 use Rattle.value_links.specs.declared.units.NamedTable.{NamedTable}
 use Rattle.rewriter.specs.declared.tables.NewTable.{NewTable}
-use Rattle.rewriter.specs.Tables.{TableAnew, table_anew, new_table_at, AreTablesWritten}
-use Rattle.rewriter.specs.Placed.{places_at, unit_in, PlacesFollow, ArePlacesOf}
-use Rattle.rewriter.specs.Numbers.{AreNewNumbers}
-use Rattle.rewriter.specs.Held.{table_for}
+use Rattle.rewriter.specs.declared.new_places.NewPlaces.{NewPlaces}
+use Rattle.rewriter.specs.inside.Tables.{TableAnew, table_anew, new_table_at, AreTablesWritten}
+use Rattle.rewriter.specs.inside.Placed.{places_at, unit_in, PlacesFollow, ArePlacesOf}
+use Rattle.rewriter.specs.inside.Numbers.{AreNewNumbers}
+use Rattle.rewriter.specs.inside.Held.{table_for}
 use Rattle.rewriter.proofs.Standing.{held_unit}
 
 -- PLACES RISE
@@ -73,8 +75,8 @@ module _ (world : World) (tables : List NewTable) (u : ℕ) (unit : HeadAndFores
       let c : Writes (unit_in world.units u) (table_for world u) (new_table_at tables (slice_index world.table_of u)) new at section = subst (λ (t : TableAnew). Writes (unit_in world.units u) (table_for world u) t new at section) anew_is b in
       subst (λ (z : ℕ). Writes (unit_in world.units u) (table_for world u) (new_table_at tables (slice_index world.table_of u)) new z section) start_is c
 
-  module _ (file : List ℕ) (r : Reading) (places : List Places) (lines : List ℕ) (new : NewNumbers) (holds : Holds file world r) (numbers : AreNewNumbers world r tables places lines u new) where
-    read_is : unit ≡ head_and_forest (unit_at r u)
+  module _ (file : List ℕ) (r : Reading) (places : List Places) (new_places : NewPlaces) (new : NewNumbers) (holds : Holds file world r) (numbers : AreNewNumbers world r.links tables places new_places u new) where
+    read_is : unit ≡ head_and_forest (unit_at r.links u)
     read_is = unit_is ∙ held_unit file world r u holds
 
     pub held_counted : length new.held.items ≡ length unit.forest.values

@@ -4,7 +4,6 @@ use Rattle.std.proofs.Common.{◌≡◌, ◌<◌, ◌+◌, ◌-◌, ℕ, List, [
 use Rattle.std.specs.List.{All}
 use Rattle.std.proofs.lemmas.List.{get_or-map, length-map}
 use Rattle.std.proofs.lemmas.List.Elements.{All-get_or, All-from_get_or}
-use Rattle.leb_codec.specs.Numbering.{IsUsed}
 use Rattle.abbrev_tables.specs.declared.decl.Decl.{Decl}
 use Rattle.abbrev_tables.specs.Listings.{decl_at, declared_in}
 use Rattle.abbrev_tables.specs.Written.{numbered_as}
@@ -13,7 +12,7 @@ use Rattle.entry_read.specs.Units.{HeadAndForest, declarations_of}
 use Rattle.unit_write.specs.Placing.{columns_of}
 use Rattle.value_links.specs.declared.units.NamedTable.{NamedTable}
 use Rattle.value_links.specs.Laws.{IsBuilt}
-use Rattle.rewriter.specs.Tables.{TableAnew, IsTableWritten}
+use Rattle.rewriter.specs.inside.Tables.{TableAnew, IsTableWritten}
 use Rattle.rewriter.proofs.ColumnLaws.{built_still}
 
 module _ (units : List HeadAndForest) (section : List ℕ) (old : NamedTable) (new : TableAnew) (written : IsTableWritten units section old new) where
@@ -21,8 +20,6 @@ module _ (units : List HeadAndForest) (section : List ℕ) (old : NamedTable) (n
   pub record IsFrom (k : ℕ) : Type 0 where
     pub number : ℕ
     pub inside : number < length old.table.decls
-    pub used : IsUsed written.uses number
-    pub numbered : get_or new.numbers number 0 ≡ k + 1
     pub same : declared_at (declarations_of written.listing) k ≡ numbered_as (k + 1) (decl_at old.table.decls number) (columns_of old.table new.columns number)
 
   pub source : (k : ℕ) → k < length (declarations_of written.listing) → IsFrom k
@@ -34,8 +31,6 @@ module _ (units : List HeadAndForest) (section : List ℕ) (old : NamedTable) (n
       record {
         number = number;
         inside = inside;
-        used = used;
-        numbered = is;
         same = subst (λ (m : ℕ). declared_at (declarations_of written.listing) m ≡ numbered_as (k + 1) (decl_at old.table.decls number) (columns_of old.table new.columns number)) place (subst (λ (n : ℕ). declared_at (declarations_of written.listing) (n - 1) ≡ numbered_as n (decl_at old.table.decls number) (columns_of old.table new.columns number)) is moved);
       }
 

@@ -9,7 +9,7 @@ use Rattle.dw_base.specs.declared.fault.Reach.{Reach}
 use Rattle.abbrev_tables.specs.declared.decl.Decl.{Decl}
 use Rattle.abbrev_tables.specs.declared.decl.Spec.{Spec}
 use Rattle.abbrev_tables.specs.Tables.{Declared}
-use Rattle.abbrev_tables.specs.Listings.{Listing, decl_at, declared_in, declarations_in, AreAdjacent, IsTableAt}
+use Rattle.abbrev_tables.specs.Listings.{Listing, decl_at, declared_in, declarations_in, AreAdjacent}
 use Rattle.abbrev_tables.specs.ListingLaws.{DeclarationsStand}
 use Rattle.entry_arena.specs.Trees.{declared_at}
 use Rattle.entry_read.specs.declared.head.UnitHead.{UnitHead}
@@ -18,12 +18,13 @@ use Rattle.entry_read.specs.Units.{declarations_of}
 use Rattle.entry_read.proofs.Declarations.{declared_is, count_same}
 use Rattle.unit_write.specs.Moved.{IsRoomy}
 use Rattle.value_links.specs.Sections.{debug_info, debug_abbrev, offset_named, abbrev_name}
-use Rattle.value_links.specs.Reading.{UnitRead, Reading, no_unit, unit_heads, unit_at, declarations, IsUnitRead, IsReading}
+use Rattle.value_links.specs.Reading.{UnitRead, Reading, no_unit, unit_heads, unit_at, declarations, IsUnitRead}
+use Rattle.value_links.specs.Whole.{IsReading}
 use Rattle.value_links.specs.Faults.{IsValid, IsUnitOf, FaultTables}
 use Rattle.value_links.specs.Faults.Pass.{OfUnits}
 use Rattle.value_links.specs.Laws.{IsBuilt}
 use Rattle.value_links.proofs.Fronts.{unit_of}
-use Rattle.rewriter.proofs.PartDeclarations.{part_all, columns_all}
+use Rattle.rewriter.proofs.AllColumns.{columns_all}
 
 unit_head : (info : List ℕ) (units : List UnitRead) (u : ℕ) → Tile info (unit_heads units) → u < length units → IsUnitOf info (get_or units u no_unit).head
 unit_head info units u tile inside =
@@ -33,32 +34,22 @@ unit_head info units u tile inside =
     subst (λ (z : UnitHead). IsUnitOf info z) here (unit_of info heads u tile (omega (arith, size, inside)))
 
 module _ (stand : DeclarationsStand) (file : List ℕ) (reach : Reach) (r : Reading) (valid : IsValid file reach) (read : IsReading file r) where
-  -- a unit is read of the file
-  unit_is : (u : ℕ) → u < length r.units → IsUnitRead (debug_info file) (debug_abbrev file) (unit_at r u)
-  unit_is u inside = All-get_or (IsUnitRead (debug_info file) (debug_abbrev file)) r.units u no_unit inside read.parts.units.each
+  declaration_built : (u : ℕ) → u < length r.links.units → (i : ℕ) → i < length (unit_at r.links u).table.decls → IsBuilt (declared_in (unit_at r.links u).table.specs (decl_at (unit_at r.links u).table.decls i))
+  declaration_built u inside i known short =
+      let unit : UnitRead = unit_at r.links u in
+      let is : IsUnitRead (debug_info file) (debug_abbrev file) unit = All-get_or (IsUnitRead (debug_info file) (debug_abbrev file)) r.links.units u no_unit inside read.links.units.each in
+      let at : ℕ = unit.head.table in
+      let s = stand (debug_abbrev file) at unit.table i is.table known in
+      let inner : ℕ = (decl_at unit.table.decls i).at - at in
+      let fault : FaultTables (debug_info file) (debug_abbrev file) Unbuilt (at + inner) = (at, inner, (unit.head, unit_head (debug_info file) r.links.units u read.links.units.tiled inside, refl, is.named), refl, record { before = take i (declarations_in unit.table.specs unit.table.decls); d = declared_in unit.table.specs (decl_at unit.table.decls i); stands = s.1; unbuilt = short }) in
+      valid OfUnits Unbuilt (offset_named file abbrev_name + (at + inner)) (inr (at + inner, refl, fault))
 
-  module _ (u : ℕ) (inside : u < length r.units) (t : Listing) (there : IsTableAt (debug_abbrev file) (unit_at r u).head.table t) where
-    declaration_built : (i : ℕ) → i < length t.decls → IsBuilt (declared_in t.specs (decl_at t.decls i))
-    declaration_built i known short =
-        let unit : UnitRead = unit_at r u in
-        let is : IsUnitRead (debug_info file) (debug_abbrev file) unit = unit_is u inside in
-        let at : ℕ = unit.head.table in
-        let s = stand (debug_abbrev file) at t i there known in
-        let inner : ℕ = (decl_at t.decls i).at - at in
-        let fault : FaultTables (debug_info file) (debug_abbrev file) Unbuilt (at + inner) = (at, inner, (unit.head, unit_head (debug_info file) r.units u read.parts.units.tiled inside, refl, is.named), refl, record { before = take i (declarations_in t.specs t.decls); d = declared_in t.specs (decl_at t.decls i); stands = s.1; unbuilt = short }) in
-        valid OfUnits Unbuilt (offset_named file abbrev_name + (at + inner)) (inr (at + inner, refl, fault))
-
-    -- the declarations of a table that a unit names can be written
-    table_built : All IsBuilt (declarations_of t)
-    table_built =
-        let size = count_same t in
-        All-from_get_or IsBuilt (declarations_of t) (declared_at [] 0) (λ k known. (let l : k < length t.decls = omega (arith, size, known) in subst IsBuilt (sym (declared_is t k l)) (declaration_built k l)))
-
-  -- and so can those that the unit has of it
-  pub unit_built : (u : ℕ) → u < length r.units → All IsBuilt (declarations (unit_at r u))
+  -- the declarations of a table that a unit names can be written
+  pub unit_built : (u : ℕ) → u < length r.links.units → All IsBuilt (declarations (unit_at r.links u))
   unit_built u inside =
-      let part = (unit_is u inside).table in
-      part_all IsBuilt part.whole part.picks (unit_at r u).table part.is (table_built u inside part.whole part.stands)
+      let t : Listing = (unit_at r.links u).table in
+      let size = count_same t in
+      All-from_get_or IsBuilt (declarations_of t) (declared_at [] 0) (λ k known. (let l : k < length t.decls = omega (arith, size, known) in subst IsBuilt (sym (declared_is t k l)) (declaration_built u inside k l)))
 
 -- COLUMNS
 

@@ -25,12 +25,14 @@ use Rattle.unit_write.specs.Placing.{EntrySize, columns_of, values_in}
 use Rattle.unit_write.specs.Moved.{IsRoomy, IsWritable}
 use Rattle.value_links.specs.declared.units.NamedTable.{NamedTable}
 use Rattle.value_links.specs.Sections.{debug_info}
-use Rattle.value_links.specs.Reading.{UnitRead, Reading, no_unit, unit_heads, unit_at, declarations, IsReading}
+use Rattle.value_links.specs.Reading.{UnitRead, Reading, no_unit, unit_heads, unit_at, declarations}
+use Rattle.value_links.specs.Whole.{IsReading}
 use Rattle.value_links.specs.Faults.{IsValid}
 use Rattle.value_links.specs.World.{World, head_and_forest, named_by, table_at, Holds}
 use Rattle.rewriter.specs.declared.tables.NewTable.{NewTable}
-use Rattle.rewriter.specs.Tables.{TableAnew, new_table_at, column_meanings, AreTablesWritten}
-use Rattle.rewriter.specs.Placed.{unit_in, AreWritable}
+use Rattle.value_links.specs.Uses.{column_meanings}
+use Rattle.rewriter.specs.inside.Tables.{TableAnew, new_table_at, AreTablesWritten}
+use Rattle.rewriter.specs.inside.Placed.{unit_in, AreWritable}
 use Rattle.rewriter.proofs.UsedDeclarations.{unit_is, table_written, decl_known, decl_used}
 use Rattle.rewriter.proofs.BuiltUnits.{unit_built}
 use Rattle.rewriter.proofs.ColumnLaws.{IsSpelledBy, column_here, columns_count, column_spelled, new_columns_roomy}
@@ -49,37 +51,37 @@ module _ (numbers_sized : NumbersHaveSizes) (others_sized : ShortestHaveSizes) (
 
   -- the declaration of an entry, and its old columns
   abbrev decl_of : ℕ → ℕ → ℕ
-  decl_of u id = (entry_at (unit_at r u).forest.entries id).decl
+  decl_of u id = (entry_at (unit_at r.links u).forest.entries id).decl
 
   abbrev old_columns : UnitRead → ℕ → List Spec
   old_columns unit decl = columns_of unit.table unit.table.specs decl
 
-  units_count : length world.units ≡ length r.units
-  units_count = ap (λ (z : List HeadAndForest). length z) holds.units ∙ length-map r.units head_and_forest
+  units_count : length world.units ≡ length r.links.units
+  units_count = ap (λ (z : List HeadAndForest). length z) holds.units ∙ length-map r.links.units head_and_forest
 
-  unit_same : (u : ℕ) → u < length r.units → unit_in world.units u ≡ head_and_forest (unit_at r u)
-  unit_same u inside = ap (λ (z : List HeadAndForest). unit_in z u) holds.units ∙ get_or-map head_and_forest r.units u no_unit (head_and_forest no_unit) inside
+  unit_same : (u : ℕ) → u < length r.links.units → unit_in world.units u ≡ head_and_forest (unit_at r.links u)
+  unit_same u inside = ap (λ (z : List HeadAndForest). unit_in z u) holds.units ∙ get_or-map head_and_forest r.links.units u no_unit (head_and_forest no_unit) inside
 
   -- no new column is DW_FORM_ref1 or DW_FORM_ref2
-  columns_roomy : (u : ℕ) → u < length r.units → All IsRoomy (new_table u).columns
+  columns_roomy : (u : ℕ) → u < length r.links.units → All IsRoomy (new_table u).columns
   columns_roomy u inside =
-      let unit : UnitRead = unit_at r u in
+      let unit : UnitRead = unit_at r.links u in
       let w = table_written read holds written u inside in
       let is = unit_is read holds written u inside in
-      new_columns_roomy world.units (named_by unit) (new_table u).columns w.columns is.table.is.adjacent (unit_built stand file reach r valid read u inside)
+      new_columns_roomy world.units (named_by unit) (new_table u).columns w.columns is.table.adjacent (unit_built stand file reach r valid read u inside)
 
   -- what a value of an entry means is one of the meanings of its column
-  meaning_here : (u id j : ℕ) → u < length r.units → id < length (unit_at r u).forest.entries → Contains (column_meanings world.units (unit_at r u).head.table (decl_of u id) j) (meant_in (unit_at r u).forest.section (value_at (unit_at r u).forest.values ((entry_at (unit_at r u).forest.entries id).first + j)))
+  meaning_here : (u id j : ℕ) → u < length r.links.units → id < length (unit_at r.links u).forest.entries → Contains (column_meanings world.units (unit_at r.links u).head.table (decl_of u id) j) (meant_in (unit_at r.links u).forest.section (value_at (unit_at r.links u).forest.values ((entry_at (unit_at r.links u).forest.entries id).first + j)))
   meaning_here u id j inside known =
       let size = units_count in
-      let same : unit_in world.units u ≡ head_and_forest (unit_at r u) = unit_same u inside in
+      let same : unit_in world.units u ≡ head_and_forest (unit_at r.links u) = unit_same u inside in
       let there : id < length (unit_in world.units u).forest.entries = subst (λ (z : HeadAndForest). id < length z.forest.entries) (sym same) known in
       subst (λ (z : HeadAndForest). Contains (column_meanings world.units z.head.table (entry_at z.forest.entries id).decl j) (meant_in z.forest.section (value_at z.forest.values ((entry_at z.forest.entries id).first + j)))) same (meaning_among world.units u id j (omega (arith, size, inside)) there)
 
   -- what the old column spells of a value of an entry, the new one spells too
-  value_spelled : (u id j : ℕ) → u < length r.units → id < length (unit_at r u).forest.entries → j < length (old_columns (unit_at r u) (decl_of u id)) → j < length (values_in (unit_at r u).forest id) → IsSpelledBy (spec_at (old_columns (unit_at r u) (decl_of u id)) j) (meant_in (unit_at r u).forest.section (value_at (values_in (unit_at r u).forest id) j)) → IsSpelledBy (spec_at (columns_of (unit_at r u).table (new_table u).columns (decl_of u id)) j) (meant_in (unit_at r u).forest.section (value_at (values_in (unit_at r u).forest id) j))
+  value_spelled : (u id j : ℕ) → u < length r.links.units → id < length (unit_at r.links u).forest.entries → j < length (old_columns (unit_at r.links u) (decl_of u id)) → j < length (values_in (unit_at r.links u).forest id) → IsSpelledBy (spec_at (old_columns (unit_at r.links u) (decl_of u id)) j) (meant_in (unit_at r.links u).forest.section (value_at (values_in (unit_at r.links u).forest id) j)) → IsSpelledBy (spec_at (columns_of (unit_at r.links u).table (new_table u).columns (decl_of u id)) j) (meant_in (unit_at r.links u).forest.section (value_at (values_in (unit_at r.links u).forest id) j))
   value_spelled u id j inside known among here spelled =
-      let unit : UnitRead = unit_at r u in
+      let unit : UnitRead = unit_at r.links u in
       let decl : ℕ = decl_of u id in
       let d : Decl = decl_at unit.table.decls decl in
       let w = table_written read holds written u inside in
@@ -95,9 +97,9 @@ module _ (numbers_sized : NumbersHaveSizes) (others_sized : ShortestHaveSizes) (
       subst (λ (z : Spec). IsSpelledBy z m) (sym is.0) (column_spelled world.units (named_by unit) (new_table u).columns w.columns decl j m declared was.1 one old)
 
   -- something can be written for an entry
-  entry_sized : (u : ℕ) → u < length r.units → (id : ℕ) → id < length (unit_at r u).forest.entries → (size : ℕ) × EntrySize (unit_at r u).table (new_table u).columns (new_table u).numbers (unit_at r u).forest id size
+  entry_sized : (u : ℕ) → u < length r.links.units → (id : ℕ) → id < length (unit_at r.links u).forest.entries → (size : ℕ) × EntrySize (unit_at r.links u).table (new_table u).columns (new_table u).numbers (unit_at r.links u).forest id size
   entry_sized u inside id known =
-      let unit : UnitRead = unit_at r u in
+      let unit : UnitRead = unit_at r.links u in
       let is = unit_is read holds written u inside in
       let w = table_written read holds written u inside in
       let decl : ℕ = decl_of u id in
@@ -112,16 +114,16 @@ module _ (numbers_sized : NumbersHaveSizes) (others_sized : ShortestHaveSizes) (
       let sized = values_sized numbers_sized others_sized unit.forest.section (old_columns unit decl) new (values_in unit.forest id) s.values_at end size roomy valued (λ j among here. value_spelled u id j inside known among here) in
       (least_unsigned_len (slice_index (new_table u).numbers decl) + sized.0, (sized.0, sized.1, refl))
 
-  unit_writable : (u : ℕ) → u < length r.units → IsWritable (head_and_forest (unit_at r u)) (unit_at r u).table (new_table u).columns (new_table u).numbers
+  unit_writable : (u : ℕ) → u < length r.links.units → IsWritable (head_and_forest (unit_at r.links u)) (unit_at r.links u).table (new_table u).columns (new_table u).numbers
   unit_writable u inside =
-      let unit : UnitRead = unit_at r u in
+      let unit : UnitRead = unit_at r.links u in
       let is = unit_is read holds written u inside in
       let w = table_written read holds written u inside in
       let info : List ℕ = debug_info file in
-      let heads : List UnitHead = unit_heads r.units in
-      let size : length heads ≡ length r.units = length-map r.units (λ (x : UnitRead). x.head) in
-      let at : get_or heads u no_unit.head ≡ unit.head = get_or-map (λ (x : UnitRead). x.head) r.units u no_unit no_unit.head inside in
-      let head : IsHead info unit.head = subst (IsHead info) at (head_stands info heads 0 (length info) u no_unit.head read.parts.units.tiled (omega (arith, size, inside))) in
+      let heads : List UnitHead = unit_heads r.links.units in
+      let size : length heads ≡ length r.links.units = length-map r.links.units (λ (x : UnitRead). x.head) in
+      let at : get_or heads u no_unit.head ≡ unit.head = get_or-map (λ (x : UnitRead). x.head) r.links.units u no_unit no_unit.head inside in
+      let head : IsHead info unit.head = subst (IsHead info) at (head_stands info heads 0 (length info) u no_unit.head read.links.units.tiled (omega (arith, size, inside))) in
       record {
         head = subst (λ (z : List ℕ). IsHead z unit.head) (sym is.section) head;
         held = subst (λ (z : List ℕ). IsUnitHeld z unit.head (declarations_of unit.table) unit.forest) (sym is.section) is.entries;
@@ -136,7 +138,7 @@ module _ (numbers_sized : NumbersHaveSizes) (others_sized : ShortestHaveSizes) (
   pub chosen_columns_are_writable : AreWritable world tables
   chosen_columns_are_writable u among =
       let size = units_count in
-      let inside : u < length r.units = omega (arith, size, among) in
-      let table : (table_at world.tables (slice_index world.table_of u)).table ≡ (unit_at r u).table = ap (λ (z : NamedTable). z.table) (holds.tables.each u inside) in
-      let by_unit = subst (λ (z : HeadAndForest). IsWritable z (unit_at r u).table (new_table u).columns (new_table u).numbers) (sym (unit_same u inside)) (unit_writable u inside) in
+      let inside : u < length r.links.units = omega (arith, size, among) in
+      let table : (table_at world.tables (slice_index world.table_of u)).table ≡ (unit_at r.links u).table = ap (λ (z : NamedTable). z.table) (holds.tables.each u inside) in
+      let by_unit = subst (λ (z : HeadAndForest). IsWritable z (unit_at r.links u).table (new_table u).columns (new_table u).numbers) (sym (unit_same u inside)) (unit_writable u inside) in
       subst (λ (z : Listing). IsWritable (unit_in world.units u) z (new_table u).columns (new_table u).numbers) (sym table) by_unit

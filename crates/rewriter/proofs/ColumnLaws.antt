@@ -2,7 +2,7 @@
 use Rattle.std.proofs.Common.{◌≡◌, ◌≢◌, ◌<◌, ◌+◌, ◌∙◌, ℕ, List, [], length, take, drop, get_or, true, false, sym, ap, subst, refl, arith, inl, inr}
 use Rattle.std.specs.Prelude.{◌⊎◌}
 use Rattle.std.specs.List.{All, Contains}
-use Rattle.std.proofs.lemmas.Bool.{cases_Bool}
+use Rattle.std.proofs.lemmas.Bool.{cases_Bool, cases_eq}
 use Rattle.std.proofs.lemmas.List.{get_or-map, length-map}
 use Rattle.std.proofs.lemmas.List.Elements.{All-contains, All-get_or, All-from_get_or}
 use Rattle.form_codec.specs.declared.form.Form.{Form}
@@ -19,7 +19,8 @@ use Rattle.entry_read.specs.Units.{HeadAndForest}
 use Rattle.unit_write.specs.Moved.{IsRoomy}
 use Rattle.value_links.specs.declared.units.NamedTable.{NamedTable}
 use Rattle.value_links.specs.Laws.{IsBuilt}
-use Rattle.rewriter.specs.Tables.{column_meanings, AreColumnsChosen}
+use Rattle.value_links.specs.Uses.{uses_of, column_meanings}
+use Rattle.rewriter.specs.inside.Tables.{AreColumnsChosen}
 use Rattle.rewriter.proofs.BuiltUnits.{built_roomy, all_columns_roomy}
 use Rattle.rewriter.proofs.MeaningsAmong.{spelled_among}
 use Rattle.rewriter.proofs.MovedValues.{part_at, as_many}
@@ -60,13 +61,13 @@ choice_roomy column (f, known, written) = (λ is. written_roomy f form.Ref1 refl
 
 -- a column is kept, or in its least form
 abbrev IsKeptOrLeast : Spec → List Meaning → Spec → Type 0
-IsKeptOrLeast old meanings new = (new ≡ old) ⊎ IsLeastForm old.form meanings new.form new.constant
+IsKeptOrLeast old meanings new = (new ≡ old) ⊎ IsLeastForm meanings new.form new.constant
 
 chosen_is : (old : Spec) (meanings : List Meaning) (new : Spec) → IsChosen old meanings new → IsKeptOrLeast old meanings new
 chosen_is old meanings new chosen =
     elim (cases_Bool (is_reference old.form)) [
-      | inl reference ↦ inl (chosen.kept reference)
-      | inr other ↦ inr (chosen.least (λ is. cc (is, other)))
+      | inl reference ↦ inl (chosen.least.kept reference)
+      | inr other ↦ inr (chosen.least.least (λ is. cc (is, other)))
     ]
 
 roomy_still : (old : Spec) (meanings : List Meaning) (new : Spec) → IsKeptOrLeast old meanings new → IsRoomy old → IsRoomy new
@@ -92,11 +93,19 @@ module _ (units : List HeadAndForest) (old : NamedTable) (columns : List Spec) (
   count_of number = (decl_at old.table.decls number).count
 
   column_is : (number j : ℕ) → number < length old.table.decls → j < count_of number → IsKeptOrLeast (spec_at old.table.specs (first_of number + j)) (column_meanings units old.place number j) (spec_at columns (first_of number + j))
-  column_is number j inside below = chosen_is (spec_at old.table.specs (first_of number + j)) (column_meanings units old.place number j) (spec_at columns (first_of number + j)) (chosen.each number j inside below)
+  column_is number j inside below =
+      elim (cases_eq (uses_of units old.place number) 0) [
+        | inl none ↦ inl (chosen.unused number j inside none below)
+        | inr some ↦ chosen_is (spec_at old.table.specs (first_of number + j)) (column_meanings units old.place number j) (spec_at columns (first_of number + j)) (chosen.each number j inside some below)
+      ]
 
   -- each column has its name
   column_named : (number j : ℕ) → number < length old.table.decls → j < count_of number → (spec_at columns (first_of number + j)).name ≡ (spec_at old.table.specs (first_of number + j)).name
-  column_named number j inside below = (chosen.each number j inside below).name
+  column_named number j inside below =
+      elim (cases_eq (uses_of units old.place number) 0) [
+        | inl none ↦ ap (λ (c : Spec). c.name) (chosen.unused number j inside none below)
+        | inr some ↦ (chosen.each number j inside some below).least.name
+      ]
 
   -- what the old column spells of its values, the new one spells too
   pub column_spelled : (number j : ℕ) (m : Meaning) → number < length old.table.decls → j < count_of number → Contains (column_meanings units old.place number j) m → IsSpelledBy (spec_at old.table.specs (first_of number + j)) m → IsSpelledBy (spec_at columns (first_of number + j)) m

@@ -12,14 +12,14 @@ use Rattle.form_codec.specs.Forms.{Meaning}
 use Rattle.form_codec.specs.Values.{meant_in}
 use Rattle.abbrev_tables.specs.declared.decl.Decl.{Decl}
 use Rattle.abbrev_tables.specs.Listings.{decl_at, AreAdjacent}
-use Rattle.abbrev_tables.proofs.Joined.{first_after}
+use Rattle.abbrev_tables.proofs.Rows.{first_after}
 use Rattle.entry_arena.specs.declared.entry.Entry.{Entry}
 use Rattle.entry_arena.specs.Arena.{entry_at, value_at}
 use Rattle.entry_read.specs.Units.{HeadAndForest, declarations_of, IsTable, IsUnitHeld, entry_limit}
 use Rattle.value_links.specs.declared.units.NamedTable.{NamedTable}
-use Rattle.rewriter.specs.Tables.{entries_with, uses_of, values_with, column_meanings}
-use Rattle.rewriter.specs.Placed.{unit_in}
-use Rattle.rewriter.specs.Columns.{units_with, value_in_column, values_in_column, values_of_units}
+use Rattle.value_links.specs.Uses.{entries_with, uses_of, values_with, column_meanings}
+use Rattle.rewriter.specs.inside.Placed.{unit_in}
+use Rattle.rewriter.specs.inside.Columns.{units_with, value_in_column, values_in_column, values_of_units}
 use Rattle.rewriter.proofs.ColumnRows.{column_outside, value_here, value_none}
 use Rattle.rewriter.proofs.ColumnUnits.{entry_declared}
 
@@ -82,7 +82,7 @@ abbrev pub entry_count : HeadAndForest → ℕ
 entry_count unit = length unit.forest.entries
 
 -- Those units that have the table with a number name its place, and no others do. Their entries are by its declarations, all in one
--- section, and there are no more of them than a file may have. Each of the declarations is that of an entry.
+-- section, and there are no more of them than a file may have.
 pub record AreOfTable (units : List HeadAndForest) (table : NamedTable) (section : List ℕ) (table_of : List ℕ) (i : ℕ) : Type 0 where
   pub stands : IsTable table.table
   pub named : (u : ℕ) → u < length units → slice_index table_of u ≡ i → (unit_in units u).head.table ≡ table.place
@@ -90,7 +90,6 @@ pub record AreOfTable (units : List HeadAndForest) (table : NamedTable) (section
   pub lent : (u : ℕ) → u < length units → slice_index table_of u ≡ i → (unit_in units u).forest.section ≡ section
   pub held : (u : ℕ) → u < length units → slice_index table_of u ≡ i → IsUnitHeld section (unit_in units u).head (declarations_of table.table) (unit_in units u).forest
   pub few : sum_by entry_count units ≤ entry_limit
-  pub used : (number : ℕ) → number < length table.table.decls → 1 ≤ uses_of units table.place number
 
 -- what the values of a unit in a column mean, if it names the table
 abbrev pub term_of : ℕ → ℕ → ℕ → HeadAndForest → List Meaning
@@ -125,7 +124,7 @@ module _ (units : List HeadAndForest) (table : NamedTable) (section table_of : L
     unit_means u below is =
         let unit : HeadAndForest = unit_in units u in
         let all : List Meaning = map (meant_in unit.forest.section) (values_with number j unit) in
-        ap (map (meant_in section)) (values_are table.table.decls (length table.table.specs) of.stands.2.is.adjacent unit.forest.values number j known inside unit.forest.entries (declared_here u below is))
+        ap (map (meant_in section)) (values_are table.table.decls (length table.table.specs) of.stands.2.adjacent unit.forest.values number j known inside unit.forest.entries (declared_here u below is))
         ∙ ap (λ (z : List ℕ). map (meant_in z) (values_with number j unit)) (sym (of.lent u below is))
         ∙ sym (cond-true {A = List Meaning} (eqb unit.head.table table.place) all [] (eq-eqb unit.head.table table.place (of.named u below is)))
 

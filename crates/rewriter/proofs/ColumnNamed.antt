@@ -7,8 +7,8 @@ use Rattle.std.proofs.lemmas.List.Elements.{All-nil, All-push, All-get_or}
 use Rattle.std.proofs.lemmas.List.Sums.{sum_by_push, sum_by_more}
 use Rattle.entry_read.specs.Units.{HeadAndForest}
 use Rattle.value_links.specs.declared.units.NamedTable.{NamedTable}
-use Rattle.rewriter.specs.Placed.{unit_in}
-use Rattle.rewriter.specs.Columns.{units_with, AreUnitsOf}
+use Rattle.rewriter.specs.inside.Placed.{unit_in}
+use Rattle.rewriter.specs.inside.Columns.{units_with, AreUnitsOf}
 use Rattle.rewriter.proofs.ColumnUnits.{entries_of}
 use Rattle.rewriter.proofs.ColumnMeanings.{AreOfTable, entry_count}
 

@@ -4,7 +4,7 @@ use Rattle.std.proofs.lemmas.Bool.{cases_eq, cases_lt, cond-true, cond-false, eq
 use Rattle.std.proofs.lemmas.List.{get_or-map, get_or-set_same, get_or-set_other, get_or_append_left, length-map, length-set, length_push, map-append}
 use Rattle.std.proofs.Math.Seq.{get_or-append_seam}
 use Rattle.rewriter.specs.declared.columns.Namers.{Namers}
-use Rattle.rewriter.specs.Columns.{units_with, namers_in, AreNamers}
+use Rattle.rewriter.specs.inside.Columns.{units_with, namers_in, AreNamers}
 
 abbrev numbers_of : Namers → List ℕ
 numbers_of namers = namers.units.items

@@ -8,7 +8,7 @@ use Rattle.abbrev_tables.specs.Listings.{decl_at}
 use Rattle.column_forms.specs.TableColumns.{AddsRow}
 use Rattle.entry_arena.specs.declared.entry.Entry.{Entry}
 use Rattle.entry_arena.specs.Arena.{value_at}
-use Rattle.rewriter.specs.Columns.{has_column, value_in_column, values_in_column, with_entries}
+use Rattle.rewriter.specs.inside.Columns.{has_column, value_in_column, values_in_column, with_entries}
 
 -- a declaration has those columns of its table that follow its first one, and no others
 pub column_here : (d : Decl) (k : ℕ) → d.first ≤ k → k < d.first + d.count → has_column d k ≡ true

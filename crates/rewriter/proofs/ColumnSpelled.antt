@@ -20,8 +20,8 @@ use Rattle.entry_read.specs.Units.{HeadAndForest, declarations_of, IsTable, IsUn
 use Rattle.entry_read.proofs.Declarations.{columns_inside, declared_is}
 use Rattle.entry_read.proofs.PlaceLaws.{entry_stands}
 use Rattle.value_links.specs.declared.units.NamedTable.{NamedTable}
-use Rattle.rewriter.specs.Tables.{values_with, column_meanings}
-use Rattle.rewriter.specs.Placed.{unit_in}
+use Rattle.value_links.specs.Uses.{values_with, column_meanings}
+use Rattle.rewriter.specs.inside.Placed.{unit_in}
 use Rattle.rewriter.proofs.ColumnUnits.{entry_declared, entry_counted}
 use Rattle.rewriter.proofs.ColumnMeanings.{has_decl, AreOfTable, term_of, held_here}
 

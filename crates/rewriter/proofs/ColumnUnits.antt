@@ -22,8 +22,8 @@ use Rattle.entry_read.proofs.Declarations.{columns_inside, count_same, declared_
 use Rattle.entry_read.proofs.OwnerLaws.{values_belong}
 use Rattle.entry_read.proofs.PlaceLaws.{entry_stands}
 use Rattle.unit_write.proofs.Sizing.{valued_between}
-use Rattle.rewriter.specs.Placed.{unit_in}
-use Rattle.rewriter.specs.Columns.{values_in_column, values_of_units, with_entries, HaveRoomFor, AddsEntries, AreUnitsOf, AreGathered}
+use Rattle.rewriter.specs.inside.Placed.{unit_in}
+use Rattle.rewriter.specs.inside.Columns.{values_in_column, values_of_units, with_entries, HaveRoomFor, AddsEntries, AreUnitsOf, AreGathered}
 use Rattle.rewriter.proofs.ColumnRows.{row_added, few_values}
 
 -- ROOM

@@ -25,17 +25,17 @@ constant_fits code c (m ∷ ms) n is some (bytes, rest, s, more, sum) = constant
 
 pub chosen_writable : (old new : Spec) (meanings : List Meaning) → IsWritableColumn old → 0 < length meanings → IsChosen old meanings new → IsWritableColumn new
 chosen_writable old new meanings writable some chosen = elim (cases_Bool (is_reference old.form)) [
-  | inl kept ↦ subst IsWritableColumn (sym (chosen.kept kept)) writable
+  | inl kept ↦ subst IsWritableColumn (sym (chosen.least.kept kept)) writable
   | inr moves ↦
       let free : is_reference old.form ≢ true = both_ways (is_reference old.form) moves in
-      let within = (chosen.least free).enough in
+      let within = (chosen.least.least free).enough in
       record {
-        named = λ none. writable.named (sym chosen.name ∙ none);
-        narrow = subst (λ (n : ℕ). n < 2 ^ 32) (sym chosen.name) writable.narrow;
+        named = λ none. writable.named (sym chosen.least.name ∙ none);
+        narrow = subst (λ (n : ℕ). n < 2 ^ 32) (sym chosen.least.name) writable.narrow;
         known = (within.choice.0, within.choice.1);
         constant = elim (cases_eq new.form implicit_const) [
           | inl is ↦ inl (is, constant_fits new.form new.constant meanings within.entries is some within.within)
-          | inr other ↦ inr (other, chosen.unused other free)
+          | inr other ↦ inr (other, chosen.least.unused other free)
         ];
       }
 ]

@@ -18,7 +18,8 @@ use Rattle.line_write.specs.Readings.{AreRead}
 use Rattle.line_write.proofs.ReadBack.{bounds}
 use Rattle.line_write.proofs.Tiling.{follow_push}
 use Rattle.value_links.specs.Sections.{debug_line, offset_named, line_name}
-use Rattle.value_links.specs.Reading.{ProgramRead, Reading, line_heads, HasRows, AreProgramsIn, IsReading}
+use Rattle.value_links.specs.Reading.{ProgramRead, Reading, line_heads, HasRows, AreProgramsIn}
+use Rattle.value_links.specs.Whole.{IsReading}
 use Rattle.value_links.specs.Faults.{IsValid}
 use Rattle.value_links.specs.Faults.Pass.{OfPrograms}
 use Rattle.value_links.specs.Laws.{HaveFewRows}
@@ -95,10 +96,10 @@ module _ (section : List ℕ) (sound : (place : ℕ) → LinesFault section Limi
       record { each = All-cons HasFew p programs (few_here before p to stands own) more.each; all = omega (arith, sum, all) }
 
 -- the programs of a valid file keep the limits
-pub few_rows : (file : List ℕ) (reach : Reach) (r : Reading) → IsValid file reach → IsReading file r → HaveFewRows r.programs
+pub few_rows : (file : List ℕ) (reach : Reach) (r : Reading) → IsValid file reach → IsReading file r → HaveFewRows r.links.programs
 few_rows file reach r valid read =
     let section : List ℕ = debug_line file in
-    let few = few_from section (λ place fault. valid OfPrograms Limit (offset_named file line_name + place) (place, refl, fault)) [] 0 r.programs 0 refl refl (omega arith) read.parts.programs.tiled read.parts.programs.given in
+    let few = few_from section (λ place fault. valid OfPrograms Limit (offset_named file line_name + place) (place, refl, fault)) [] 0 r.links.programs 0 refl refl (omega arith) read.links.programs.tiled read.links.programs.given in
     let all = few.all in
     record { each = few.each; all = omega (arith, all) }
 

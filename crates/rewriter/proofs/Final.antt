@@ -23,10 +23,11 @@ use Rattle.value_links.specs.Values.{HasValueAt, values_of, declaration_of}
 use Rattle.value_links.specs.World.{World, head_and_forest, table_at, Holds, IsWorldOf}
 use Rattle.value_links.specs.declared.units.NamedTable.{NamedTable}
 use Rattle.rewriter.specs.declared.tables.NewTable.{NewTable}
-use Rattle.rewriter.specs.Tables.{table_anew, new_table_at, AreTablesWritten}
-use Rattle.rewriter.specs.Placed.{PlacesAnew, places_anew, places_at, unit_in}
-use Rattle.rewriter.specs.Numbers.{IsNewNumber, IsNewType, AreNewNumbers}
-use Rattle.rewriter.specs.Held.{HasTable, table_for, entry_in, name_in, value_in, EntryMeans, AreNumbered, IsTypeMoved}
+use Rattle.rewriter.specs.declared.new_places.NewPlaces.{NewPlaces}
+use Rattle.rewriter.specs.inside.Tables.{table_anew, new_table_at, AreTablesWritten}
+use Rattle.rewriter.specs.inside.Placed.{PlacesAnew, places_anew, places_at, unit_in}
+use Rattle.rewriter.specs.inside.Numbers.{IsNewNumber, IsNewType, AreNewNumbers}
+use Rattle.rewriter.specs.inside.Held.{HasTable, table_for, entry_in, name_in, value_in, EntryMeans, AreNumbered, IsTypeMoved}
 use Rattle.rewriter.proofs.Standing.{held_unit, held_count, has_table}
 use Rattle.rewriter.proofs.Meant.{read_unit_at, column_same, value_same, values_size}
 
@@ -79,66 +80,66 @@ value_there world u id column own entry values own_is entry_is values_are =
 abbrev pub unit_from : HeadAndForest → Listing → UnitRead
 unit_from h t = record { head = h.head; table = t; forest = h.forest }
 
-pub table_known : (file : List ℕ) (world : World) (r : Reading) (u : ℕ) → Holds file world r → u < length r.units → table_for world u ≡ (unit_at r u).table
+pub table_known : (file : List ℕ) (world : World) (r : Reading) (u : ℕ) → Holds file world r → u < length r.links.units → table_for world u ≡ (unit_at r.links u).table
 table_known file world r u holds inside = ap (λ (t : NamedTable). t.table) (holds.tables.each u inside)
 
-pub unit_known : (file : List ℕ) (world : World) (r : Reading) (u : ℕ) → Holds file world r → u < length r.units → unit_from (unit_in world.units u) (table_for world u) ≡ unit_at r u
+pub unit_known : (file : List ℕ) (world : World) (r : Reading) (u : ℕ) → Holds file world r → u < length r.links.units → unit_from (unit_in world.units u) (table_for world u) ≡ unit_at r.links u
 unit_known file world r u holds inside =
-    ap (λ (h : HeadAndForest). unit_from h (table_for world u)) (held_unit file world r u holds) ∙ ap (unit_from (head_and_forest (unit_at r u))) (table_known file world r u holds inside)
+    ap (λ (h : HeadAndForest). unit_from h (table_for world u)) (held_unit file world r u holds) ∙ ap (unit_from (head_and_forest (unit_at r.links u))) (table_known file world r u holds inside)
 
 -- so each reading has the units of any
-pub unit_once : (file other : List ℕ) (world : World) (r s : Reading) (u : ℕ) → Holds file world r → Holds other world s → u < length world.units → unit_at r u ≡ unit_at s u
+pub unit_once : (file other : List ℕ) (world : World) (r s : Reading) (u : ℕ) → Holds file world r → Holds other world s → u < length world.units → unit_at r.links u ≡ unit_at s.links u
 unit_once file other world r s u holds held inside =
-    let a : length world.units ≡ length r.units = held_count file world r holds in
-    let b : length world.units ≡ length s.units = held_count other world s held in
+    let a : length world.units ≡ length r.links.units = held_count file world r holds in
+    let b : length world.units ≡ length s.links.units = held_count other world s held in
     sym (unit_known file world r u holds (omega arith)) ∙ unit_known other world s u held (omega arith)
 
-pub unit_reads : (file : List ℕ) (world : World) (r : Reading) (u : ℕ) (reach : Reach) (is : IsWorldOf world.image reach world) → Holds file world r → u < length world.units → IsUnitRead (debug_info world.image) (debug_abbrev world.image) (unit_at r u)
+pub unit_reads : (file : List ℕ) (world : World) (r : Reading) (u : ℕ) (reach : Reach) (is : IsWorldOf world.image reach world) → Holds file world r → u < length world.units → IsUnitRead (debug_info world.image) (debug_abbrev world.image) (unit_at r.links u)
 unit_reads file world r u reach is holds inside =
-    let size : length world.units ≡ length is.r.units = held_count world.image world is.r is.holds in
-    subst (IsUnitRead (debug_info world.image) (debug_abbrev world.image)) (unit_once world.image file world is.r r u is.holds holds inside) (read_unit_at world.image is.r u is.read.parts.units.each (omega arith))
+    let size : length world.units ≡ length is.r.links.units = held_count world.image world is.r is.holds in
+    subst (IsUnitRead (debug_info world.image) (debug_abbrev world.image)) (unit_once world.image file world is.r r u is.holds holds inside) (read_unit_at world.image is.r u is.read.links.units.each (omega arith))
 
 -- the new numbers of values, where the unit and its table are given
-abbrev NumbersIn : Reading → List Places → List ℕ → ℕ → List ℕ → HeadAndForest → Listing → Type 0
-NumbersIn r places lines u held h t =
-    (id j : ℕ) → id < length h.forest.entries → j < (entry_at h.forest.entries id).count → IsNewNumber r places lines u (spec_at t.specs ((decl_at t.decls (entry_at h.forest.entries id).decl).first + j)).name (meant_in (unit_at r u).forest.section (value_at h.forest.values ((entry_at h.forest.entries id).first + j))) (slice_index held ((entry_at h.forest.entries id).first + j))
+abbrev NumbersIn : Reading → List Places → NewPlaces → ℕ → List ℕ → HeadAndForest → Listing → Type 0
+NumbersIn r places new_places u held h t =
+    (id j : ℕ) → id < length h.forest.entries → j < (entry_at h.forest.entries id).count → IsNewNumber r.links places new_places u id (spec_at t.specs ((decl_at t.decls (entry_at h.forest.entries id).decl).first + j)).name (meant_in (unit_at r.links u).forest.section (value_at h.forest.values ((entry_at h.forest.entries id).first + j))) (slice_index held ((entry_at h.forest.entries id).first + j))
 
 -- an attribute is the one with its number among the columns
-module _ (r : Reading) (places : List Places) (lines : List ℕ) (u : ℕ) (held : List ℕ) (info abbrevs : List ℕ) (is : IsUnitRead info abbrevs (unit_at r u)) (numbers : NumbersIn r places lines u held (head_and_forest (unit_at r u)) (unit_at r u).table) where
-  pub attribute_numbered : (id number name : ℕ) (meaning : Meaning) (place : ℕ) → HasValueAt (unit_at r u) id number name meaning place → IsNewNumber r places lines u name meaning (slice_index held number)
+module _ (r : Reading) (places : List Places) (new_places : NewPlaces) (u : ℕ) (held : List ℕ) (info abbrevs : List ℕ) (is : IsUnitRead info abbrevs (unit_at r.links u)) (numbers : NumbersIn r places new_places u held (head_and_forest (unit_at r.links u)) (unit_at r.links u).table) where
+  pub attribute_numbered : (id number name : ℕ) (meaning : Meaning) (place : ℕ) → HasValueAt (unit_at r.links u) id number name meaning place → IsNewNumber r.links places new_places u id name meaning (slice_index held number)
   attribute_numbered id number name meaning place h =
-      let e : Entry = entry_at (unit_at r u).forest.entries id in
-      let section : List ℕ = (unit_at r u).forest.section in
-      let values : List Value = (unit_at r u).forest.values in
+      let e : Entry = entry_at (unit_at r.links u).forest.entries id in
+      let section : List ℕ = (unit_at r.links u).forest.section in
+      let values : List Value = (unit_at r.links u).forest.values in
       let j : ℕ = length h.earlier in
-      let size : length (values_of (unit_at r u) id) ≡ (entry_at (unit_at r u).forest.entries id).count = values_size info abbrevs (unit_at r u) is id h.known in
-      let parts : length (values_of (unit_at r u) id) ≡ length h.earlier + length (h.value ∷ h.later) = ap length h.values ∙ length-append h.earlier (h.value ∷ h.later) in
-      let below : length h.earlier < (entry_at (unit_at r u).forest.entries id).count = omega arith in
-      let counted : length h.earlier ≡ length h.earlier_columns = values_counted (unit_at r u).forest.section h.earlier_columns h.earlier h.values_at place h.valued in
+      let size : length (values_of (unit_at r.links u) id) ≡ (entry_at (unit_at r.links u).forest.entries id).count = values_size info abbrevs (unit_at r.links u) is id h.known in
+      let parts : length (values_of (unit_at r.links u) id) ≡ length h.earlier + length (h.value ∷ h.later) = ap length h.values ∙ length-append h.earlier (h.value ∷ h.later) in
+      let below : length h.earlier < (entry_at (unit_at r.links u).forest.entries id).count = omega arith in
+      let counted : length h.earlier ≡ length h.earlier_columns = values_counted (unit_at r.links u).forest.section h.earlier_columns h.earlier h.values_at place h.valued in
       let none : Spec = spec_at [] 0 in
-      let column : spec_at (declaration_of (unit_at r u) id).columns (length h.earlier) ≡ h.column = ap (λ (cs : List Spec). spec_at cs (length h.earlier)) h.columns ∙ subst (λ (k : ℕ). spec_at (h.earlier_columns ++ h.column ∷ h.later_columns) k ≡ h.column) (sym counted) (get_or-append_seam h.earlier_columns h.column h.later_columns none) in
-      let here : value_at (values_of (unit_at r u) id) (length h.earlier) ≡ h.value = ap (λ (vs : List Value). value_at vs (length h.earlier)) h.values ∙ get_or-append_seam h.earlier h.value h.later (value.Addr 0) in
-      let name_is : (spec_at (unit_at r u).table.specs ((decl_at (unit_at r u).table.decls (entry_at (unit_at r u).forest.entries id).decl).first + length h.earlier)).name ≡ name = ap (λ (c : Spec). c.name) (sym (column_same info abbrevs (unit_at r u) is id h.known (length h.earlier) below) ∙ column) ∙ sym h.named in
-      let value_is : value_at (unit_at r u).forest.values ((entry_at (unit_at r u).forest.entries id).first + length h.earlier) ≡ h.value = sym (value_same info abbrevs (unit_at r u) is id h.known (length h.earlier) below) ∙ here in
-      let meaning_is : meant_in (unit_at r u).forest.section (value_at (unit_at r u).forest.values ((entry_at (unit_at r u).forest.entries id).first + length h.earlier)) ≡ meaning = ap (meant_in (unit_at r u).forest.section) value_is ∙ sym h.meant in
+      let column : spec_at (declaration_of (unit_at r.links u) id).columns (length h.earlier) ≡ h.column = ap (λ (cs : List Spec). spec_at cs (length h.earlier)) h.columns ∙ subst (λ (k : ℕ). spec_at (h.earlier_columns ++ h.column ∷ h.later_columns) k ≡ h.column) (sym counted) (get_or-append_seam h.earlier_columns h.column h.later_columns none) in
+      let here : value_at (values_of (unit_at r.links u) id) (length h.earlier) ≡ h.value = ap (λ (vs : List Value). value_at vs (length h.earlier)) h.values ∙ get_or-append_seam h.earlier h.value h.later (value.Addr 0) in
+      let name_is : (spec_at (unit_at r.links u).table.specs ((decl_at (unit_at r.links u).table.decls (entry_at (unit_at r.links u).forest.entries id).decl).first + length h.earlier)).name ≡ name = ap (λ (c : Spec). c.name) (sym (column_same info abbrevs (unit_at r.links u) is id h.known (length h.earlier) below) ∙ column) ∙ sym h.named in
+      let value_is : value_at (unit_at r.links u).forest.values ((entry_at (unit_at r.links u).forest.entries id).first + length h.earlier) ≡ h.value = sym (value_same info abbrevs (unit_at r.links u) is id h.known (length h.earlier) below) ∙ here in
+      let meaning_is : meant_in (unit_at r.links u).forest.section (value_at (unit_at r.links u).forest.values ((entry_at (unit_at r.links u).forest.entries id).first + length h.earlier)) ≡ meaning = ap (meant_in (unit_at r.links u).forest.section) value_is ∙ sym h.meant in
       let raw = numbers id (length h.earlier) h.known below in
-      let a = subst (λ (n : ℕ). IsNewNumber r places lines u n (meant_in (unit_at r u).forest.section (value_at (unit_at r u).forest.values ((entry_at (unit_at r u).forest.entries id).first + length h.earlier))) (slice_index held ((entry_at (unit_at r u).forest.entries id).first + length h.earlier))) name_is raw in
-      let b = subst (λ (m : Meaning). IsNewNumber r places lines u name m (slice_index held ((entry_at (unit_at r u).forest.entries id).first + length h.earlier))) meaning_is a in
-      subst (λ (n : ℕ). IsNewNumber r places lines u name meaning (slice_index held n)) (sym h.numbered) b
+      let a = subst (λ (n : ℕ). IsNewNumber r.links places new_places u id n (meant_in (unit_at r.links u).forest.section (value_at (unit_at r.links u).forest.values ((entry_at (unit_at r.links u).forest.entries id).first + length h.earlier))) (slice_index held ((entry_at (unit_at r.links u).forest.entries id).first + length h.earlier))) name_is raw in
+      let b = subst (λ (m : Meaning). IsNewNumber r.links places new_places u id name m (slice_index held ((entry_at (unit_at r.links u).forest.entries id).first + length h.earlier))) meaning_is a in
+      subst (λ (n : ℕ). IsNewNumber r.links places new_places u id name meaning (slice_index held n)) (sym h.numbered) b
 
-pub type_moved : (file : List ℕ) (world : World) (r : Reading) (places : List Places) (u : ℕ) (own : HeadAndForest) (mine : Places) (new : ℕ) → Holds file world r → own ≡ unit_in world.units u → places_anew mine ≡ places_at places u → IsTypeMoved own (places_anew mine) new → IsNewType r (places_at places u) u new
+pub type_moved : (file : List ℕ) (world : World) (r : Reading) (places : List Places) (u : ℕ) (own : HeadAndForest) (mine : Places) (new : ℕ) → Holds file world r → own ≡ unit_in world.units u → places_anew mine ≡ places_at places u → IsTypeMoved own (places_anew mine) new → IsNewType r.links (places_at places u) u new
 type_moved file world r places u own mine new holds own_is mine_is moved =
-    let there : own ≡ head_and_forest (unit_at r u) = own_is ∙ held_unit file world r u holds in
-    let m : IsTypeMoved (head_and_forest (unit_at r u)) (places_at places u) new = subst (λ (p : PlacesAnew). IsTypeMoved (head_and_forest (unit_at r u)) p new) mine_is (subst (λ (h : HeadAndForest). IsTypeMoved h (places_anew mine) new) there moved) in
+    let there : own ≡ head_and_forest (unit_at r.links u) = own_is ∙ held_unit file world r u holds in
+    let m : IsTypeMoved (head_and_forest (unit_at r.links u)) (places_at places u) new = subst (λ (p : PlacesAnew). IsTypeMoved (head_and_forest (unit_at r.links u)) p new) mine_is (subst (λ (h : HeadAndForest). IsTypeMoved h (places_anew mine) new) there moved) in
     record { entry = m.entry; none = m.none }
 
-pub are_new_numbers : (file : List ℕ) (world : World) (r : Reading) (tables : List NewTable) (places : List Places) (lines : List ℕ) (u : ℕ) (reach : Reach) (own : HeadAndForest) (mine : Places) (new : NewNumbers) → IsWorldOf world.image reach world → Holds file world r → u < length world.units → own ≡ unit_in world.units u → places_anew mine ≡ places_at places u → new.end ≡ mine.end → new.table ≡ (new_table_at tables (slice_index world.table_of u)).at → IsTypeMoved own (places_anew mine) new.type_offset → AreNumbered world places lines u new.held.items → AreNewNumbers world r tables places lines u new
-are_new_numbers file world r tables places lines u reach own mine new is holds known own_is mine_is end table type held =
-    let size : length world.units ≡ length r.units = held_count file world r holds in
-    let inside : u < length r.units = omega arith in
-    let first : NumbersIn r places lines u new.held.items (unit_in world.units u) (table_for world u) = λ id j a b. held.each id j a b file r holds in
-    let numbers : NumbersIn r places lines u new.held.items (head_and_forest (unit_at r u)) (unit_at r u).table =
-    subst (NumbersIn r places lines u new.held.items (head_and_forest (unit_at r u))) (table_known file world r u holds inside) (subst (λ (h : HeadAndForest). NumbersIn r places lines u new.held.items h (table_for world u)) (held_unit file world r u holds) first) in
+pub are_new_numbers : (file : List ℕ) (world : World) (r : Reading) (tables : List NewTable) (places : List Places) (new_places : NewPlaces) (u : ℕ) (reach : Reach) (own : HeadAndForest) (mine : Places) (new : NewNumbers) → IsWorldOf world.image reach world → Holds file world r → u < length world.units → own ≡ unit_in world.units u → places_anew mine ≡ places_at places u → new.end ≡ mine.end → new.table ≡ (new_table_at tables (slice_index world.table_of u)).at → IsTypeMoved own (places_anew mine) new.type_offset → AreNumbered world places new_places u new.held.items → AreNewNumbers world r.links tables places new_places u new
+are_new_numbers file world r tables places new_places u reach own mine new is holds known own_is mine_is end table type held =
+    let size : length world.units ≡ length r.links.units = held_count file world r holds in
+    let inside : u < length r.links.units = omega arith in
+    let first : NumbersIn r places new_places u new.held.items (unit_in world.units u) (table_for world u) = λ id j a b. held.each id j a b file r id holds in
+    let numbers : NumbersIn r places new_places u new.held.items (head_and_forest (unit_at r.links u)) (unit_at r.links u).table =
+    subst (NumbersIn r places new_places u new.held.items (head_and_forest (unit_at r.links u))) (table_known file world r u holds inside) (subst (λ (h : HeadAndForest). NumbersIn r places new_places u new.held.items h (table_for world u)) (held_unit file world r u holds) first) in
     record {
       ends = end ∙ ap (λ (p : PlacesAnew). p.end) mine_is;
       table_at = table;
@@ -146,7 +147,7 @@ are_new_numbers file world r tables places lines u reach own mine new is holds k
       type_fits = type.fits;
       count = held.size.1 refl ∙ ap (λ (h : HeadAndForest). length h.forest.values) (held_unit file world r u holds);
       fit = All-from_get_or (λ (number : ℕ). number < 2 ^ 32) new.held.items 0 (λ k within. held.fit k within);
-      each = attribute_numbered r places lines u new.held.items (debug_info world.image) (debug_abbrev world.image) (unit_reads file world r u reach is holds known) numbers;
+      each = attribute_numbered r places new_places u new.held.items (debug_info world.image) (debug_abbrev world.image) (unit_reads file world r u reach is holds known) numbers;
     }
 
 pub new_table_is : (world : World) (tables : List NewTable) (u : ℕ) (table_of : List ℕ) (i : ℕ) (table : NewTable) → HasTable world tables u → table_of ≡ world.table_of → i ≡ get_or table_of u i → table ≡ get_or tables i table → table_anew table ≡ new_table_at tables (slice_index world.table_of u)
@@ -156,7 +157,7 @@ new_table_is world tables u table_of i table has same is there =
 
 pub has_anew : (world : World) (section : List ℕ) (tables : List NewTable) (u : ℕ) → ((reach : Reach) × IsWorldOf world.image reach world) → AreTablesWritten world section tables → u < length world.units → HasTable world tables u
 has_anew world section tables u (reach, is) written known =
-    let size : length world.units ≡ length is.r.units = held_count world.image world is.r is.holds in
+    let size : length world.units ≡ length is.r.links.units = held_count world.image world is.r is.holds in
     let count : length tables ≡ length world.tables = written.count in
     let old : slice_index world.table_of u < length world.tables = is.holds.tables.inside u (omega arith) in
     has_table world tables u (reach, is) (omega arith) known

@@ -6,7 +6,8 @@ use Rattle.std.proofs.Math.ListN.{get_or-append}
 use Rattle.fixed_width.specs.Numbers.{number_at}
 use Rattle.fixed_width.proofs.Numbers.{number_same}
 use Rattle.entry_read.specs.declared.head.UnitHead.{UnitHead}
-use Rattle.entry_read.specs.Heads.{unit_length, version, unit_type, address_size, debug_abbrev_offset, signature, type_offset, header_size, unit_end, IsUnitType, type_unit, skeleton_unit, HasHead, extra_at, type_at, head_at, IsHead}
+use Rattle.fixed_width.specs.InitialLengths.{unit_length, version, unit_end}
+use Rattle.entry_read.specs.Heads.{unit_type, address_size, debug_abbrev_offset, signature, type_offset, header_size, IsUnitType, type_unit, skeleton_unit, HasHead, extra_at, type_at, head_at, IsHead}
 
 number_stays : (n at : ℕ) (section more : List ℕ) → at + n ≤ length section → number_at n at (section ++ more) ≡ number_at n at section
 number_stays n at section more inside = number_same n at (section ++ more) section (λ k low high. get_or-append section more 0 k (omega arith))

@@ -2,16 +2,20 @@ pub mod UsedDeclarations
 pub mod MovedPlaces
 pub mod MovedValues
 pub mod MovedEntries
+pub mod MovedAttributes
 pub mod MovedLinks
+pub mod ContextsStay
 pub mod Following
 pub mod NoneUnread
 pub mod UseLaws
 pub mod Renumbers
+pub mod AllColumns
 pub mod Writables
 pub mod Appends
 pub mod WorldFacts
 pub mod BuiltTables
-pub mod TidyUnits
+pub mod Codes
+pub mod Tidied
 pub mod LeastColumns
 pub mod Rewritten
 pub mod ValidImages
@@ -53,5 +57,3 @@ pub mod TableSteps
 pub mod TermSums
 pub mod TableSizes
 pub mod SectionSizes
-pub mod PartDeclarations
-pub mod UsedAgain

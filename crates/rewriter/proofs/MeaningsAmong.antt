@@ -12,8 +12,8 @@ use Rattle.form_codec.specs.Values.{meant_in}
 use Rattle.entry_arena.specs.declared.entry.Entry.{Entry}
 use Rattle.entry_arena.specs.Arena.{entry_at, value_at}
 use Rattle.entry_read.specs.Units.{HeadAndForest}
-use Rattle.rewriter.specs.Tables.{values_with, column_meanings}
-use Rattle.rewriter.specs.Placed.{unit_in}
+use Rattle.value_links.specs.Uses.{values_with, column_meanings}
+use Rattle.rewriter.specs.inside.Placed.{unit_in}
 
 -- LISTS
 

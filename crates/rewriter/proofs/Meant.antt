@@ -30,8 +30,8 @@ use Rattle.value_links.specs.Resolved.{Resolved, Resolves}
 use Rattle.value_links.specs.Debug.{EntryMeaning, UnitMeaning, described, MeansAttribute, MeansEntry, MeansType, MeansUnit}
 use Rattle.value_links.specs.World.{World, head_and_forest, IsWorldOf}
 use Rattle.value_links.specs.declared.units.NamedTable.{NamedTable}
-use Rattle.rewriter.specs.Placed.{unit_in}
-use Rattle.rewriter.specs.Held.{FitsOffset, MeansSomething, table_for, HaveAllValues, UnitMeans, HasType}
+use Rattle.rewriter.specs.inside.Placed.{unit_in}
+use Rattle.rewriter.specs.inside.Held.{FitsOffset, MeansSomething, table_for, HaveAllValues, UnitMeans, HasType}
 use Rattle.rewriter.proofs.OffsetSizes.{offsets_fit}
 use Rattle.rewriter.proofs.Standing.{filled, held_unit, held_count}
 
@@ -44,8 +44,8 @@ all_zip_at R (x ∷ xs) (y ∷ ys) zero d all inside = (y, all.0)
 all_zip_at R (x ∷ xs) (y ∷ ys) (suc i) d all inside = all_zip_at R xs ys i d all.1 (omega arith)
 
 -- the unit with a number is read
-pub read_unit_at : (file : List ℕ) (r : Reading) (u : ℕ) → All (IsUnitRead (debug_info file) (debug_abbrev file)) r.units → u < length r.units → IsUnitRead (debug_info file) (debug_abbrev file) (unit_at r u)
-read_unit_at file r u all inside = All-get_or (IsUnitRead (debug_info file) (debug_abbrev file)) r.units u no_unit inside all
+pub read_unit_at : (file : List ℕ) (r : Reading) (u : ℕ) → All (IsUnitRead (debug_info file) (debug_abbrev file)) r.links.units → u < length r.links.units → IsUnitRead (debug_info file) (debug_abbrev file) (unit_at r.links u)
+read_unit_at file r u all inside = All-get_or (IsUnitRead (debug_info file) (debug_abbrev file)) r.links.units u no_unit inside all
 
 module _ (info abbrevs : List ℕ) (unit : UnitRead) (is : IsUnitRead info abbrevs unit) where
   pub owners : HaveOwners (declarations unit) unit.forest
@@ -120,31 +120,31 @@ module _ (info abbrevs : List ℕ) (unit : UnitRead) (is : IsUnitRead info abbre
         subst FitsOffset (value_same j below) fits
 
 -- the attribute with a number means something
-attribute_means : (info abbrevs : List ℕ) (r : Reading) (u id j : ℕ) (unit : UnitMeaning) → IsUnitRead info abbrevs (unit_at r u) → MeansUnit r u unit → (inside : id < length (unit_at r u).forest.entries) → j < (entry_at (unit_at r u).forest.entries id).count → (v : Resolved) × Resolves r u id (spec_at (unit_at r u).table.specs ((decl_at (unit_at r u).table.decls (entry_at (unit_at r u).forest.entries id).decl).first + j)).name (meant_in (unit_at r u).forest.section (value_at (unit_at r u).forest.values ((entry_at (unit_at r u).forest.entries id).first + j))) v
+attribute_means : (info abbrevs : List ℕ) (r : Reading) (u id j : ℕ) (unit : UnitMeaning) → IsUnitRead info abbrevs (unit_at r.links u) → MeansUnit r u unit → (inside : id < length (unit_at r.links u).forest.entries) → j < (entry_at (unit_at r.links u).forest.entries id).count → (v : Resolved) × Resolves r u id (spec_at (unit_at r.links u).table.specs ((decl_at (unit_at r.links u).table.decls (entry_at (unit_at r.links u).forest.entries id).decl).first + j)).name (meant_in (unit_at r.links u).forest.section (value_at (unit_at r.links u).forest.values ((entry_at (unit_at r.links u).forest.entries id).first + j))) v
 attribute_means info abbrevs r u id j unit is means inside below =
-    let f = (unit_at r u).forest in
-    let ds = declarations (unit_at r u) in
-    let e = entry_at (unit_at r u).forest.entries id in
+    let f = (unit_at r.links u).forest in
+    let ds = declarations (unit_at r.links u) in
+    let e = entry_at (unit_at r.links u).forest.entries id in
     let none : Entry = record { at = 0; len = 0; depth = 0; decl = 0; first = 0; count = 0 } in
-    let by : Entry → Described = described_by (unit_at r u).forest.section (declarations (unit_at r u)) (unit_at r u).forest.values in
-    let size : length (described (unit_at r u)) ≡ length (unit_at r u).forest.entries = length-map (unit_at r u).forest.entries by in
-    let count : length unit.forest ≡ length (described (unit_at r u)) = means.forest.count in
+    let by : Entry → Described = described_by (unit_at r.links u).forest.section (declarations (unit_at r.links u)) (unit_at r.links u).forest.values in
+    let size : length (described (unit_at r.links u)) ≡ length (unit_at r.links u).forest.entries = length-map (unit_at r.links u).forest.entries by in
+    let count : length unit.forest ≡ length (described (unit_at r.links u)) = means.forest.count in
     let no_meaning : EntryMeaning = slice_index_or unit.forest id (record { depth = 0; tag = 0; children = (by none).children; attributes = [] }) in
-    let entry : MeansEntry r u id (slice_index_or (described (unit_at r u)) id (by none)) (slice_index_or unit.forest id no_meaning) = means.forest.each id (by none) no_meaning (omega arith) in
-    let stands : slice_index_or (described (unit_at r u)) id (by none) ≡ by e = get_or-map by (unit_at r u).forest.entries id none in
+    let entry : MeansEntry r u id (slice_index_or (described (unit_at r.links u)) id (by none)) (slice_index_or unit.forest id no_meaning) = means.forest.each id (by none) no_meaning (omega arith) in
+    let stands : slice_index_or (described (unit_at r.links u)) id (by none) ≡ by e = get_or-map by (unit_at r.links u).forest.entries id none in
     let zip : AllZip (MeansAttribute r u id) (by e).attributes (slice_index_or unit.forest id no_meaning).attributes = subst (λ (d : Described). AllZip (MeansAttribute r u id) d.attributes (slice_index_or unit.forest id no_meaning).attributes) stands entry.attributes in
-    let columns = (declared_at (declarations (unit_at r u)) e.decl).columns in
-    let values = take e.count (drop e.first (unit_at r u).forest.values) in
-    let have : length (take e.count (drop e.first (unit_at r u).forest.values)) ≡ e.count = values_size info abbrevs (unit_at r u) is id inside in
-    let counted : e.count ≡ length (declared_at (declarations (unit_at r u)) e.decl).columns = (owners info abbrevs (unit_at r u) is).counted id inside in
-    let many : length (take e.count (drop e.first (unit_at r u).forest.values)) ≡ length (declared_at (declarations (unit_at r u)) e.decl).columns = have ∙ counted in
-    let long : length (attributes_of (unit_at r u).forest.section (declared_at (declarations (unit_at r u)) e.decl).columns (take e.count (drop e.first (unit_at r u).forest.values))) ≡ length (declared_at (declarations (unit_at r u)) e.decl).columns = attributes_count (unit_at r u).forest.section columns values many in
-    let d : ℕ × Meaning = (0, meant_in (unit_at r u).forest.section (value_at values j)) in
-    let at = all_zip_at (MeansAttribute r u id) (attributes_of (unit_at r u).forest.section columns values) (slice_index_or unit.forest id no_meaning).attributes j d zip (omega arith) in
-    let here : get_or (attributes_of (unit_at r u).forest.section columns values) j d ≡ ((spec_at columns j).name, meant_in (unit_at r u).forest.section (value_at values j)) = attribute_at (unit_at r u).forest.section columns values j d many (omega arith) in
-    let raw : Resolves r u id (spec_at columns j).name (meant_in (unit_at r u).forest.section (value_at values j)) at.0.1 = subst (λ (a : ℕ × Meaning). Resolves r u id a.0 a.1 at.0.1) here at.1.value in
-    let named : Resolves r u id (spec_at (unit_at r u).table.specs ((decl_at (unit_at r u).table.decls e.decl).first + j)).name (meant_in (unit_at r u).forest.section (value_at values j)) at.0.1 = subst (λ (c : Spec). Resolves r u id c.name (meant_in (unit_at r u).forest.section (value_at values j)) at.0.1) (column_same info abbrevs (unit_at r u) is id inside j below) raw in
-    (at.0.1, subst (λ (v : Value). Resolves r u id (spec_at (unit_at r u).table.specs ((decl_at (unit_at r u).table.decls e.decl).first + j)).name (meant_in (unit_at r u).forest.section v) at.0.1) (value_same info abbrevs (unit_at r u) is id inside j below) named)
+    let columns = (declared_at (declarations (unit_at r.links u)) e.decl).columns in
+    let values = take e.count (drop e.first (unit_at r.links u).forest.values) in
+    let have : length (take e.count (drop e.first (unit_at r.links u).forest.values)) ≡ e.count = values_size info abbrevs (unit_at r.links u) is id inside in
+    let counted : e.count ≡ length (declared_at (declarations (unit_at r.links u)) e.decl).columns = (owners info abbrevs (unit_at r.links u) is).counted id inside in
+    let many : length (take e.count (drop e.first (unit_at r.links u).forest.values)) ≡ length (declared_at (declarations (unit_at r.links u)) e.decl).columns = have ∙ counted in
+    let long : length (attributes_of (unit_at r.links u).forest.section (declared_at (declarations (unit_at r.links u)) e.decl).columns (take e.count (drop e.first (unit_at r.links u).forest.values))) ≡ length (declared_at (declarations (unit_at r.links u)) e.decl).columns = attributes_count (unit_at r.links u).forest.section columns values many in
+    let d : ℕ × Meaning = (0, meant_in (unit_at r.links u).forest.section (value_at values j)) in
+    let at = all_zip_at (MeansAttribute r u id) (attributes_of (unit_at r.links u).forest.section columns values) (slice_index_or unit.forest id no_meaning).attributes j d zip (omega arith) in
+    let here : get_or (attributes_of (unit_at r.links u).forest.section columns values) j d ≡ ((spec_at columns j).name, meant_in (unit_at r.links u).forest.section (value_at values j)) = attribute_at (unit_at r.links u).forest.section columns values j d many (omega arith) in
+    let raw : Resolves r u id (spec_at columns j).name (meant_in (unit_at r.links u).forest.section (value_at values j)) at.0.1 = subst (λ (a : ℕ × Meaning). Resolves r u id a.0 a.1 at.0.1) here at.1.value in
+    let named : Resolves r u id (spec_at (unit_at r.links u).table.specs ((decl_at (unit_at r.links u).table.decls e.decl).first + j)).name (meant_in (unit_at r.links u).forest.section (value_at values j)) at.0.1 = subst (λ (c : Spec). Resolves r u id c.name (meant_in (unit_at r.links u).forest.section (value_at values j)) at.0.1) (column_same info abbrevs (unit_at r.links u) is id inside j below) raw in
+    (at.0.1, subst (λ (v : Value). Resolves r u id (spec_at (unit_at r.links u).table.specs ((decl_at (unit_at r.links u).table.decls e.decl).first + j)).name (meant_in (unit_at r.links u).forest.section v) at.0.1) (value_same info abbrevs (unit_at r.links u) is id inside j below) named)
 
 -- THE WORLD
 
@@ -158,46 +158,46 @@ record EntryIn (world : World) (u id : ℕ) (h : HeadAndForest) (t : Listing) : 
   pub means : (column : ℕ) → column < (entry_at h.forest.entries id).count → MeansSomething world u (spec_at t.specs ((decl_at t.decls (entry_at h.forest.entries id).decl).first + column)).name (value_at h.forest.values ((entry_at h.forest.entries id).first + column))
 
 module _ (world : World) (u : ℕ) (reach : Reach) (is : IsWorldOf world.image reach world) (known : u < length world.units) where
-  inside_read : u < length is.r.units
-  inside_read = let size : length world.units ≡ length is.r.units = held_count world.image world is.r is.holds in omega arith
+  inside_read : u < length is.r.links.units
+  inside_read = let size : length world.units ≡ length is.r.links.units = held_count world.image world is.r is.holds in omega arith
 
-  unit_is : IsUnitRead (debug_info world.image) (debug_abbrev world.image) (unit_at is.r u)
-  unit_is = read_unit_at world.image is.r u is.read.parts.units.each inside_read
+  unit_is : IsUnitRead (debug_info world.image) (debug_abbrev world.image) (unit_at is.r.links u)
+  unit_is = read_unit_at world.image is.r u is.read.links.units.each inside_read
 
-  unit_held : unit_in world.units u ≡ head_and_forest (unit_at is.r u)
+  unit_held : unit_in world.units u ≡ head_and_forest (unit_at is.r.links u)
   unit_held = held_unit world.image world is.r u is.holds
 
-  table_held : table_for world u ≡ (unit_at is.r u).table
+  table_held : table_for world u ≡ (unit_at is.r.links u).table
   table_held = ap (λ (t : NamedTable). t.table) (is.holds.tables.each u inside_read)
 
   means_unit : MeansUnit is.r u (slice_index_or is.debug.units u (record { unit_type = 0; signature = 0; type_entry = None; forest = [] }))
   means_unit =
-      let count : length is.debug.units ≡ length is.r.units = is.means.units.count in
-      let inside : u < length is.r.units = inside_read in
+      let count : length is.debug.units ≡ length is.r.links.units = is.means.units.count in
+      let inside : u < length is.r.links.units = inside_read in
       is.means.units.each u (record { unit_type = 0; signature = 0; type_entry = None; forest = [] }) (omega arith)
 
-  entry_read : (id : ℕ) → id < length (unit_at is.r u).forest.entries → EntryIn world u id (head_and_forest (unit_at is.r u)) (unit_at is.r u).table
+  entry_read : (id : ℕ) → id < length (unit_at is.r.links u).forest.entries → EntryIn world u id (head_and_forest (unit_at is.r.links u)) (unit_at is.r.links u).table
   entry_read id inside = record {
     entry = inside;
-    declared = entry_declared (debug_info world.image) (debug_abbrev world.image) (unit_at is.r u) unit_is id inside;
-    counted = counted (debug_info world.image) (debug_abbrev world.image) (unit_at is.r u) unit_is id inside;
-    columns = columns_within (debug_info world.image) (debug_abbrev world.image) (unit_at is.r u) unit_is id inside;
-    values = (owners (debug_info world.image) (debug_abbrev world.image) (unit_at is.r u) unit_is).inside id inside;
+    declared = entry_declared (debug_info world.image) (debug_abbrev world.image) (unit_at is.r.links u) unit_is id inside;
+    counted = counted (debug_info world.image) (debug_abbrev world.image) (unit_at is.r.links u) unit_is id inside;
+    columns = columns_within (debug_info world.image) (debug_abbrev world.image) (unit_at is.r.links u) unit_is id inside;
+    values = (owners (debug_info world.image) (debug_abbrev world.image) (unit_at is.r.links u) unit_is).inside id inside;
     means = λ column below.
         let m = attribute_means (debug_info world.image) (debug_abbrev world.image) is.r u id column (slice_index_or is.debug.units u (record { unit_type = 0; signature = 0; type_entry = None; forest = [] })) unit_is means_unit inside below in
-        record { file = world.image; r = is.r; holds = is.holds; id = id; resolved = m.0; resolves = m.1; fits = offset_fits (debug_info world.image) (debug_abbrev world.image) (unit_at is.r u) unit_is id inside column below };
+        record { file = world.image; r = is.r; holds = is.holds; id = id; linked = m.1.linked; links = m.1.links; fits = offset_fits (debug_info world.image) (debug_abbrev world.image) (unit_at is.r.links u) unit_is id inside column below };
   }
 
   pub unit_means : UnitMeans world u
   unit_means = record {
     known = known;
-    values = subst (λ (h : HeadAndForest). HaveAllValues h.forest) (sym unit_held) (all_values (debug_info world.image) (debug_abbrev world.image) (unit_at is.r u) unit_is);
+    values = subst (λ (h : HeadAndForest). HaveAllValues h.forest) (sym unit_held) (all_values (debug_info world.image) (debug_abbrev world.image) (unit_at is.r.links u) unit_is);
     entries = λ id inside.
-        let within : id < length (unit_at is.r u).forest.entries = subst (λ (h : HeadAndForest). id < length h.forest.entries) unit_held inside in
-        let e : EntryIn world u id (unit_in world.units u) (table_for world u) = subst (λ (h : HeadAndForest). EntryIn world u id h (table_for world u)) (sym unit_held) (subst (EntryIn world u id (head_and_forest (unit_at is.r u))) (sym table_held) (entry_read id within)) in
-        let size : length world.units ≡ length is.r.units = held_count world.image world is.r is.holds in
-        let count : length world.table_of ≡ length is.r.units = is.holds.tables.count in
-        let there : u < length is.r.units = inside_read in
+        let within : id < length (unit_at is.r.links u).forest.entries = subst (λ (h : HeadAndForest). id < length h.forest.entries) unit_held inside in
+        let e : EntryIn world u id (unit_in world.units u) (table_for world u) = subst (λ (h : HeadAndForest). EntryIn world u id h (table_for world u)) (sym unit_held) (subst (EntryIn world u id (head_and_forest (unit_at is.r.links u))) (sym table_held) (entry_read id within)) in
+        let size : length world.units ≡ length is.r.links.units = held_count world.image world is.r is.holds in
+        let count : length world.table_of ≡ length is.r.links.units = is.holds.tables.count in
+        let there : u < length is.r.links.units = inside_read in
         record {
           unit = known;
           numbered = omega arith;
@@ -211,7 +211,7 @@ module _ (world : World) (u : ℕ) (reach : Reach) (is : IsWorldOf world.image r
         };
   }
 
-  type_there : (type : Option ℕ) → MeansType is.r u type → (unit_at is.r u).head.kind ≡ type_unit → (id : ℕ) × IsEntryAt (unit_at is.r u).forest id ((unit_at is.r u).head.at + (unit_at is.r u).head.type_at)
+  type_there : (type : Option ℕ) → MeansType is.r.links u type → (unit_at is.r.links u).head.kind ≡ type_unit → (id : ℕ) × IsEntryAt (unit_at is.r.links u).forest id ((unit_at is.r.links u).head.at + (unit_at is.r.links u).head.type_at)
   type_there (Some id) means kind = (id, means.1)
   type_there None means kind = absurd (means kind)
 

@@ -23,9 +23,10 @@ use Rattle.value_links.specs.Reading.{UnitRead, Reading, unit_at, declarations}
 use Rattle.value_links.specs.Values.{entry_of, declaration_of, values_of, HasValueAt}
 use Rattle.value_links.specs.World.{World, named_by}
 use Rattle.rewriter.specs.declared.tables.NewTable.{NewTable}
-use Rattle.rewriter.specs.Tables.{TableAnew, new_table_at}
-use Rattle.rewriter.specs.Units.{IsUnitMoved}
-use Rattle.rewriter.specs.Follows.{AreReadAnew}
+use Rattle.rewriter.specs.declared.new_places.NewPlaces.{NewPlaces}
+use Rattle.rewriter.specs.inside.Tables.{TableAnew, new_table_at}
+use Rattle.rewriter.specs.inside.Units.{IsUnitMoved}
+use Rattle.rewriter.specs.inside.Follows.{AreReadAnew}
 use Rattle.rewriter.proofs.ColumnLaws.{AreNamedAlike, columns_named}
 use Rattle.rewriter.proofs.UsedDeclarations.{table_written, decl_known, decl_used, unit_is}
 use Rattle.rewriter.proofs.MovedValues.{value_here, as_many}
@@ -35,38 +36,38 @@ no_entry = record { at = 0; len = 0; depth = 0; decl = 0; first = 0; count = 0 }
 
 -- the declaration of an entry is the same, but for its code, which is the new number, and for the forms of its columns
 pub record IsSameDeclared (r s : Reading) (numbers : List ℕ) (u id : ℕ) : Type 0 where
-  pub code : (declaration_of (unit_at s u) id).code ≡ slice_index numbers (entry_of (unit_at r u) id).decl
-  pub tag : (declaration_of (unit_at s u) id).tag ≡ (declaration_of (unit_at r u) id).tag
-  pub children : (declaration_of (unit_at s u) id).children ≡ (declaration_of (unit_at r u) id).children
-  pub named : AreNamedAlike (declaration_of (unit_at r u) id).columns (declaration_of (unit_at s u) id).columns
+  pub code : (declaration_of (unit_at s.links u) id).code ≡ slice_index numbers (entry_of (unit_at r.links u) id).decl
+  pub tag : (declaration_of (unit_at s.links u) id).tag ≡ (declaration_of (unit_at r.links u) id).tag
+  pub children : (declaration_of (unit_at s.links u) id).children ≡ (declaration_of (unit_at r.links u) id).children
+  pub named : AreNamedAlike (declaration_of (unit_at r.links u) id).columns (declaration_of (unit_at s.links u) id).columns
 
-module _ {file : List ℕ} {world : World} {tables : List NewTable} {places : List Places} {starts info abbrevs : List ℕ} {r s : Reading} (all : AreReadAnew file world tables places starts info abbrevs r s) where
+module _ {file : List ℕ} {world : World} {tables : List NewTable} {places : List Places} {new_places : NewPlaces} {info abbrevs : List ℕ} {r s : Reading} (all : AreReadAnew file world tables places new_places info abbrevs r s) where
   abbrev pub new_table : ℕ → TableAnew
   new_table u = new_table_at tables (slice_index world.table_of u)
 
   -- a unit is written anew
-  pub moved : (u : ℕ) → u < length r.units → IsUnitMoved world r tables places starts u (unit_at s u)
+  pub moved : (u : ℕ) → u < length r.links.units → IsUnitMoved world r.links tables places new_places u (unit_at s.links u)
   moved u inside = all.units.each u inside
 
   -- and so are its entries
-  pub entry_moved : (u id : ℕ) → (inside : u < length r.units) → id < length (unit_at r u).forest.entries → IsMovedEntry (new_table u).numbers (entry_of (unit_at r u) id) (entry_of (unit_at s u) id)
-  entry_moved u id inside known = AllZip-get_or (IsMovedEntry (new_table u).numbers) (unit_at r u).forest.entries (unit_at s u).forest.entries id no_entry no_entry (moved u inside).entries known
+  pub entry_moved : (u id : ℕ) → (inside : u < length r.links.units) → id < length (unit_at r.links u).forest.entries → IsMovedEntry (new_table u).numbers (entry_of (unit_at r.links u) id) (entry_of (unit_at s.links u) id)
+  entry_moved u id inside known = AllZip-get_or (IsMovedEntry (new_table u).numbers) (unit_at r.links u).forest.entries (unit_at s.links u).forest.entries id no_entry no_entry (moved u inside).entries known
 
-  pub entries_count : (u : ℕ) → u < length r.units → length (unit_at r u).forest.entries ≡ length (unit_at s u).forest.entries
-  entries_count u inside = length_all_zip (IsMovedEntry (new_table u).numbers) (unit_at r u).forest.entries (unit_at s u).forest.entries (moved u inside).entries
+  pub entries_count : (u : ℕ) → u < length r.links.units → length (unit_at r.links u).forest.entries ≡ length (unit_at s.links u).forest.entries
+  entries_count u inside = length_all_zip (IsMovedEntry (new_table u).numbers) (unit_at r.links u).forest.entries (unit_at s.links u).forest.entries (moved u inside).entries
 
   -- each with its declaration
-  pub same_declared : (u id : ℕ) → u < length r.units → id < length (unit_at r u).forest.entries → IsSameDeclared r s (new_table u).numbers u id
+  pub same_declared : (u id : ℕ) → u < length r.links.units → id < length (unit_at r.links u).forest.entries → IsSameDeclared r s (new_table u).numbers u id
   same_declared u id inside known =
-      let unit : UnitRead = unit_at r u in
+      let unit : UnitRead = unit_at r.links u in
       let decl : ℕ = (entry_of unit id).decl in
       let number : ℕ = slice_index (new_table u).numbers decl in
-      let ds : List Declared = declarations (unit_at s u) in
+      let ds : List Declared = declarations (unit_at s.links u) in
       let declared : decl < length unit.table.decls = decl_known all.read all.holds all.tables_written u id inside known in
       let positive : 1 ≤ number = decl_used all.read all.holds all.tables_written u id inside known in
       let some : number ≢ 0 = λ none. omega arith in
       let is : declared_at ds (number - 1) ≡ numbered_as number (decl_at unit.table.decls decl) (columns_of unit.table (new_table u).columns decl) = ((moved u inside).renumbered.each decl declared some).1 in
-      let here : declaration_of (unit_at s u) id ≡ declared_at ds (number - 1) = ap (λ (z : ℕ). declared_at ds z) (entry_moved u id inside known).decl in
+      let here : declaration_of (unit_at s.links u) id ≡ declared_at ds (number - 1) = ap (λ (z : ℕ). declared_at ds z) (entry_moved u id inside known).decl in
       let old : declaration_of unit id ≡ declared_in unit.table.specs (decl_at unit.table.decls decl) = declared_is unit.table decl declared in
       let w = table_written all.read all.holds all.tables_written u inside in
       let named : AreNamedAlike (columns_of unit.table unit.table.specs decl) (columns_of unit.table (new_table u).columns decl) = columns_named world.units (named_by unit) (new_table u).columns w.columns decl declared in
@@ -79,7 +80,7 @@ module _ {file : List ℕ} {world : World} {tables : List NewTable} {places : Li
       }
 
   -- a value of an entry stands in it
-  pub has_value : (u id : ℕ) → u < length r.units → (known : id < length (unit_at r u).forest.entries) → (stands : StandsAs (unit_at r u).forest.section (declarations (unit_at r u)) (unit_at r u).forest.values (entry_of (unit_at r u) id)) → (before : List Spec) (c : Spec) (after : List Spec) (evs : List Value) (v : Value) (more : List Value) (place : ℕ) → (declaration_of (unit_at r u) id).columns ≡ before ++ c ∷ after → values_of (unit_at r u) id ≡ evs ++ v ∷ more → ValuesBetween (unit_at r u).forest.section before evs stands.values_at place → HasValueAt (unit_at r u) id ((entry_of (unit_at r u) id).first + length evs) c.name (meant_in (unit_at r u).forest.section v) place
+  pub has_value : (u id : ℕ) → u < length r.links.units → (known : id < length (unit_at r.links u).forest.entries) → (stands : StandsAs (unit_at r.links u).forest.section (declarations (unit_at r.links u)) (unit_at r.links u).forest.values (entry_of (unit_at r.links u) id)) → (before : List Spec) (c : Spec) (after : List Spec) (evs : List Value) (v : Value) (more : List Value) (place : ℕ) → (declaration_of (unit_at r.links u) id).columns ≡ before ++ c ∷ after → values_of (unit_at r.links u) id ≡ evs ++ v ∷ more → ValuesBetween (unit_at r.links u).forest.section before evs stands.values_at place → HasValueAt (unit_at r.links u) id ((entry_of (unit_at r.links u) id).first + length evs) c.name (meant_in (unit_at r.links u).forest.section v) place
   has_value u id inside known stands before c after evs v more place columns values valued = record {
     known = known;
     earlier_columns = before;
@@ -99,27 +100,27 @@ module _ {file : List ℕ} {world : World} {tables : List NewTable} {places : Li
   }
 
   -- an entry of an old unit stands in .debug_info
-  pub stands_in : (u id : ℕ) → u < length r.units → id < length (unit_at r u).forest.entries → StandsAs (unit_at r u).forest.section (declarations (unit_at r u)) (unit_at r u).forest.values (entry_of (unit_at r u) id)
+  pub stands_in : (u id : ℕ) → u < length r.links.units → id < length (unit_at r.links u).forest.entries → StandsAs (unit_at r.links u).forest.section (declarations (unit_at r.links u)) (unit_at r.links u).forest.values (entry_of (unit_at r.links u) id)
   stands_in u id inside known =
       let is = unit_is all.read all.holds all.tables_written u inside in
-      entry_stands (debug_info file) (unit_at r u).head (declarations (unit_at r u)) (unit_at r u).forest is.section is.entries id known
+      entry_stands (debug_info file) (unit_at r.links u).head (declarations (unit_at r.links u)) (unit_at r.links u).forest is.section is.entries id known
 
   -- the values that an entry of the new unit has, by the first and the count of the old entry
   abbrev pub new_values : ℕ → ℕ → List Value
-  new_values u id = take (entry_of (unit_at r u) id).count (drop (entry_of (unit_at r u) id).first (unit_at s u).forest.values)
+  new_values u id = take (entry_of (unit_at r.links u) id).count (drop (entry_of (unit_at r.links u) id).first (unit_at s.links u).forest.values)
 
-  pub values_are : (u id : ℕ) → u < length r.units → id < length (unit_at r u).forest.entries → values_of (unit_at s u) id ≡ new_values u id
+  pub values_are : (u id : ℕ) → u < length r.links.units → id < length (unit_at r.links u).forest.entries → values_of (unit_at s.links u) id ≡ new_values u id
   values_are u id inside known =
       let e = entry_moved u id inside known in
-      ap (λ (z : ℕ). take z (drop (entry_of (unit_at s u) id).first (unit_at s u).forest.values)) e.count ∙ ap (λ (z : ℕ). take (entry_of (unit_at r u) id).count (drop z (unit_at s u).forest.values)) e.first
+      ap (λ (z : ℕ). take z (drop (entry_of (unit_at s.links u) id).first (unit_at s.links u).forest.values)) e.count ∙ ap (λ (z : ℕ). take (entry_of (unit_at r.links u) id).count (drop z (unit_at s.links u).forest.values)) e.first
 
   -- each means the old one with its new number
-  pub values_mean : (u id : ℕ) (inside : u < length r.units) (k : ℕ) → k < length (values_of (unit_at r u) id) → meant_in (unit_at s u).forest.section (value_at (new_values u id) k) ≡ with_number (slice_index (moved u inside).numbers.held.items ((entry_of (unit_at r u) id).first + k)) (meant_in (unit_at r u).forest.section (value_at (values_of (unit_at r u) id) k))
+  pub values_mean : (u id : ℕ) (inside : u < length r.links.units) (k : ℕ) → k < length (values_of (unit_at r.links u) id) → meant_in (unit_at s.links u).forest.section (value_at (new_values u id) k) ≡ with_number (slice_index (moved u inside).numbers.held.items ((entry_of (unit_at r.links u) id).first + k)) (meant_in (unit_at r.links u).forest.section (value_at (values_of (unit_at r.links u) id) k))
   values_mean u id inside k k_in =
       let m = moved u inside in
-      let e : Entry = entry_of (unit_at r u) id in
+      let e : Entry = entry_of (unit_at r.links u) id in
       let held : ℕ = slice_index m.numbers.held.items (e.first + k) in
-      let size : length (new_values u id) ≡ length (values_of (unit_at r u) id) = as_many (unit_at r u).forest.values (unit_at s u).forest.values e.first e.count m.values.count in
-      let (old, old_in) = value_here (unit_at r u).forest.values e.first e.count k k_in in
-      let (new, new_in) = value_here (unit_at s u).forest.values e.first e.count k (subst (λ (z : ℕ). k < z) (sym size) k_in) in
-      ap (λ (z : Value). meant_in (unit_at s u).forest.section z) new ∙ m.values.each (e.first + k) old_in ∙ ap (λ (z : Value). with_number held (meant_in (unit_at r u).forest.section z)) (sym old)
+      let size : length (new_values u id) ≡ length (values_of (unit_at r.links u) id) = as_many (unit_at r.links u).forest.values (unit_at s.links u).forest.values e.first e.count m.values.count in
+      let (old, old_in) = value_here (unit_at r.links u).forest.values e.first e.count k k_in in
+      let (new, new_in) = value_here (unit_at s.links u).forest.values e.first e.count k (subst (λ (z : ℕ). k < z) (sym size) k_in) in
+      ap (λ (z : Value). meant_in (unit_at s.links u).forest.section z) new ∙ m.values.each (e.first + k) old_in ∙ ap (λ (z : Value). with_number held (meant_in (unit_at r.links u).forest.section z)) (sym old)

@@ -10,9 +10,9 @@ use Rattle.entry_arena.specs.declared.entry.Target.{Target}
 use Rattle.entry_arena.specs.declared.entry.Target.TheVariants.{Entry as TheEntry, ChainEnd as TheEnd}
 use Rattle.entry_arena.specs.Arena.{Arena, entry_at, chain_end_at, IsEntryAt, IsChainEndAt}
 use Rattle.unit_write.specs.Moved.{IsMovedEntry, IsMovedEnd}
-use Rattle.value_links.specs.Resolved.{IsTargetAt}
-use Rattle.rewriter.specs.Placed.{PlacesAnew}
-use Rattle.rewriter.specs.Numbers.{MovesEntry, MovesEnd, MovesTo}
+use Rattle.value_links.specs.Linked.{IsTargetAt}
+use Rattle.rewriter.specs.inside.Placed.{PlacesAnew}
+use Rattle.rewriter.specs.inside.Numbers.{MovesEntry, MovesEnd, MovesTo}
 
 -- one target stands at the old place and at the new one
 pub record TargetMoves (f g : Arena) (old new : ℕ) : Type 0 where

@@ -1,4 +1,4 @@
--- The values of an entry, one by one, and what they mean in the file that is written anew.
+-- The values of an entry, one by one, and those that are written anew for them.
 use Rattle.std.proofs.Common.{◌≡◌, ◌<◌, ◌+◌, ◌-◌, ◌∙◌, ◌++◌, ℕ, zero, suc, List, [], ◌∷◌, length, get_or, take, drop, sym, ap, min, subst, refl, arith}
 use Rattle.std.specs.List.{AllZip}
 use Rattle.std.proofs.lemmas.List.{append_assoc, get_or-take, get_or-drop, length-take, length-drop}
@@ -11,9 +11,6 @@ use Rattle.entry_arena.specs.Arena.{value_at}
 use Rattle.entry_arena.specs.Forests.{attributes_of}
 use Rattle.entry_arena.specs.Trees.{ValuesBetween}
 use Rattle.entry_read.proofs.Parts.{values_push}
-use Rattle.value_links.specs.Reading.{Reading}
-use Rattle.value_links.specs.Resolved.{Resolved, Resolves}
-use Rattle.value_links.specs.Debug.{MeansAttribute}
 
 -- an item of a part of a list, among all items
 pub part_at : {X : Type 0} (xs : List X) (first count k : ℕ) (d : X) → k < length (take count (drop first xs)) → (get_or (take count (drop first xs)) k d ≡ get_or xs (first + k) d) × (k < count) × (first + k < length xs)
@@ -71,24 +68,23 @@ split_at section (c ∷ cs) (v ∷ vs) from to (suc k) (next, spelled, placed, v
       valued = (next, spelled, placed, rest.valued);
     }
 
--- Attributes mean in `s` what they mean in `r`, where each value that stands among columns does, and `moved` tells of a value by
--- its number among those of its entry what it means now.
-module _ (r s : Reading) (u id : ℕ) (old new : List ℕ) (columns : List Spec) (values : List Value) (values_at : ℕ) (moved : ℕ → Meaning → Meaning) (each : (before : List Spec) (c : Spec) (after : List Spec) (evs : List Value) (v : Value) (more : List Value) (place : ℕ) (y : Resolved) → columns ≡ before ++ c ∷ after → values ≡ evs ++ v ∷ more → ValuesBetween old before evs values_at place → Resolves r u id c.name (meant_in old v) y → Resolves s u id c.name (moved (length evs) (meant_in old v)) y) where
-  pub attributes_follow : (earlier cs : List Spec) (evs vs ws : List Value) (n from to : ℕ) (ys : List (ℕ × Resolved)) → columns ≡ earlier ++ cs → values ≡ evs ++ vs → length evs ≡ n → ValuesBetween old earlier evs values_at from → ValuesBetween old cs vs from to → length ws ≡ length vs → ((k : ℕ) → k < length vs → meant_in new (value_at ws k) ≡ moved (n + k) (meant_in old (value_at vs k))) → AllZip (MeansAttribute r u id) (attributes_of old cs vs) ys → AllZip (MeansAttribute s u id) (attributes_of new cs ws) ys
-  attributes_follow earlier [] evs [] [] n from to ys is_columns is_values count prior valued size means zip = zip
-  attributes_follow earlier [] evs [] (w ∷ ws) n from to ys is_columns is_values count prior valued size means zip = absurd (omega arith)
-  attributes_follow earlier [] evs (v ∷ vs) ws n from to ys is_columns is_values count prior valued size means zip = absurd valued
-  attributes_follow earlier (c ∷ cs) evs [] ws n from to ys is_columns is_values count prior valued size means zip = absurd valued
-  attributes_follow earlier (c ∷ cs) evs (v ∷ vs) [] n from to ys is_columns is_values count prior valued size means zip = absurd (omega arith)
-  attributes_follow earlier (c ∷ cs) evs (v ∷ vs) (w ∷ ws) n from to [] is_columns is_values count prior valued size means zip = absurd zip
-  attributes_follow earlier (c ∷ cs) evs (v ∷ vs) (w ∷ ws) n from to (y ∷ ys) is_columns is_values count prior (next, spelled, placed, valued) size means (first, zip) =
-      let follows : Resolves s u id c.name (moved (length evs) (meant_in old v)) y.1 = each earlier c cs evs v vs from y.1 is_columns is_values prior first.value in
+-- The attributes of an entry, one by one, where each value that stands among columns is in a relation to what it means now:
+-- `moved` tells that by the value's number among those of the entry.
+module _ (Moves : ℕ × Meaning → ℕ × Meaning → Type 0) (old new : List ℕ) (columns : List Spec) (values : List Value) (values_at : ℕ) (moved : ℕ → Meaning → Meaning) (each : (before : List Spec) (c : Spec) (after : List Spec) (evs : List Value) (v : Value) (more : List Value) (place : ℕ) → columns ≡ before ++ c ∷ after → values ≡ evs ++ v ∷ more → ValuesBetween old before evs values_at place → Moves (c.name, meant_in old v) (c.name, moved (length evs) (meant_in old v))) where
+  pub attributes_move : (earlier cs : List Spec) (evs vs ws : List Value) (n from to : ℕ) → columns ≡ earlier ++ cs → values ≡ evs ++ vs → length evs ≡ n → ValuesBetween old earlier evs values_at from → ValuesBetween old cs vs from to → length ws ≡ length vs → ((k : ℕ) → k < length vs → meant_in new (value_at ws k) ≡ moved (n + k) (meant_in old (value_at vs k))) → AllZip Moves (attributes_of old cs vs) (attributes_of new cs ws)
+  attributes_move earlier [] evs [] [] n from to is_columns is_values count prior valued size means = tt
+  attributes_move earlier [] evs [] (w ∷ ws) n from to is_columns is_values count prior valued size means = absurd (omega arith)
+  attributes_move earlier [] evs (v ∷ vs) ws n from to is_columns is_values count prior valued size means = absurd valued
+  attributes_move earlier (c ∷ cs) evs [] ws n from to is_columns is_values count prior valued size means = absurd valued
+  attributes_move earlier (c ∷ cs) evs (v ∷ vs) [] n from to is_columns is_values count prior valued size means = absurd (omega arith)
+  attributes_move earlier (c ∷ cs) evs (v ∷ vs) (w ∷ ws) n from to is_columns is_values count prior (next, spelled, placed, valued) size means =
+      let moves : Moves (c.name, meant_in old v) (c.name, moved (length evs) (meant_in old v)) = each earlier c cs evs v vs from is_columns is_values prior in
       let here : moved (length evs) (meant_in old v) ≡ meant_in new w = ap (λ (z : ℕ). moved z (meant_in old v)) (omega (arith, count)) ∙ sym (means 0 (omega arith)) in
-      let value : Resolves s u id c.name (meant_in new w) y.1 = subst (λ (z : Meaning). Resolves s u id c.name z y.1) here follows in
+      let first : Moves (c.name, meant_in old v) (c.name, meant_in new w) = subst (λ (z : Meaning). Moves (c.name, meant_in old v) (c.name, z)) here moves in
       let later : (k : ℕ) → k < length vs → meant_in new (value_at ws k) ≡ moved (suc n + k) (meant_in old (value_at vs k)) =
       λ k inside. means (suc k) (omega arith) ∙ ap (λ (z : ℕ). moved z (meant_in old (value_at vs k))) (omega arith) in
       let longer : length (evs ++ v ∷ []) ≡ suc n = length_push evs v ∙ ap suc count in
-      (record { name = first.name; value = value }, attributes_follow (earlier ++ c ∷ []) cs (evs ++ v ∷ []) vs ws (suc n) next to ys (is_columns ∙ sym (append_assoc earlier (c ∷ []) cs)) (is_values ∙ sym (append_assoc evs (v ∷ []) vs)) longer (values_push old earlier evs c v values_at from next prior spelled placed) valued (omega arith) later zip)
+      (first, attributes_move (earlier ++ c ∷ []) cs (evs ++ v ∷ []) vs ws (suc n) next to (is_columns ∙ sym (append_assoc earlier (c ∷ []) cs)) (is_values ∙ sym (append_assoc evs (v ∷ []) vs)) longer (values_push old earlier evs c v values_at from next prior spelled placed) valued (omega arith) later)
     where
       length_push : (xs : List Value) (x : Value) → length (xs ++ x ∷ []) ≡ suc (length xs)
       length_push [] x = refl

@@ -1,19 +1,21 @@
 -- Laws of the bodies that are made of new sections.
-use Rattle.std.proofs.Common.{◌≡◌, ◌≢◌, ◌≤◌, ◌<◌, ◌+◌, ℕ, List, [], ◌∷◌, ◌++◌, length, false, sym, ◌∙◌, ap, refl, subst, arith, inl, inr}
-use Rattle.std.specs.Prelude.{◌||◌, Option, Some, None}
+use Rattle.std.proofs.Common.{◌≡◌, ◌≢◌, ◌≤◌, ◌<◌, ◌+◌, ◌-◌, ◌*◌, ◌^◌, ℕ, List, [], ◌∷◌, ◌++◌, length, Bool, true, false, sym, ◌∙◌, ap, refl, subst, arith, inl, inr}
+use Rattle.std.specs.Prelude.{◌||◌, ◌&&◌, not, bytes_eq, Option, Some, None}
 use Rattle.std.specs.List.{All, sum_by}
 use Rattle.std.proofs.lemmas.List.Elements.{All-cons, All-nil, All-head, All-tail, All-same}
 use Rattle.std.proofs.lemmas.List.Kept.{AllPairs-cons}
 use Rattle.std.proofs.lemmas.List.Sums.{sum_by-cons}
-use Rattle.std.proofs.lemmas.Bool.{cases_lt, ne_eqb}
+use Rattle.std.proofs.lemmas.Bool.{true≢false, and_parts, cases_lt, ne_eqb}
+use Rattle.std.proofs.lemmas.Slice.Eq.{bytes_eq-Decides}
 use Rattle.elf_sections.specs.Elf.{section_count, body_of}
-use Rattle.elf_sections.specs.Names.{name_of}
+use Rattle.elf_sections.specs.Names.{name_of, is_written}
 use Rattle.elf_sections.specs.Sections.{IsFirstNamed, HasNone}
 use Rattle.elf_place.specs.declared.bodies.NewBody.{NewBody}
 use Rattle.elf_place.specs.Bodies.{has_new_body, AreApart, bytes_of}
 use Rattle.value_links.specs.Sections.{section_named, body_or_none, body_named}
 use Rattle.value_links.proofs.SectionLaws.{sections_are_found}
-use Rattle.rewriter.specs.Bodies.{NewBytes, IsBodyWith, AddsBody, AreBodiesWith}
+use Rattle.rewriter.specs.inside.Bodies.{NewBytes, IsBodyWith, AddsBody, AreBodiesWith}
+use Rattle.rewriter.specs.inside.Sections.{IsFor}
 
 -- BODIES ONE BY ONE
 
@@ -53,6 +55,35 @@ abbrev pub HaveOwnNames : List NewBytes → Type 0
 HaveOwnNames [] = Unit {0}
 HaveOwnNames (new ∷ news) = All (λ (other : NewBytes). new.name ≢ other.name) news × HaveOwnNames news
 
+-- a test of that, which a list with given names passes
+abbrev is_other : List ℕ → List NewBytes → Bool
+is_other name [] = true
+is_other name (new ∷ news) = not (bytes_eq name new.name) && is_other name news
+
+abbrev pub are_others : List NewBytes → Bool
+are_others [] = true
+are_others (new ∷ news) = is_other new.name news && are_others news
+
+others_differ : (name : List ℕ) (news : List NewBytes) → is_other name news ≡ true → All (λ (other : NewBytes). name ≢ other.name) news
+others_differ name [] passes = All-nil (λ (other : NewBytes). name ≢ other.name)
+others_differ name (n ∷ news) passes =
+    let here = (and_parts (not (bytes_eq name n.name)) (is_other name news) passes).0 in
+    let rest = (and_parts (not (bytes_eq name n.name)) (is_other name news) passes).1 in
+    All-cons (λ (other : NewBytes). name ≢ other.name) n news (λ same. true≢false (sym here ∙ ap not ((bytes_eq-Decides name n.name).1 same))) (others_differ name news rest)
+
+pub own_names : (news : List NewBytes) → are_others news ≡ true → HaveOwnNames news
+own_names [] passes = tt
+own_names (n ∷ news) passes = (others_differ n.name news (and_parts (is_other n.name news) (are_others news) passes).0, own_names news (and_parts (is_other n.name news) (are_others news) passes).1)
+
+-- likewise new bytes of sections that are written anew
+abbrev pub are_written : List NewBytes → Bool
+are_written [] = true
+are_written (new ∷ news) = is_written new.name && are_written news
+
+pub all_written : (news : List NewBytes) → are_written news ≡ true → All (λ (new : NewBytes). is_written new.name ≡ true) news
+all_written [] passes = All-nil (λ (new : NewBytes). is_written new.name ≡ true)
+all_written (n ∷ news) passes = All-cons (λ (new : NewBytes). is_written new.name ≡ true) n news (and_parts (is_written n.name) (are_written news) passes).0 (all_written news (and_parts (is_written n.name) (are_written news) passes).1)
+
 -- are for different sections
 pub bodies_apart : (file : List ℕ) (news : List NewBytes) (bodies : List NewBody) → AreBodiesWith file news bodies → HaveOwnNames news → AreApart bodies
 bodies_apart file [] bodies none own = subst AreApart (sym none) (λ k j d less lt. absurd (omega arith))
@@ -78,6 +109,15 @@ bodies_few file (n ∷ news) bodies (inr (body, (rest, is, e, more))) =
     let here : length body.bytes.items ≡ length n.bytes = ap length is.holds in
     let few : bytes_of rest ≤ bytes_in news = bodies_few file news rest more in
     omega arith
+
+-- and those are few, where each section is short
+pub bytes_few : (news : List NewBytes) → All (λ (new : NewBytes). length new.bytes < 2 ^ 32 - 1) news → bytes_in news ≤ length news * 2 ^ 32
+bytes_few [] fit = omega arith
+bytes_few (n ∷ news) fit =
+    let whole : bytes_in (n ∷ news) ≡ length n.bytes + bytes_in news = sum_by-cons (λ (new : NewBytes). length new.bytes) n news in
+    let here : length n.bytes < 2 ^ 32 - 1 = All-head (λ (new : NewBytes). length new.bytes < 2 ^ 32 - 1) n news fit in
+    let rest : bytes_in news ≤ length news * 2 ^ 32 = bytes_few news (All-tail (λ (new : NewBytes). length new.bytes < 2 ^ 32 - 1) n news fit) in
+    omega (arith, whole, here, rest)
 
 -- THE WRITTEN SECTIONS
 
@@ -125,3 +165,10 @@ module _ (file written : List ℕ) (count : section_count written ≡ section_co
       by None e =
           let none : HasNone file wanted = (sections_are_found.missing file wanted).0 e in
           ap (body_or_none written) ((sections_are_found.missing written wanted).1 (still_none none)) ∙ sym (lacks none)
+
+-- all of them
+pub bodies_written : (file written : List ℕ) → section_count written ≡ section_count file → ((i : ℕ) → i < section_count file → name_of written i ≡ name_of file i) → (news : List NewBytes) → All (λ (new : NewBytes). IsFor file new.name new.bytes) news → All (λ (new : NewBytes). (i : ℕ) → IsFirstNamed file new.name i → body_of written i ≡ new.bytes) news → All (λ (new : NewBytes). body_named written new.name ≡ new.bytes) news
+bodies_written file written count names [] lacks has = All-nil (λ (new : NewBytes). body_named written new.name ≡ new.bytes)
+bodies_written file written count names (n ∷ news) lacks has =
+    let here = body_written file written count names n.name n.bytes (All-head (λ (new : NewBytes). IsFor file new.name new.bytes) n news lacks) (All-head (λ (new : NewBytes). (i : ℕ) → IsFirstNamed file new.name i → body_of written i ≡ new.bytes) n news has) in
+    All-cons (λ (new : NewBytes). body_named written new.name ≡ new.bytes) n news here (bodies_written file written count names news (All-tail (λ (new : NewBytes). IsFor file new.name new.bytes) n news lacks) (All-tail (λ (new : NewBytes). (i : ℕ) → IsFirstNamed file new.name i → body_of written i ≡ new.bytes) n news has))

@@ -16,9 +16,9 @@ use Rattle.form_codec.specs.Values.{meant_in}
 use Rattle.abbrev_tables.specs.declared.decl.Spec.{Spec}
 use Rattle.entry_arena.specs.Arena.{value_at}
 use Rattle.entry_arena.specs.Trees.{ValuesBetween}
-use Rattle.unit_write.specs.Puts.{shape_moves}
+use Rattle.unit_write.specs.inside.Puts.{shape_moves}
 use Rattle.unit_write.proofs.ValueLaws.{shape_is}
-use Rattle.rewriter.specs.Held.{FitsOffset}
+use Rattle.rewriter.specs.inside.Held.{FitsOffset}
 
 -- the number in 4 bytes
 number_small : (bytes : List ℕ) → AreBytes bytes → number 4 bytes < 2 ^ 32

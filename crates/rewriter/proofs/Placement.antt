@@ -8,13 +8,13 @@ use Rattle.std.proofs.lemmas.List.Sums.{sum_by_more, sum_by-take-le}
 use Rattle.std.proofs.Math.ListN.{get_or-append}
 use Rattle.std.proofs.Math.Seq.{get_or-append_seam}
 use Rattle.dw_base.specs.declared.fault.Reach.TheVariants.{Narrow}
-use Rattle.entry_read.specs.Heads.{least_reserved}
+use Rattle.fixed_width.specs.InitialLengths.{least_reserved}
 use Rattle.unit_write.specs.Most.{most_bytes}
 use Rattle.unit_write.specs.declared.places.Places.{Places}
 use Rattle.value_links.specs.World.{World, IsWorldOf}
 use Rattle.rewriter.specs.declared.tables.NewTable.{NewTable}
-use Rattle.rewriter.specs.Placed.{PlacesAnew, places_anew, places_at, unit_in, IsPlacedBy, PlacesFollow}
-use Rattle.rewriter.specs.Held.{IsPlacedFrom}
+use Rattle.rewriter.specs.inside.Placed.{PlacesAnew, places_anew, places_at, unit_in, IsPlacedBy, PlacesFollow}
+use Rattle.rewriter.specs.inside.Held.{IsPlacedFrom}
 use Rattle.rewriter.proofs.UnitRoom.{units_have_room}
 
 -- So many units stand from 0 up to a place. They have no more bytes than such units can get.

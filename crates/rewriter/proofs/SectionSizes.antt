@@ -18,11 +18,12 @@ use Rattle.value_links.specs.Sections.{debug_info, debug_abbrev}
 use Rattle.value_links.specs.Reading.{UnitRead}
 use Rattle.value_links.specs.World.{World, head_and_forest, table_at, IsWorldOf}
 use Rattle.rewriter.specs.declared.uses.Uses.{Uses}
-use Rattle.rewriter.specs.Tables.{TableAnew, AreColumnsChosen, entries_with, uses_of}
-use Rattle.rewriter.specs.Appended.{IsAppended}
-use Rattle.rewriter.specs.Placed.{unit_in}
-use Rattle.rewriter.specs.Counting.{AreCounted, counts_in}
-use Rattle.rewriter.specs.Held.{HaveAllValues}
+use Rattle.value_links.specs.Uses.{entries_with, uses_of}
+use Rattle.rewriter.specs.inside.Tables.{TableAnew, AreColumnsChosen}
+use Rattle.rewriter.specs.inside.Appended.{IsAppended}
+use Rattle.rewriter.specs.inside.Placed.{unit_in}
+use Rattle.rewriter.specs.inside.Counting.{AreCounted, counts_in}
+use Rattle.rewriter.specs.inside.Held.{HaveAllValues}
 use Rattle.rewriter.proofs.ColumnMeanings.{AreOfTable, entry_count, held_here}
 use Rattle.rewriter.proofs.ColumnUnits.{entry_counted}
 use Rattle.rewriter.proofs.ColumnsChosen.{columns_writable}
@@ -177,15 +178,15 @@ module _ (world : World) (reach : Reach) (is : IsWorldOf world.image reach world
   -- its part by the counts that have limits
   unit_limit : (u : ℕ) → u < length world.units → unit_most (unit_in world.units u) ≤ 24 * entry_count (unit_in world.units u) + 30 * value_count (unit_in world.units u)
   unit_limit u below =
-      let inside : u < length is.r.units = omega (arith, below, (countable world reach is trees_are_walks).count, is.holds.tables.count) in
+      let inside : u < length is.r.links.units = omega (arith, below, (countable world reach is trees_are_walks).count, is.holds.tables.count) in
       let held = held_unit world.image world is.r u is.holds in
-      let read = read_unit_at world.image is.r u is.read.parts.units.each inside in
+      let read = read_unit_at world.image is.r u is.read.links.units.each inside in
       unit_part (unit_in world.units u) (subst (λ (unit : HeadAndForest). HaveAllValues unit.forest) (sym held) (all_values (debug_info world.image) (debug_abbrev world.image) _ read))
 
   values_within : sum_by value_count world.units ≤ value_limit
   values_within =
-      let same : sum_by value_count world.units ≡ sum_by (λ (u : UnitRead). length u.forest.values) is.r.units = ap (sum_by value_count) is.holds.units ∙ sum_by-map value_count head_and_forest is.r.units in
-      let most = is.read.parts.units.within.values in
+      let same : sum_by value_count world.units ≡ sum_by (λ (u : UnitRead). length u.forest.values) is.r.links.units = ap (sum_by value_count) is.holds.units ∙ sum_by-map value_count head_and_forest is.r.links.units in
+      let most = is.read.links.units.within.values in
       omega (arith, same, most)
 
   -- a section with one table more has at most the bytes of that table more
@@ -194,7 +195,7 @@ module _ (world : World) (reach : Reach) (is : IsWorldOf world.image reach world
       let old : NamedTable = table_at world.tables i in
       let uses = counted.each i below in
       let stands = table_known world reach is i below in
-      let fine = columns_writable world.units old (debug_info world.image) world.table_of i (of_table world reach is i below) new.columns chosen in
+      let fine = columns_writable world.units old stands new.columns chosen in
       let grown = few_more old.table stands (counts_in all i) uses.count before section new fine appended in
       let next : suc i ≡ i + 1 = omega arith in
       subst (λ (n : ℕ). length section ≤ total (tables_most world.tables all) n) next (omega (arith, grown, few))

@@ -1,5 +1,5 @@
 -- What is read of the new sections of a file.
-use Rattle.std.proofs.Common.{◌≡◌, ◌≤◌, ◌<◌, ◌+◌, ◌-◌, ◌^◌, ◌∙◌, ℕ, List, [], ◌∷◌, length, map, get_or, sym, ap, refl, subst, arith, inl, inr}
+use Rattle.std.proofs.Common.{◌≡◌, ◌≤◌, ◌<◌, ◌+◌, ◌-◌, ◌^◌, ◌∙◌, ℕ, List, [], ◌∷◌, length, map, drop, get_or, sym, ap, refl, subst, arith, inl, inr}
 use Rattle.std.specs.Prelude.{slice_index}
 use Rattle.std.specs.List.{All}
 use Rattle.std.proofs.lemmas.Bool.{cases_lt}
@@ -24,17 +24,21 @@ use Rattle.unit_write.specs.declared.places.Places.{Places}
 use Rattle.unit_write.specs.Sizes.{NumbersHaveSizes, ShortestHaveSizes}
 use Rattle.unit_write.proofs.UnitLaws.{placed_order}
 use Rattle.value_links.specs.Sections.{body_named, body_or_none, debug_info, debug_abbrev, debug_line, debug_aranges, info_name, abbrev_name, line_name, aranges_name}
-use Rattle.value_links.specs.Reading.{ProgramRead, UnitRead, Reading, no_program, no_unit, line_heads, unit_heads, unit_starts, program_at, IsReading}
+use Rattle.value_links.specs.Reading.{ProgramRead, UnitRead, Reading, no_program, no_unit, line_heads, unit_heads, unit_starts, program_at}
+use Rattle.value_links.specs.Whole.{IsReading}
 use Rattle.value_links.specs.Faults.{IsValid}
 use Rattle.value_links.specs.World.{World, head_and_forest, Holds, IsWorldOf}
 use Rattle.value_links.proofs.SectionLaws.{sections_are_found}
 use Rattle.rewriter.specs.declared.tables.NewTable.{NewTable}
+use Rattle.rewriter.specs.declared.new_places.NewPlaces.{NewPlaces}
 use Rattle.rewriter.specs.declared.sections.NewSections.{NewSections}
-use Rattle.rewriter.specs.Tables.{TablesStand, table_anew, AreTablesWritten}
-use Rattle.rewriter.specs.Placed.{PlacesAnew, places_anew, places_at, PlacesFollow, ArePlacesOf, AreWritable}
-use Rattle.rewriter.specs.Units.{AreUnitsWritten}
-use Rattle.rewriter.specs.Sections.{IsFor, AreFor}
-use Rattle.rewriter.specs.Anew.{AreProgramsAnew, AreAnew}
+use Rattle.rewriter.specs.inside.Tables.{TablesStand, table_anew, AreTablesWritten}
+use Rattle.rewriter.specs.inside.Placed.{PlacesAnew, places_anew, places_at, PlacesFollow, ArePlacesOf, AreWritable}
+use Rattle.rewriter.specs.inside.Units.{AreUnitsWritten}
+use Rattle.rewriter.specs.inside.Bodies.{NewBytes, new_bytes}
+use Rattle.rewriter.specs.inside.Sections.{IsFor, AreFor}
+use Rattle.rewriter.specs.inside.Anew.{AreProgramsAnew, AreAnew}
+use Rattle.rewriter.specs.inside.Held.{AreNewPlaces}
 use Rattle.rewriter.proofs.DebugSizes.{debug_short}
 use Rattle.rewriter.proofs.FewRows.{AreProgramsFew, programs_few, few_rows, programs_read}
 use Rattle.rewriter.proofs.ChosenColumns.{chosen_columns_are_writable}
@@ -77,6 +81,13 @@ tables_empty : (section : List ℕ) (tables : List NewTable) → length tables �
 tables_empty section [] none tile = empty_list section (sym tile)
 tables_empty section (table ∷ tables) none tile = absurd (omega (arith, none))
 
+-- THE NEW SECTIONS
+
+-- what holds of the bytes of each section holds of all
+pub each_section : (P : NewBytes → Type 0) (new : NewSections) → P (record { name = info_name; bytes = new.info.items }) → P (record { name = abbrev_name; bytes = new.abbrevs.items }) → P (record { name = line_name; bytes = new.lines.items }) → P (record { name = aranges_name; bytes = new.aranges.items }) → All P (new_bytes new)
+each_section P new info abbrevs lines aranges =
+    All-cons P _ (drop 1 (new_bytes new)) info (All-cons P _ (drop 2 (new_bytes new)) abbrevs (All-cons P _ (drop 3 (new_bytes new)) lines (All-cons P _ [] aranges (All-nil P))))
+
 -- PARTS
 
 -- where units begin
@@ -91,22 +102,22 @@ start_at (p ∷ places) u inside =
 start_at [] u inside = absurd (omega arith)
 
 -- What the steps of the writer give, for one reading of the file.
-pub record AreParts (file : List ℕ) (world : World) (r : Reading) (tables : List NewTable) (places : List Places) (starts info abbrevs lines aranges : List ℕ) : Type 0 where
+pub record AreParts (file : List ℕ) (world : World) (r : Reading) (tables : List NewTable) (places : List Places) (new_places : NewPlaces) (info abbrevs lines aranges : List ℕ) : Type 0 where
   pub holds : Holds file world r
-  pub stand : StandAnew (debug_line file) world.programs lines starts
+  pub stand : StandAnew (debug_line file) world.programs lines new_places.programs.items
   pub written : AreTablesWritten world abbrevs tables
   pub count : length places ≡ length world.units
-  pub units : (units : List UnitRead) × AreUnitsWritten world r tables places starts info abbrevs units
+  pub units : (units : List UnitRead) × AreUnitsWritten world r.links tables places new_places info abbrevs units
   pub tiled : SetsTile aranges (starts_of places) world.sets
   pub others : (k : ℕ) → IsOutside world.sets k → slice_index aranges k ≡ slice_index (debug_aranges file) k
   pub size : length aranges ≡ length (debug_aranges file)
 
-pub parts_of : {file : List ℕ} {world : World} {r : Reading} {tables : List NewTable} {places : List Places} {starts info abbrevs lines aranges : List ℕ} → Holds file world r → StandAnew (debug_line file) world.programs lines starts → AreTablesWritten world abbrevs tables → length places ≡ length world.units → ((units : List UnitRead) × AreUnitsWritten world r tables places starts info abbrevs units) → SetsTile aranges (starts_of places) world.sets → ((k : ℕ) → IsOutside world.sets k → slice_index aranges k ≡ slice_index (debug_aranges file) k) → length aranges ≡ length (debug_aranges file) → AreParts file world r tables places starts info abbrevs lines aranges
+pub parts_of : {file : List ℕ} {world : World} {r : Reading} {tables : List NewTable} {places : List Places} {new_places : NewPlaces} {info abbrevs lines aranges : List ℕ} → Holds file world r → StandAnew (debug_line file) world.programs lines new_places.programs.items → AreTablesWritten world abbrevs tables → length places ≡ length world.units → ((units : List UnitRead) × AreUnitsWritten world r.links tables places new_places info abbrevs units) → SetsTile aranges (starts_of places) world.sets → ((k : ℕ) → IsOutside world.sets k → slice_index aranges k ≡ slice_index (debug_aranges file) k) → length aranges ≡ length (debug_aranges file) → AreParts file world r tables places new_places info abbrevs lines aranges
 parts_of holds stand written count units tiled others size = record { holds = holds; stand = stand; written = written; count = count; units = units; tiled = tiled; others = others; size = size }
 
-module _ {file : List ℕ} {world : World} {r : Reading} {tables : List NewTable} {places : List Places} {starts info abbrevs lines aranges : List ℕ} (parts : AreParts file world r tables places starts info abbrevs lines aranges) where
-  units_count : length world.units ≡ length r.units
-  units_count = ap (λ (z : List HeadAndForest). length z) parts.holds.units ∙ length-map r.units head_and_forest
+module _ {file : List ℕ} {world : World} {r : Reading} {tables : List NewTable} {places : List Places} {new_places : NewPlaces} {info abbrevs lines aranges : List ℕ} (parts : AreParts file world r tables places new_places info abbrevs lines aranges) where
+  units_count : length world.units ≡ length r.links.units
+  units_count = ap (λ (z : List HeadAndForest). length z) parts.holds.units ∙ length-map r.links.units head_and_forest
 
   -- units begin where their places say
   starts_are : starts_of places ≡ unit_starts parts.units.0
@@ -120,7 +131,7 @@ module _ {file : List ℕ} {world : World} {r : Reading} {tables : List NewTable
       let count = written.count in
       same_number_lists (starts_of places) (unit_starts units) (omega (arith, one, two, among, counted, count)) (λ k inside. (
       let placed : k < length places = omega (arith, one, inside) in
-      let known : k < length r.units = omega (arith, placed, among, counted) in
+      let known : k < length r.links.units = omega (arith, placed, among, counted) in
       let here : k < length units = omega (arith, known, count) in
       start_at places k placed ∙ sym (get_or-map (λ (u : UnitRead). u.head.at) units k no_unit 0 here ∙ (written.each k known).at)
       ))
@@ -129,32 +140,35 @@ module _ {file : List ℕ} {world : World} {r : Reading} {tables : List NewTable
   few = programs_few lines parts.stand.written parts.stand.read
 
   abbrev new_reading : Reading
-  new_reading = record { programs = few.programs; units = parts.units.0; sets = r.sets }
+  new_reading = record {
+    links = record { programs = few.programs; units = parts.units.0; addresses = r.links.addresses; contexts = r.links.contexts };
+    sets = r.sets;
+  }
 
-  programs_count : length few.programs ≡ length r.programs
+  programs_count : length few.programs ≡ length r.links.programs
   programs_count =
       sym (length-map few.programs (λ (p : ProgramRead). p.head))
       ∙ ap (λ (z : List Head). length z) few.same
       ∙ parts.stand.count
       ∙ ap (λ (z : List Head). length z) parts.holds.programs
-      ∙ length-map r.programs (λ (p : ProgramRead). p.head)
+      ∙ length-map r.links.programs (λ (p : ProgramRead). p.head)
 
-  program_place : (p : ℕ) → p < length r.programs → (program_at new_reading p).head.at ≡ slice_index starts p
+  program_place : (p : ℕ) → p < length r.links.programs → (program_at new_reading.links p).head.at ≡ slice_index new_places.programs.items p
   program_place p inside =
       let count = programs_count in
       let here : p < length few.programs = omega (arith, inside, count) in
       let size : length (line_heads few.programs) ≡ length few.programs = length-map few.programs (λ (x : ProgramRead). x.head) in
-      let head : get_or (line_heads few.programs) p no_program.head ≡ (program_at new_reading p).head = get_or-map (λ (x : ProgramRead). x.head) few.programs p no_program no_program.head here in
+      let head : get_or (line_heads few.programs) p no_program.head ≡ (program_at new_reading.links p).head = get_or-map (λ (x : ProgramRead). x.head) few.programs p no_program no_program.head here in
       let at : get_or (map (λ (h : Head). h.at) (line_heads few.programs)) p 0 ≡ (get_or (line_heads few.programs) p no_program.head).at = get_or-map (λ (h : Head). h.at) (line_heads few.programs) p no_program.head 0 (omega (arith, here, size)) in
-      let all : starts ≡ map (λ (h : Head). h.at) (line_heads few.programs) = parts.stand.places ∙ ap (λ (z : List Head). map (λ (h : Head). h.at) z) (sym few.same) in
+      let all : new_places.programs.items ≡ map (λ (h : Head). h.at) (line_heads few.programs) = parts.stand.places ∙ ap (λ (z : List Head). map (λ (h : Head). h.at) z) (sym few.same) in
       sym (ap (λ (z : List ℕ). get_or z p 0) all ∙ at ∙ ap (λ (h : Head). h.at) head)
 
-  programs_mean : (meanings : List ProgramMeaning) → HaveMeanings (debug_line file) (line_heads r.programs) meanings → HaveMeanings lines (line_heads few.programs) meanings
+  programs_mean : (meanings : List ProgramMeaning) → HaveMeanings (debug_line file) (line_heads r.links.programs) meanings → HaveMeanings lines (line_heads few.programs) meanings
   programs_mean meanings means =
       let old = subst (λ (z : List Head). HaveMeanings (debug_line file) z meanings) (sym parts.holds.programs) means in
       subst (λ (z : List Head). HaveMeanings lines z meanings) (sym few.same) (parts.stand.means meanings old)
 
-  programs_anew : AreProgramsAnew (debug_line file) r new_reading lines starts
+  programs_anew : AreProgramsAnew (debug_line file) r.links new_reading.links lines new_places
   programs_anew = record { read = few.are; few = few.few; count = programs_count; places = program_place; means = programs_mean }
 
   sets_tile : SetsTile aranges (unit_starts parts.units.0) r.sets
@@ -163,17 +177,18 @@ module _ {file : List ℕ} {world : World} {r : Reading} {tables : List NewTable
       subst (λ (z : List ℕ). SetsTile aranges z r.sets) starts_are by_sets
 
   -- The new sections are read, and mean what the old ones mean.
-  pub are_anew : (new : NewSections) → new.info.items ≡ info → new.abbrevs.items ≡ abbrevs → new.lines.items ≡ lines → new.aranges.items ≡ aranges → (size : ℕ) × ArePlacesOf world tables places size → (s : Reading) × AreAnew file world r s new
-  are_anew new i a l g placed = (
+  pub are_anew : (new : NewSections) → new.info.items ≡ info → new.abbrevs.items ≡ abbrevs → new.lines.items ≡ lines → new.aranges.items ≡ aranges → (s : Reading) × AreAnew file world r s new
+  are_anew new i a l g = (
     new_reading,
     record {
       tables = tables;
       places = places;
-      starts = starts;
-      placed = placed;
+      new_places = new_places;
       tables_written = subst (λ (z : List ℕ). AreTablesWritten world z tables) (sym a) parts.written;
-      programs = subst (λ (z : List ℕ). AreProgramsAnew (debug_line file) r new_reading z starts) (sym l) programs_anew;
-      units = subst (λ (z : List ℕ). AreUnitsWritten world r tables places starts z new.abbrevs.items parts.units.0) (sym i) (subst (λ (z : List ℕ). AreUnitsWritten world r tables places starts info z parts.units.0) (sym a) parts.units.1);
+      programs = subst (λ (z : List ℕ). AreProgramsAnew (debug_line file) r.links new_reading.links z new_places) (sym l) programs_anew;
+      addresses = refl;
+      contexts = refl;
+      units = subst (λ (z : List ℕ). AreUnitsWritten world r.links tables places new_places z new.abbrevs.items parts.units.0) (sym i) (subst (λ (z : List ℕ). AreUnitsWritten world r.links tables places new_places info z parts.units.0) (sym a) parts.units.1);
       sets = record {
         same = refl;
         tiled = subst (λ (z : List ℕ). SetsTile z (unit_starts parts.units.0) r.sets) (sym g) sets_tile;
@@ -183,20 +198,20 @@ module _ {file : List ℕ} {world : World} {r : Reading} {tables : List NewTable
     },
   )
 
-module _ {file : List ℕ} {world : World} {r : Reading} {tables : List NewTable} {places : List Places} {starts info abbrevs lines aranges : List ℕ} (parts : AreParts file world r tables places starts info abbrevs lines aranges) (read : IsReading file r) (valid : IsValid file Narrow) where
+module _ {file : List ℕ} {world : World} {r : Reading} {tables : List NewTable} {places : List Places} {new_places : NewPlaces} {info abbrevs lines aranges : List ℕ} (parts : AreParts file world r tables places new_places info abbrevs lines aranges) (read : IsReading file r) (valid : IsValid file Narrow) where
   -- A section that the file lacks has no new bytes.
   pub lines_for : IsFor file line_name lines
   lines_for none =
-      let old : ProgramsTile (debug_line file) (line_heads r.programs) = read.parts.programs.tiled in
-      let no : length (line_heads r.programs) ≡ 0 = no_programs (debug_line file) (line_heads r.programs) (none_empty file line_name none) old in
+      let old : ProgramsTile (debug_line file) (line_heads r.links.programs) = read.links.programs.tiled in
+      let no : length (line_heads r.links.programs) ≡ 0 = no_programs (debug_line file) (line_heads r.links.programs) (none_empty file line_name none) old in
       let count : length parts.stand.written ≡ length world.programs = parts.stand.count in
-      let held : length world.programs ≡ length (line_heads r.programs) = ap (λ (z : List Head). length z) parts.holds.programs in
+      let held : length world.programs ≡ length (line_heads r.links.programs) = ap (λ (z : List Head). length z) parts.holds.programs in
       programs_empty lines parts.stand.written (omega (arith, no, count, held)) parts.stand.read.tiled
 
   pub info_for : IsFor file info_name info
   info_for none =
-      let no : length (unit_heads r.units) ≡ 0 = no_units (debug_info file) (unit_heads r.units) (none_empty file info_name none) read.parts.units.tiled in
-      let old : length (unit_heads r.units) ≡ length r.units = length-map r.units (λ (u : UnitRead). u.head) in
+      let no : length (unit_heads r.links.units) ≡ 0 = no_units (debug_info file) (unit_heads r.links.units) (none_empty file info_name none) read.links.units.tiled in
+      let old : length (unit_heads r.links.units) ≡ length r.links.units = length-map r.links.units (λ (u : UnitRead). u.head) in
       let new : length (unit_heads parts.units.0) ≡ length parts.units.0 = length-map parts.units.0 (λ (u : UnitRead). u.head) in
       let count = parts.units.1.count in
       units_empty info (unit_heads parts.units.0) (omega (arith, no, old, new, count)) parts.units.1.read.tiled
@@ -229,14 +244,8 @@ module _ {file : List ℕ} {world : World} {r : Reading} {tables : List NewTable
 
   pub are_for : (new : NewSections) → new.info.items ≡ info → new.abbrevs.items ≡ abbrevs → new.lines.items ≡ lines → new.aranges.items ≡ aranges → length info < 2 ^ 32 - 1 → length abbrevs < 2 ^ 32 - 1 → length lines < 2 ^ 32 - 1 → AreFor file new
   are_for new i a l g info_fits abbrevs_fit all_lines_fit = record {
-    info = λ none. i ∙ info_for none;
-    abbrevs = λ none. a ∙ abbrevs_for none;
-    lines = λ none. l ∙ lines_for none;
-    aranges = λ none. g ∙ aranges_for none;
-    info_fits = subst (λ (z : List ℕ). length z < 2 ^ 32 - 1) (sym i) info_fits;
-    abbrevs_fit = subst (λ (z : List ℕ). length z < 2 ^ 32 - 1) (sym a) abbrevs_fit;
-    lines_fit = subst (λ (z : List ℕ). length z < 2 ^ 32 - 1) (sym l) all_lines_fit;
-    aranges_fit = subst (λ (z : List ℕ). length z < 2 ^ 32 - 1) (sym g) aranges_fit;
+    each = each_section (λ (n : NewBytes). IsFor file n.name n.bytes) new (λ none. i ∙ info_for none) (λ none. a ∙ abbrevs_for none) (λ none. l ∙ lines_for none) (λ none. g ∙ aranges_for none);
+    fit = each_section (λ (n : NewBytes). length n.bytes < 2 ^ 32 - 1) new (subst (λ (z : List ℕ). length z < 2 ^ 32 - 1) (sym i) info_fits) (subst (λ (z : List ℕ). length z < 2 ^ 32 - 1) (sym a) abbrevs_fit) (subst (λ (z : List ℕ). length z < 2 ^ 32 - 1) (sym l) all_lines_fit) (subst (λ (z : List ℕ). length z < 2 ^ 32 - 1) (sym g) aranges_fit);
   }
 
 -- WHAT THE STEPS ASK FOR
@@ -247,8 +256,8 @@ writable numbers others stand world is abbrevs tables written = chosen_columns_a
 pub lines_read : (world : World) → IsWorldOf world.image Narrow world → (section : List ℕ) (heads : List Head) → section ≡ debug_line world.image → heads ≡ world.programs → AreRead section heads
 lines_read world is section heads e f =
     let few = few_rows world.image Narrow is.r is.valid is.read in
-    let all = programs_read (debug_line world.image) is.r.programs is.read.parts.programs few in
-    let here = subst (λ (z : List ℕ). AreRead z (line_heads is.r.programs)) (sym e) all in
+    let all = programs_read (debug_line world.image) is.r.links.programs is.read.links.programs few in
+    let here = subst (λ (z : List ℕ). AreRead z (line_heads is.r.links.programs)) (sym e) all in
     subst (λ (z : List Head). AreRead section z) (sym (f ∙ is.holds.programs)) here
 
 heads_below : (section : List ℕ) (heads : List Head) (a e : ℕ) → ProgramsFollow section heads a e → All (λ (h : Head). h.at < length section) heads
@@ -258,15 +267,16 @@ heads_below section (head ∷ heads) a e follow =
     let inside = b.inside in
     All-cons (λ (h : Head). h.at < length section) head heads (omega (arith, inside)) (heads_below section heads (a + head.len) e follow.2)
 
-pub starts_fit : (section : List ℕ) (heads : List Head) (bytes starts : List ℕ) → StandAnew section heads bytes starts → length bytes < 2 ^ 32 → (length starts ≡ length heads) × All (λ start. start < 2 ^ 32) starts
-starts_fit section heads bytes starts stand few =
+pub places_are_new : (section : List ℕ) (world : World) (bytes : List ℕ) (new_places : NewPlaces) → StandAnew section world.programs bytes new_places.programs.items → length bytes < 2 ^ 32 → AreNewPlaces world new_places
+places_are_new section world bytes new_places stand few =
     let size : length (map (λ (h : Head). h.at) stand.written) ≡ length stand.written = length-map stand.written (λ (h : Head). h.at) in
     let below = heads_below bytes stand.written 0 (length bytes) stand.read.tiled in
     let none : Head = no_program.head in
-    let each : All (λ (h : Head). h.at < 2 ^ 32) stand.written = All-from_get_or (λ (h : Head). h.at < 2 ^ 32) stand.written none (λ k inside. (let l : (get_or stand.written k none).at < length bytes = All-get_or (λ (h : Head). h.at < length bytes) stand.written k none inside below in omega (arith, l, few))) in (
-      ap (λ (z : List ℕ). length z) stand.places ∙ size ∙ stand.count,
-      subst (λ (z : List ℕ). All (λ start. start < 2 ^ 32) z) (sym stand.places) (All-map (λ start. start < 2 ^ 32) (λ (h : Head). h.at) stand.written each),
-    )
+    let each : All (λ (h : Head). h.at < 2 ^ 32) stand.written = All-from_get_or (λ (h : Head). h.at < 2 ^ 32) stand.written none (λ k inside. (let l : (get_or stand.written k none).at < length bytes = All-get_or (λ (h : Head). h.at < length bytes) stand.written k none inside below in omega (arith, l, few))) in
+    record {
+      programs = ap (λ (z : List ℕ). length z) stand.places ∙ size ∙ stand.count;
+      programs_fit = subst (λ (z : List ℕ). All (λ start. start < 2 ^ 32) z) (sym stand.places) (All-map (λ start. start < 2 ^ 32) (λ (h : Head). h.at) stand.written each);
+    }
 
 places_from : (places : List Places) (at end : ℕ) → All (λ (p : Places). p.start ≤ p.end) places → PlacesFollow places at end → (at ≤ end) × All (λ (p : Places). p.start ≤ end) places
 places_from [] at end rise follow = (let e : at ≡ end = follow in omega (arith, e), All-nil (λ (p : Places). p.start ≤ end))
@@ -299,13 +309,13 @@ places_fit world tables (p ∷ places) size are =
 
 pub old_sets : (world : World) → IsWorldOf world.image Narrow world → (section : List ℕ) (sets : List ArangeSet) → section ≡ debug_aranges world.image → sets ≡ world.sets → (starts : List ℕ) × SetsTile section starts sets
 old_sets world is section sets e f =
-    let here = subst (λ (z : List ℕ). SetsTile z (unit_starts is.r.units) is.r.sets) (sym e) is.read.sets in
-    (unit_starts is.r.units, subst (λ (z : List ArangeSet). SetsTile section (unit_starts is.r.units) z) (sym (f ∙ is.holds.sets)) here)
+    let here = subst (λ (z : List ℕ). SetsTile z (unit_starts is.r.links.units) is.r.sets) (sym e) is.read.sets in
+    (unit_starts is.r.links.units, subst (λ (z : List ArangeSet). SetsTile section (unit_starts is.r.links.units) z) (sym (f ∙ is.holds.sets)) here)
 
 pub old_units : (world : World) → IsWorldOf world.image Narrow world → (count : ℕ) (sets : List ArangeSet) → count ≡ length world.units → sets ≡ world.sets → HaveUnits count sets
 old_units world is count sets e f =
-    let has : HaveUnits (length (unit_starts is.r.units)) is.r.sets = follow_units (debug_aranges world.image) (unit_starts is.r.units) is.r.sets 0 (length (debug_aranges world.image)) is.read.sets in
-    let starts : length (unit_starts is.r.units) ≡ length is.r.units = length-map is.r.units (λ (u : UnitRead). u.head.at) in
-    let units : length world.units ≡ length is.r.units = ap (λ (z : List HeadAndForest). length z) is.holds.units ∙ length-map is.r.units head_and_forest in
+    let has : HaveUnits (length (unit_starts is.r.links.units)) is.r.sets = follow_units (debug_aranges world.image) (unit_starts is.r.links.units) is.r.sets 0 (length (debug_aranges world.image)) is.read.sets in
+    let starts : length (unit_starts is.r.links.units) ≡ length is.r.links.units = length-map is.r.links.units (λ (u : UnitRead). u.head.at) in
+    let units : length world.units ≡ length is.r.links.units = ap (λ (z : List HeadAndForest). length z) is.holds.units ∙ length-map is.r.links.units head_and_forest in
     let here : HaveUnits count is.r.sets = subst (λ (z : ℕ). HaveUnits z is.r.sets) (starts ∙ sym units ∙ sym e) has in
     subst (λ (z : List ArangeSet). HaveUnits count z) (sym (f ∙ is.holds.sets)) here

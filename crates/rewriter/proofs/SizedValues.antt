@@ -16,7 +16,7 @@ use Rattle.entry_arena.specs.Trees.{ValuesBetween}
 use Rattle.unit_write.specs.Values.{is_moving, HasSize, HaveSize}
 use Rattle.unit_write.specs.Moved.{IsRoomy}
 use Rattle.unit_write.specs.Sizes.{HoldsNumber, NumbersHaveSizes, ShortestHaveSizes}
-use Rattle.unit_write.specs.Puts.{shape_moves}
+use Rattle.unit_write.specs.inside.Puts.{shape_moves}
 use Rattle.unit_write.proofs.ValueLaws.{shape_is}
 use Rattle.rewriter.proofs.ShortestBytes.{shortest_bytes}
 use Rattle.rewriter.proofs.ColumnLaws.{IsSpelledBy}

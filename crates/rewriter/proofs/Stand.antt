@@ -3,12 +3,13 @@ use Rattle.std.proofs.Common.{◌≡◌, ◌≤◌, ◌<◌, ◌+◌, ℕ, zero,
 use Rattle.std.proofs.lemmas.Bool.{cases_lt}
 use Rattle.std.proofs.lemmas.List.{length-append, take_all, take-append-le}
 use Rattle.leb_codec.specs.Digits.{Extends}
-use Rattle.entry_read.specs.Heads.{least_reserved}
+use Rattle.fixed_width.specs.InitialLengths.{least_reserved}
 use Rattle.unit_write.specs.declared.places.Places.{Places}
 use Rattle.value_links.specs.World.{World}
 use Rattle.rewriter.specs.declared.tables.NewTable.{NewTable}
-use Rattle.rewriter.specs.Placed.{places_at, PlacesFollow, ArePlacesOf}
-use Rattle.rewriter.specs.Held.{IsUnitBehind, StandAnew}
+use Rattle.rewriter.specs.declared.new_places.NewPlaces.{NewPlaces}
+use Rattle.rewriter.specs.inside.Placed.{places_at, PlacesFollow, ArePlacesOf}
+use Rattle.rewriter.specs.inside.Held.{IsUnitBehind, StandAnew}
 use Rattle.rewriter.proofs.Behind.{unit_ends}
 
 follow_first : (places : List Places) (at end : ℕ) → PlacesFollow places at end → 0 < length places → (places_at places 0).start ≡ at
@@ -32,8 +33,8 @@ follow_none : (places : List Places) (end : ℕ) → PlacesFollow places 0 end �
 follow_none [] end same none = refl
 follow_none (p ∷ places) end follow none = absurd (let e : 0 ≡ length (p ∷ places) = none in omega arith)
 
-module _ (world : World) (tables : List NewTable) (places : List Places) (lines : List ℕ) (whole : ℕ) (are : ArePlacesOf world tables places whole) where
-  pub stand_none : StandAnew world tables places lines [] 0
+module _ (world : World) (tables : List NewTable) (places : List Places) (new_places : NewPlaces) (whole : ℕ) (are : ArePlacesOf world tables places whole) where
+  pub stand_none : StandAnew world tables places new_places [] 0
   stand_none = record {
     size = (
       λ below. sym (follow_first places 0 whole are.follow (let count : length places ≡ length world.units = are.count in let b : 0 < length world.units = below in omega arith)),
@@ -44,7 +45,7 @@ module _ (world : World) (tables : List NewTable) (places : List Places) (lines 
     each = λ u below. absurd (let b : u < 0 = below in omega arith);
   }
 
-  pub stand_more : (old new : List ℕ) (number : ℕ) → number < length world.units → StandAnew world tables places lines old number → IsUnitBehind world tables places lines number new → Extends old new → length new ≡ (places_at places number).end → StandAnew world tables places lines new (number + 1)
+  pub stand_more : (old new : List ℕ) (number : ℕ) → number < length world.units → StandAnew world tables places new_places old number → IsUnitBehind world tables places new_places number new → Extends old new → length new ≡ (places_at places number).end → StandAnew world tables places new_places new (number + 1)
   stand_more old new number known stand behind (bytes, more) ends =
       let count : length places ≡ length world.units = are.count in
       let longer : length new ≡ length old + length bytes = ap length more ∙ length-append old bytes in
@@ -64,10 +65,10 @@ module _ (world : World) (tables : List NewTable) (places : List Places) (lines 
           | inl early ↦
               let here : (places_at places u).end ≤ length old = stand.inside u early in
               let front : take (places_at places u).end new ≡ take (places_at places u).end old = ap (take (places_at places u).end) more ∙ take-append-le (places_at places u).end old bytes here in
-              subst (IsUnitBehind world tables places lines u) (sym front) (stand.each u early)
+              subst (IsUnitBehind world tables places new_places u) (sym front) (stand.each u early)
           | inr late ↦
               let same : number ≡ u = omega arith in
               let all : take (places_at places number).end new ≡ new = take_all (places_at places number).end new (omega arith) in
-              subst (λ (z : ℕ). IsUnitBehind world tables places lines z (take (places_at places z).end new)) same (subst (IsUnitBehind world tables places lines number) (sym all) behind)
+              subst (λ (z : ℕ). IsUnitBehind world tables places new_places z (take (places_at places z).end new)) same (subst (IsUnitBehind world tables places new_places number) (sym all) behind)
         ];
       }

@@ -16,9 +16,9 @@ use Rattle.unit_write.specs.Moved.{IsWritable}
 use Rattle.value_links.specs.Reading.{Reading, no_unit, unit_at}
 use Rattle.value_links.specs.World.{World, head_and_forest, table_at, Holds, IsWorldOf}
 use Rattle.rewriter.specs.declared.tables.NewTable.{NewTable}
-use Rattle.rewriter.specs.Tables.{TableAnew, table_anew, new_table_at}
-use Rattle.rewriter.specs.Placed.{AreWritable, unit_in}
-use Rattle.rewriter.specs.Held.{HasTable}
+use Rattle.rewriter.specs.inside.Tables.{TableAnew, table_anew, new_table_at}
+use Rattle.rewriter.specs.inside.Placed.{AreWritable, unit_in}
+use Rattle.rewriter.specs.inside.Held.{HasTable}
 
 -- some entry stands first, where there is one
 pub filled : (entries : List Entry) → entries ≢ [] → 0 < length entries
@@ -44,19 +44,19 @@ writable_new tables i unit table w =
     ]
 
 -- as many units as are read
-pub held_count : (file : List ℕ) (world : World) (r : Reading) → Holds file world r → length world.units ≡ length r.units
-held_count file world r holds = ap length holds.units ∙ length-map r.units head_and_forest
+pub held_count : (file : List ℕ) (world : World) (r : Reading) → Holds file world r → length world.units ≡ length r.links.units
+held_count file world r holds = ap length holds.units ∙ length-map r.links.units head_and_forest
 
 -- each is the one that is read
-pub held_unit : (file : List ℕ) (world : World) (r : Reading) (u : ℕ) → Holds file world r → unit_in world.units u ≡ head_and_forest (unit_at r u)
+pub held_unit : (file : List ℕ) (world : World) (r : Reading) (u : ℕ) → Holds file world r → unit_in world.units u ≡ head_and_forest (unit_at r.links u)
 held_unit file world r u holds =
-    ap (λ (units : List HeadAndForest). unit_in units u) holds.units ∙ get_or-map head_and_forest r.units u no_unit
+    ap (λ (units : List HeadAndForest). unit_in units u) holds.units ∙ get_or-map head_and_forest r.links.units u no_unit
 
 -- each has a table
 pub has_table : (world : World) (tables : List NewTable) (u : ℕ) → ((reach : Reach) × IsWorldOf world.image reach world) → slice_index world.table_of u < length tables → u < length world.units → HasTable world tables u
 has_table world tables u (reach, is) new known =
-    let size : length world.units ≡ length is.r.units = held_count world.image world is.r is.holds in
-    let count : length world.table_of ≡ length is.r.units = is.holds.tables.count in
+    let size : length world.units ≡ length is.r.links.units = held_count world.image world is.r is.holds in
+    let count : length world.table_of ≡ length is.r.links.units = is.holds.tables.count in
     record { known = known; numbered = omega arith; old = is.holds.tables.inside u (omega arith); new = new }
 
 pub has_written : (world : World) (tables : List NewTable) (u : ℕ) → ((reach : Reach) × IsWorldOf world.image reach world) → AreWritable world tables → u < length world.units → HasTable world tables u

@@ -20,8 +20,8 @@ use Rattle.abbrev_tables.specs.Tables.{SpellsChildren, Declared}
 use Rattle.abbrev_tables.specs.Listings.{Listing, decl_at}
 use Rattle.abbrev_tables.specs.Written.{ShortestConstant, ShortestColumn, ShortestColumns, ShortestDeclared, ShortestTable, IsWritableColumn, IsWritable, IsWrittenOf, used_among, renumbered}
 use Rattle.entry_read.specs.Units.{IsTable}
-use Rattle.rewriter.specs.Tables.{TableAnew}
-use Rattle.rewriter.specs.Appended.{IsAppended}
+use Rattle.rewriter.specs.inside.Tables.{TableAnew}
+use Rattle.rewriter.specs.inside.Appended.{IsAppended}
 use Rattle.rewriter.proofs.TermSums.{sum_by-map}
 use Rattle.rewriter.proofs.Renumbers.{AreNumbersOf}
 use Rattle.rewriter.proofs.Writables.{tags_narrow, writable}

@@ -14,9 +14,9 @@ use Rattle.value_links.specs.Sections.{debug_info}
 use Rattle.value_links.specs.World.{World, table_at, IsWorldOf}
 use Rattle.rewriter.specs.declared.tables.NewTable.{NewTable}
 use Rattle.rewriter.specs.declared.uses.Uses.{Uses}
-use Rattle.rewriter.specs.Tables.{AreColumnsChosen}
-use Rattle.rewriter.specs.Counting.{AreCounted, counts_in}
-use Rattle.rewriter.specs.Columns.{units_with, values_of_units, AreUnitsOf}
+use Rattle.rewriter.specs.inside.Tables.{AreColumnsChosen}
+use Rattle.rewriter.specs.inside.Counting.{AreCounted, counts_in}
+use Rattle.rewriter.specs.inside.Columns.{units_with, values_of_units, AreUnitsOf}
 use Rattle.rewriter.proofs.ColumnMeanings.{AreOfTable}
 use Rattle.rewriter.proofs.ColumnNamed.{units_of_table}
 use Rattle.rewriter.proofs.ColumnsChosen.{columns_chosen, columns_writable}
@@ -59,7 +59,7 @@ module _ (world : World) (reach : Reach) (is : IsWorldOf world.image reach world
       chosen_there = subst (λ (t : NamedTable). AreColumnsChosen world.units t columns) (sym table_there) (columns_chosen world.units old (debug_info world.image) world.table_of number of_old columns best_there)
 
       pub writable_there : All IsWritableColumn columns
-      writable_there = columns_writable world.units (table_at world.tables number) (debug_info world.image) world.table_of number (of_table world reach is number known) columns chosen_there
+      writable_there = columns_writable world.units (table_at world.tables number) (table_known world reach is number known) columns chosen_there
 
       pub renewed_there : length columns ≡ length old.table.specs
       renewed_there = best_there.count

@@ -4,7 +4,8 @@ use Rattle.std.specs.List.{sum_by}
 use Rattle.std.proofs.lemmas.List.Sums.{sum_by-cons}
 use Rattle.dw_base.specs.declared.fault.Reach.{Reach}
 use Rattle.dw_base.specs.declared.fault.Reach.TheVariants.{Narrow}
-use Rattle.entry_read.specs.Heads.{least_reserved, Follow as UnitsFollow}
+use Rattle.fixed_width.specs.InitialLengths.{least_reserved}
+use Rattle.entry_read.specs.Heads.{Follow as UnitsFollow}
 use Rattle.unit_write.specs.Most.{most_bytes}
 use Rattle.value_links.specs.Sections.{debug_info, debug_abbrev, info_name}
 use Rattle.value_links.specs.Reading.{UnitRead, unit_heads}
@@ -16,13 +17,13 @@ use Rattle.rewriter.proofs.Standing.{held_count}
 -- each unit has an entry, so that they are fewer than 2^32
 pub units_are_few : (world : World) (reach : Reach) → IsWorldOf world.image reach world → length world.units < 2 ^ 32
 units_are_few world reach is =
-    let read : length is.r.units < 2 ^ 32 = few_units (debug_info world.image) (debug_abbrev world.image) is.r.units is.read.parts.units in
+    let read : length is.r.links.units < 2 ^ 32 = few_units (debug_info world.image) (debug_abbrev world.image) is.r.links.units is.read.links.units in
     subst (λ (z : ℕ). z < 2 ^ 32) (sym (held_count world.image world is.r is.holds)) read
 
 -- and each has a number of its table
 pub numbers_are_few : (world : World) (reach : Reach) (table_of : List ℕ) → IsWorldOf world.image reach world → table_of ≡ world.table_of → length table_of < 2 ^ 32
 numbers_are_few world reach table_of is same =
-    let read : length is.r.units < 2 ^ 32 = few_units (debug_info world.image) (debug_abbrev world.image) is.r.units is.read.parts.units in
+    let read : length is.r.links.units < 2 ^ 32 = few_units (debug_info world.image) (debug_abbrev world.image) is.r.links.units is.read.links.units in
     subst (λ (z : ℕ). z < 2 ^ 32) (sym (ap length same ∙ is.holds.tables.count)) read
 
 abbrev entries_in : UnitRead → ℕ
@@ -44,9 +45,9 @@ most_follow section (u ∷ units) a e (first, head, rest) =
 -- so those of a file within the narrow limits end below the lengths that are reserved
 pub units_have_room : (world : World) → IsWorldOf world.image Narrow world → sum_by most_bytes world.units < least_reserved
 units_have_room world is =
-    let all : 0 + sum_by most_bytes (map head_and_forest is.r.units) ≡ length (debug_info world.image) + 4 * sum_by entries_in is.r.units + 10 * sum_by values_in is.r.units = most_follow (debug_info world.image) is.r.units 0 (length (debug_info world.image)) is.read.parts.units.tiled in
-    let same : sum_by most_bytes world.units ≡ sum_by most_bytes (map head_and_forest is.r.units) = ap (sum_by most_bytes) is.holds.units in
+    let all : 0 + sum_by most_bytes (map head_and_forest is.r.links.units) ≡ length (debug_info world.image) + 4 * sum_by entries_in is.r.links.units + 10 * sum_by values_in is.r.links.units = most_follow (debug_info world.image) is.r.links.units 0 (length (debug_info world.image)) is.read.links.units.tiled in
+    let same : sum_by most_bytes world.units ≡ sum_by most_bytes (map head_and_forest is.r.links.units) = ap (sum_by most_bytes) is.holds.units in
     let short : length (debug_info world.image) ≤ 2 ^ 28 = debug_short world.image info_name refl is.valid in
-    let entries : sum_by entries_in is.r.units ≤ 2 ^ 24 = omega (arith, is.read.parts.units.within.entries) in
-    let values : sum_by values_in is.r.units ≤ 2 ^ 26 = omega (arith, is.read.parts.units.within.values) in
+    let entries : sum_by entries_in is.r.links.units ≤ 2 ^ 24 = omega (arith, is.read.links.units.within.entries) in
+    let values : sum_by values_in is.r.links.units ≤ 2 ^ 26 = omega (arith, is.read.links.units.within.values) in
     omega (arith, all, same, short, entries, values)

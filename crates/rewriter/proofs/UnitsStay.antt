@@ -2,7 +2,7 @@
 use Rattle.std.proofs.Common.{◌≡◌, ◌≤◌, ◌<◌, ◌+◌, ◌-◌, ◌++◌, ℕ, suc, List, [], ◌∷◌, length, take, drop, ◌∙◌, sym, refl, subst, arith}
 use Rattle.std.specs.List.{All}
 use Rattle.std.proofs.lemmas.List.{length-append}
-use Rattle.std.proofs.lemmas.List.Elements.{All-take, All-drop, All-from_get_or}
+use Rattle.std.proofs.lemmas.List.Elements.{All-take, All-drop, All-from_get_or, All-weaker}
 use Rattle.leb_codec.specs.Leb.{ShortestUnsigned}
 use Rattle.form_codec.specs.declared.value.Value.{Value}
 use Rattle.form_codec.specs.declared.value.Value.TheVariants as value
@@ -11,19 +11,18 @@ use Rattle.form_codec.specs.Values.{meant_in, LiesIn}
 use Rattle.abbrev_tables.specs.declared.decl.Spec.{Spec}
 use Rattle.abbrev_tables.specs.Tables.{Declared}
 use Rattle.abbrev_tables.specs.Listings.{Listing, IsTableAt}
-use Rattle.abbrev_tables.specs.Parts.{IsPartAt}
-use Rattle.abbrev_tables.proofs.WholeParts.{whole_part}
 use Rattle.entry_arena.specs.declared.entry.Entry.{Entry}
+use Rattle.entry_arena.specs.declared.entry.ChainEnd.{ChainEnd}
 use Rattle.entry_arena.specs.Arena.{Arena, value_at}
 use Rattle.entry_arena.specs.Trees.{Listed, SpellsBetween, declared_at}
 use Rattle.entry_arena.proofs.GrowingLaws.{sections_grow}
 use Rattle.entry_arena.proofs.TreeLaws.{trees_are_walks}
 use Rattle.entry_arena.proofs.WalkPlaces.{walked_orderly}
 use Rattle.entry_read.specs.declared.head.UnitHead.{UnitHead}
-use Rattle.entry_read.specs.Heads.{unit_end}
+use Rattle.fixed_width.specs.InitialLengths.{unit_end}
 use Rattle.entry_read.specs.Units.{HeadAndForest, entries_at, end_of, declarations_of, IsUnit}
-use Rattle.unit_write.specs.Values.{IsWritten}
-use Rattle.unit_write.specs.Moved.{AreMovedValues, WrittenBetween, StandsShort, IsWrittenAnew}
+use Rattle.entry_read.specs.Short.{IsWritten, WrittenBetween, StandsShort, EndsShort}
+use Rattle.unit_write.specs.Moved.{AreMovedValues, IsWrittenAnew}
 use Rattle.value_links.specs.Reading.{IsUnitRead}
 
 -- what is spelled there is spelled there too where more bytes follow
@@ -75,17 +74,26 @@ module _ (section more : List ℕ) (head : UnitHead) (ds : List Declared) (fores
         valued = still_written section more ds ((declared_at ds e.decl).columns) (take e.count (drop e.first forest.values)) short.values_at (e.at + e.len) own short.valued;
       }
 
--- A unit that was written at the end of a section is read of the section and what follows, by its new table.
-pub written_read : (unit : HeadAndForest) (table listing : Listing) (columns : List Spec) (numbers : List ℕ) (new_table type_offset : ℕ) (held : List ℕ) (start : ℕ) (section more abbrevs : List ℕ) → (w : IsWrittenAnew unit table columns numbers (declarations_of listing) new_table type_offset held start section) → new_table < length abbrevs → IsTableAt abbrevs new_table listing → IsUnitRead (section ++ more) abbrevs (record { head = w.head; table = listing; forest = record { section = section ++ more; entries = w.forest.entries; values = w.forest.values; ends = w.forest.ends } })
-written_read unit table listing columns numbers new_table type_offset held start section more abbrevs w inside stands =
+-- and codes 0 that end chains have one byte there
+pub ends_stay : (section more : List ℕ) (ds : List Declared) (ends : List ChainEnd) → All (EndsShort section) ends → All (EndsShort (section ++ more)) ends
+ends_stay section more ds ends short = All-weaker (EndsShort section) (EndsShort (section ++ more)) (λ e one. still_spelled (ShortestUnsigned 0) section more ds e.at (e.at + 1) one) ends short
+
+-- A unit that was written at the end of a section fills its place.
+pub written_fills : (unit : HeadAndForest) (table : Listing) (columns : List Spec) (numbers : List ℕ) (ds : List Declared) (new_table type_offset : ℕ) (held : List ℕ) (start : ℕ) (section : List ℕ) → (w : IsWrittenAnew unit table columns numbers ds new_table type_offset held start section) → end_of w.head ≡ w.forest.place
+written_fills unit table columns numbers ds new_table type_offset held start section w =
     let at : w.head.at ≡ start = w.fields.at in
     let len : w.head.len ≡ length section - start = w.fields.len in
     let place : w.forest.place ≡ length section = w.ends_there in
     let room : unit_end section w.head.at ≤ length section = w.is_head.rules.inside in
-    let ends : end_of w.head ≡ w.forest.place = omega arith in
+    omega arith
+
+-- It is read of the section and what follows, by its new table.
+pub written_read : (unit : HeadAndForest) (table listing : Listing) (columns : List Spec) (numbers : List ℕ) (new_table type_offset : ℕ) (held : List ℕ) (start : ℕ) (section more abbrevs : List ℕ) → (w : IsWrittenAnew unit table columns numbers (declarations_of listing) new_table type_offset held start section) → new_table < length abbrevs → IsTableAt abbrevs new_table listing → IsUnitRead (section ++ more) abbrevs (record { head = w.head; table = listing; forest = record { section = section ++ more; entries = w.forest.entries; values = w.forest.values; ends = w.forest.ends } })
+written_read unit table listing columns numbers new_table type_offset held start section more abbrevs w inside stands =
+    let ends : end_of w.head ≡ w.forest.place = written_fills unit table columns numbers (declarations_of listing) new_table type_offset held start section w in
     record {
       named = subst (λ (n : ℕ). n < length abbrevs) (sym w.fields.table) inside;
-      table = subst (λ (n : ℕ). IsPartAt abbrevs n listing) (sym w.fields.table) (whole_part abbrevs new_table listing stands);
+      table = subst (λ (n : ℕ). IsTableAt abbrevs n listing) (sym w.fields.table) stands;
       section = refl;
       entries = (w.forest.place, unit_stays section more w.head (declarations_of listing) w.forest w.is_unit ends);
     }

@@ -10,9 +10,9 @@ use Rattle.entry_read.specs.Units.{HeadAndForest}
 use Rattle.value_links.specs.declared.units.NamedTable.{NamedTable}
 use Rattle.value_links.specs.World.{table_at}
 use Rattle.rewriter.specs.declared.uses.Uses.{Uses}
-use Rattle.rewriter.specs.Tables.{AreUses, entries_with, uses_of}
-use Rattle.rewriter.specs.Placed.{unit_in}
-use Rattle.rewriter.specs.Counting.{AddsUses, AreCountable, AreCounted, counts_in}
+use Rattle.value_links.specs.Uses.{AreUses, entries_with, uses_of}
+use Rattle.rewriter.specs.inside.Placed.{unit_in}
+use Rattle.rewriter.specs.inside.Counting.{AddsUses, AreCountable, AreCounted, counts_in}
 
 -- one more use of a declaration fits, where all entries did
 pub room_for_one : (entries : List Entry) (old new : List ℕ) (i number count : ℕ) → i < length entries → number < length old → ((number : ℕ) → number < length old → slice_index old number + length entries < 2 ^ 64) → AddsUses (take i entries) old new → count ≡ get_or new number count → count + 1 < 2 ^ 64

@@ -17,11 +17,13 @@ use Rattle.entry_read.specs.declared.head.UnitHead.{UnitHead}
 use Rattle.entry_read.specs.Units.{HeadAndForest, entries_at, IsUnitHeld}
 use Rattle.value_links.specs.declared.units.NamedTable.{NamedTable}
 use Rattle.value_links.specs.Sections.{debug_info, debug_abbrev}
-use Rattle.value_links.specs.Reading.{UnitRead, Reading, no_unit, unit_at, declarations, IsUnitRead, IsReading}
+use Rattle.value_links.specs.Reading.{UnitRead, Reading, no_unit, unit_at, declarations, IsUnitRead}
+use Rattle.value_links.specs.Whole.{IsReading}
 use Rattle.value_links.specs.Values.{entry_of}
 use Rattle.value_links.specs.World.{World, head_and_forest, named_by, Holds}
 use Rattle.rewriter.specs.declared.tables.NewTable.{NewTable}
-use Rattle.rewriter.specs.Tables.{uses_of, new_table_at, IsTableWritten, entries_with, AreTablesWritten}
+use Rattle.value_links.specs.Uses.{uses_of, entries_with}
+use Rattle.rewriter.specs.inside.Tables.{new_table_at, IsTableWritten, AreTablesWritten}
 
 -- a sum is no less than one of its addends
 sum_at : {X : Type 0} (f : X → ℕ) (xs : List X) (i : ℕ) (d : X) → i < length xs → f (get_or xs i d) ≤ sum_by f xs
@@ -42,7 +44,7 @@ counted_at {X} p xs i d inside passes =
     omega arith
 
 -- the declaration of an entry has a use among units
-pub is_used : (units : List HeadAndForest) (u id : ℕ) (none : HeadAndForest) → u < length units → id < length (get_or units u none).forest.entries → 1 ≤ uses_of units (get_or units u none).head.table (entry_at (get_or units u none).forest.entries id).decl
+is_used : (units : List HeadAndForest) (u id : ℕ) (none : HeadAndForest) → u < length units → id < length (get_or units u none).forest.entries → 1 ≤ uses_of units (get_or units u none).head.table (entry_at (get_or units u none).forest.entries id).decl
 is_used units u id none inside known =
     let unit : HeadAndForest = get_or units u none in
     let no_entry : Entry = record { at = 0; len = 0; depth = 0; decl = 0; first = 0; count = 0 } in
@@ -61,35 +63,41 @@ declaration_known info head ds f (end, unit) id inside =
 
 module _ {file : List ℕ} {world : World} {tables : List NewTable} {abbrevs : List ℕ} {r : Reading} (read : IsReading file r) (holds : Holds file world r) (tables_are : AreTablesWritten world abbrevs tables) where
   -- a unit is read of the file
-  pub unit_is : (u : ℕ) → u < length r.units → IsUnitRead (debug_info file) (debug_abbrev file) (unit_at r u)
-  unit_is u inside = All-get_or (IsUnitRead (debug_info file) (debug_abbrev file)) r.units u no_unit inside read.parts.units.each
+  pub unit_is : (u : ℕ) → u < length r.links.units → IsUnitRead (debug_info file) (debug_abbrev file) (unit_at r.links u)
+  unit_is u inside = All-get_or (IsUnitRead (debug_info file) (debug_abbrev file)) r.links.units u no_unit inside read.links.units.each
 
   -- the table of a unit is written anew
-  pub table_written : (u : ℕ) → u < length r.units → IsTableWritten world.units abbrevs (named_by (unit_at r u)) (new_table_at tables (slice_index world.table_of u))
+  pub table_written : (u : ℕ) → u < length r.links.units → IsTableWritten world.units abbrevs (named_by (unit_at r.links u)) (new_table_at tables (slice_index world.table_of u))
   table_written u inside =
       let i : ℕ = slice_index world.table_of u in
       subst (λ (z : NamedTable). IsTableWritten world.units abbrevs z (new_table_at tables i)) (holds.tables.each u inside) (tables_are.each i (holds.tables.inside u inside))
 
   -- the declaration of an entry is one of the table
-  pub decl_known : (u id : ℕ) → u < length r.units → id < length (unit_at r u).forest.entries → (entry_of (unit_at r u) id).decl < length (unit_at r u).table.decls
+  pub decl_known : (u id : ℕ) → u < length r.links.units → id < length (unit_at r.links u).forest.entries → (entry_of (unit_at r.links u) id).decl < length (unit_at r.links u).table.decls
   decl_known u id inside known =
-      let unit : UnitRead = unit_at r u in
+      let unit : UnitRead = unit_at r.links u in
       let size : length (declarations unit) ≡ length unit.table.decls = length-map unit.table.decls (declared_in unit.table.specs) in
       subst (λ (z : ℕ). (entry_of unit id).decl < z) size (declaration_known (debug_info file) unit.head (declarations unit) unit.forest (unit_is u inside).entries id known)
 
-  -- and has a number
-  pub decl_used : (u id : ℕ) → u < length r.units → id < length (unit_at r u).forest.entries → 1 ≤ slice_index (new_table_at tables (slice_index world.table_of u)).numbers (entry_of (unit_at r u) id).decl
-  decl_used u id inside known =
-      let unit : UnitRead = unit_at r u in
+  -- and an entry has it
+  pub decl_has_uses : (u id : ℕ) → u < length r.links.units → id < length (unit_at r.links u).forest.entries → 1 ≤ uses_of world.units (unit_at r.links u).head.table (entry_of (unit_at r.links u) id).decl
+  decl_has_uses u id inside known =
+      let unit : UnitRead = unit_at r.links u in
       let none : HeadAndForest = head_and_forest no_unit in
-      let decl : ℕ = (entry_of unit id).decl in
-      let w = table_written u inside in
-      let size : length (map head_and_forest r.units) ≡ length r.units = length-map r.units head_and_forest in
-      let here : get_or (map head_and_forest r.units) u none ≡ head_and_forest unit = get_or-map head_and_forest r.units u no_unit none inside in
+      let size : length (map head_and_forest r.links.units) ≡ length r.links.units = length-map r.links.units head_and_forest in
+      let here : get_or (map head_and_forest r.links.units) u none ≡ head_and_forest unit = get_or-map head_and_forest r.links.units u no_unit none inside in
       let there : get_or world.units u none ≡ head_and_forest unit = ap (λ (z : List HeadAndForest). get_or z u none) holds.units ∙ here in
       let among : u < length world.units = subst (λ (z : List HeadAndForest). u < length z) (sym holds.units) (subst (λ (z : ℕ). u < z) (sym size) inside) in
       let some = is_used world.units u id none among (subst (λ (z : HeadAndForest). id < length z.forest.entries) (sym there) known) in
-      let uses = subst (λ (z : HeadAndForest). 1 ≤ uses_of world.units z.head.table (entry_at z.forest.entries id).decl) there some in
+      subst (λ (z : HeadAndForest). 1 ≤ uses_of world.units z.head.table (entry_at z.forest.entries id).decl) there some
+
+  -- so it has a number
+  pub decl_used : (u id : ℕ) → u < length r.links.units → id < length (unit_at r.links u).forest.entries → 1 ≤ slice_index (new_table_at tables (slice_index world.table_of u)).numbers (entry_of (unit_at r.links u) id).decl
+  decl_used u id inside known =
+      let unit : UnitRead = unit_at r.links u in
+      let decl : ℕ = (entry_of unit id).decl in
+      let w = table_written u inside in
+      let uses = decl_has_uses u id inside known in
       let declared : decl < length unit.table.decls = decl_known u id inside known in
       let is : slice_index w.uses decl ≡ uses_of world.units unit.head.table decl = w.used.each decl declared in
       let counted : decl < length w.uses = subst (λ (z : ℕ). decl < z) (sym w.used.count) declared in

@@ -1,5 +1,5 @@
 -- What a world says of the uses of its tables.
-use Rattle.std.proofs.Common.{◌≡◌, ◌≢◌, ◌≤◌, ◌<◌, inl, inr, ℕ, List, [], ◌∷◌, length, get_or, sym, ap, ◌∙◌, subst, arith}
+use Rattle.std.proofs.Common.{◌≡◌, ◌≢◌, ◌<◌, inl, inr, ℕ, List, [], ◌∷◌, length, get_or, sym, ap, ◌∙◌, subst, arith}
 use Rattle.std.specs.List.{All, sum_by}
 use Rattle.std.proofs.lemmas.Bool.{cases_lt}
 use Rattle.std.proofs.lemmas.List.{length-map}
@@ -8,7 +8,6 @@ use Rattle.dw_base.specs.declared.fault.Reach.{Reach}
 use Rattle.abbrev_tables.specs.Tables.{Declared}
 use Rattle.abbrev_tables.specs.Listings.{Listing, declared_in}
 use Rattle.entry_arena.specs.declared.entry.Entry.{Entry}
-use Rattle.entry_arena.specs.Arena.{entry_at}
 use Rattle.entry_arena.specs.ForestLaws.{TreesAreWalks}
 use Rattle.entry_arena.specs.Trees.{Listed}
 use Rattle.entry_arena.specs.Walks.{Item, Walks}
@@ -17,15 +16,13 @@ use Rattle.entry_arena.proofs.TreeLaws.{trees_are_walks}
 use Rattle.entry_read.specs.Units.{HeadAndForest, declarations_of, IsTable, IsUnitHeld}
 use Rattle.value_links.specs.declared.units.NamedTable.{NamedTable}
 use Rattle.value_links.specs.Sections.{debug_info, debug_abbrev}
-use Rattle.value_links.specs.Reading.{UnitRead, declarations, unit_among, no_unit, HasEntryWith, IsUnitRead}
+use Rattle.value_links.specs.Reading.{UnitRead, declarations, unit_among, no_unit, IsUnitRead}
 use Rattle.value_links.specs.World.{World, head_and_forest, table_at, named_by, IsWorldOf}
-use Rattle.rewriter.specs.Tables.{uses_of}
-use Rattle.rewriter.specs.Placed.{unit_in}
-use Rattle.rewriter.specs.Counting.{AreCountable}
+use Rattle.rewriter.specs.inside.Placed.{unit_in}
+use Rattle.rewriter.specs.inside.Counting.{AreCountable}
 use Rattle.rewriter.proofs.TermSums.{sum_by-map}
 use Rattle.rewriter.proofs.ColumnMeanings.{AreOfTable}
 use Rattle.rewriter.proofs.Standing.{held_unit}
-use Rattle.rewriter.proofs.UsedDeclarations.{is_used}
 
 abbrev Known : List Declared → Entry → Type 0
 Known ds e = e.decl < length ds
@@ -43,7 +40,7 @@ entries_in unit = length unit.forest.entries
 
 module _ (world : World) (reach : Reach) (is : IsWorldOf world.image reach world) where
   abbrev units_read : List UnitRead
-  units_read = is.r.units
+  units_read = is.r.links.units
 
   unit_count : length world.units ≡ length units_read
   unit_count = ap length is.holds.units ∙ length-map units_read head_and_forest
@@ -52,7 +49,7 @@ module _ (world : World) (reach : Reach) (is : IsWorldOf world.image reach world
   unit_is u = held_unit world.image world is.r u is.holds
 
   read_at : (u : ℕ) → u < length units_read → IsUnitRead (debug_info world.image) (debug_abbrev world.image) (unit_among units_read u)
-  read_at u inside = All-get_or (IsUnitRead (debug_info world.image) (debug_abbrev world.image)) units_read u no_unit inside is.read.parts.units.each
+  read_at u inside = All-get_or (IsUnitRead (debug_info world.image) (debug_abbrev world.image)) units_read u no_unit inside is.read.links.units.each
 
   known_at : TreesAreWalks → (u : ℕ) → u < length units_read → All (Known (declarations (unit_among units_read u))) (unit_among units_read u).forest.entries
   known_at law u inside =
@@ -77,7 +74,7 @@ module _ (world : World) (reach : Reach) (is : IsWorldOf world.image reach world
     rising = is.holds.tables.rising;
     few =
         let all : sum_by entries_in world.units ≡ sum_by (λ (u : UnitRead). length u.forest.entries) units_read = ap (sum_by entries_in) is.holds.units ∙ sum_by-map entries_in head_and_forest units_read in
-        let most = is.read.parts.units.within.entries in
+        let most = is.read.links.units.within.entries in
         omega (arith, all, most);
   }
 
@@ -96,20 +93,6 @@ module _ (world : World) (reach : Reach) (is : IsWorldOf world.image reach world
       let same : table_at world.tables i ≡ named_by (unit_among units_read u) = ap (table_at world.tables) (sym named.2) ∙ is.holds.tables.each u named.1 in
       let stands : IsTable (unit_among units_read u).table = (debug_abbrev world.image, (unit_among units_read u).head.table, (read_at u named.1).table) in
       subst (λ (t : NamedTable). IsTable t.table) (sym same) stands
-
-  -- each declaration of a table is that of an entry
-  all_used : (i : ℕ) → i < length world.tables → (number : ℕ) → number < length (table_at world.tables i).table.decls → 1 ≤ uses_of world.units (table_at world.tables i).place number
-  all_used i below number known =
-      let named = is.holds.tables.named i below in
-      let same : table_at world.tables i ≡ named_by (unit_among units_read named.0) = ap (table_at world.tables) (sym named.2) ∙ is.holds.tables.each named.0 named.1 in
-      let declared : number < length (unit_among units_read named.0).table.decls = subst (λ (t : NamedTable). number < length t.table.decls) same known in
-      let has : HasEntryWith units_read (unit_among units_read named.0).head.table number = is.read.parts.units.used.used named.0 number named.1 declared in
-      let unit : UnitRead = unit_among units_read has.u in
-      let there : has.id < length (unit_in world.units has.u).forest.entries = subst (λ (x : HeadAndForest). has.id < length x.forest.entries) (sym (unit_is has.u)) has.there in
-      let some = is_used world.units has.u has.id (unit_in [] 0) (omega (arith, has.inside, unit_count)) there in
-      let of_unit : 1 ≤ uses_of world.units unit.head.table (entry_at unit.forest.entries has.id).decl = subst (λ (x : HeadAndForest). 1 ≤ uses_of world.units x.head.table (entry_at x.forest.entries has.id).decl) (unit_is has.u) some in
-      let of_number : 1 ≤ uses_of world.units unit.head.table number = subst (λ (n : ℕ). 1 ≤ uses_of world.units unit.head.table n) has.is of_unit in
-      subst (λ (n : ℕ). 1 ≤ uses_of world.units n number) (has.named ∙ sym (ap (λ (t : NamedTable). t.place) same)) of_number
 
   -- the units that have a table
   pub of_table : (i : ℕ) → i < length world.tables → AreOfTable world.units (table_at world.tables i) (debug_info world.image) world.table_of i
@@ -132,5 +115,4 @@ module _ (world : World) (reach : Reach) (is : IsWorldOf world.image reach world
             let read : IsUnitHeld (debug_info world.image) unit.head (declarations_of (table_at world.tables i).table) unit.forest = subst (λ (t : Listing). IsUnitHeld (debug_info world.image) unit.head (declarations_of t) unit.forest) table (read_at u within).entries in
             subst (λ (x : HeadAndForest). IsUnitHeld (debug_info world.image) x.head (declarations_of (table_at world.tables i).table) x.forest) (sym (unit_is u)) read;
         few = all.few;
-        used = all_used i below;
       }

@@ -14,7 +14,7 @@ use Rattle.abbrev_tables.specs.Written.{IsWritableColumn, IsWritable, IsInOrder,
 use Rattle.entry_arena.specs.Trees.{declared_at}
 use Rattle.entry_read.specs.Units.{declarations_of, IsTable}
 use Rattle.entry_read.proofs.Declarations.{declared_is, count_same}
-use Rattle.rewriter.proofs.PartDeclarations.{part_all, columns_all}
+use Rattle.rewriter.proofs.AllColumns.{columns_all}
 use Rattle.rewriter.proofs.Renumbers.{AreNumbersOf, entry, number_at}
 
 -- what holds of each thing that is spelled
@@ -47,13 +47,11 @@ declared_writable d b s =
 
 -- what holds of each declaration that is spelled holds of those of a table that was read
 spelled_all : (P : Declared → Type 0) → ((d : Declared) (b : List ℕ) → SpellsDeclared d b → P d) → (t : Listing) → IsTable t → All P (declarations_of t)
-spelled_all P gives t (section, at, part) =
-    let spelled = part.stands.table.spelled in
-    part_all P part.whole part.picks t part.is (joined_each SpellsDeclared P gives (declarations_of part.whole) spelled.0 spelled.2)
+spelled_all P gives t (section, at, h) = joined_each SpellsDeclared P gives (declarations_of t) h.table.spelled.0 h.table.spelled.2
 
 -- the columns of a table that was read can be written
 pub table_writable : (t : Listing) → IsTable t → All IsWritableColumn t.specs
-table_writable t known = columns_all IsWritableColumn t.specs 0 t.decls known.2.is.adjacent (spelled_all (λ (d : Declared). All IsWritableColumn d.columns) declared_writable t known)
+table_writable t known = columns_all IsWritableColumn t.specs 0 t.decls known.2.adjacent (spelled_all (λ (d : Declared). All IsWritableColumn d.columns) declared_writable t known)
 
 -- and so can its tags
 pub tags_narrow : (t : Listing) → IsTable t → (p : ℕ) → p < length t.decls → (decl_at t.decls p).tag < 2 ^ 32

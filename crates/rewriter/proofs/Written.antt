@@ -17,9 +17,10 @@ use Rattle.value_links.specs.Sections.{debug_abbrev}
 use Rattle.value_links.specs.Reading.{unit_at}
 use Rattle.value_links.specs.World.{World, IsWorldOf}
 use Rattle.rewriter.specs.declared.tables.NewTable.{NewTable}
-use Rattle.rewriter.specs.Tables.{AreTablesWritten}
-use Rattle.rewriter.specs.Placed.{places_at, unit_in, ArePlacesOf}
-use Rattle.rewriter.specs.Held.{table_for, IsUnitBehind}
+use Rattle.rewriter.specs.declared.new_places.NewPlaces.{NewPlaces}
+use Rattle.rewriter.specs.inside.Tables.{AreTablesWritten}
+use Rattle.rewriter.specs.inside.Placed.{places_at, unit_in, ArePlacesOf}
+use Rattle.rewriter.specs.inside.Held.{table_for, IsUnitBehind}
 use Rattle.rewriter.proofs.Standing.{held_count}
 use Rattle.rewriter.proofs.Final.{table_known, unit_reads}
 
@@ -37,14 +38,14 @@ one_place unit table columns numbers start entries others ends other_ends to oth
 -- the table of a unit has codes of its own
 pub table_coded : (world : World) (reach : Reach) (u : ℕ) → IsWorldOf world.image reach world → u < length world.units → HaveCodes (declarations_of (table_for world u))
 table_coded world reach u is known =
-    let size : length world.units ≡ length is.r.units = held_count world.image world is.r is.holds in
+    let size : length world.units ≡ length is.r.links.units = held_count world.image world is.r is.holds in
     let read = unit_reads world.image world is.r u reach is is.holds known in
-    have_codes (table_for world u) (subst IsTable (sym (table_known world.image world is.r u is.holds (omega arith))) (debug_abbrev world.image, (unit_at is.r u).head.table, read.table))
+    have_codes (table_for world u) (subst IsTable (sym (table_known world.image world is.r u is.holds (omega arith))) (debug_abbrev world.image, (unit_at is.r.links u).head.table, read.table))
 
 -- a unit that stands behind others ends where its places do
-pub unit_to : (world : World) (reach : Reach) (tables : List NewTable) (places : List Places) (lines : List ℕ) (abbrevs section : List ℕ) (whole u : ℕ) → IsWorldOf world.image reach world → AreTablesWritten world abbrevs tables → ArePlacesOf world tables places whole → u < length world.units → IsUnitBehind world tables places lines u section → length section ≡ (places_at places u).end
-unit_to world reach tables places lines abbrevs section whole u is written are known behind =
-    let size : length world.units ≡ length is.r.units = held_count world.image world is.r is.holds in
+pub unit_to : (world : World) (reach : Reach) (tables : List NewTable) (places : List Places) (new_places : NewPlaces) (abbrevs section : List ℕ) (whole u : ℕ) → IsWorldOf world.image reach world → AreTablesWritten world abbrevs tables → ArePlacesOf world tables places whole → u < length world.units → IsUnitBehind world tables places new_places u section → length section ≡ (places_at places u).end
+unit_to world reach tables places new_places abbrevs section whole u is written are known behind =
+    let size : length world.units ≡ length is.r.links.units = held_count world.image world is.r is.holds in
     let old : slice_index world.table_of u < length world.tables = is.holds.tables.inside u (omega arith) in
     let table = written.each (slice_index world.table_of u) old in
     let anew = behind.written (declarations_of table.listing) table.renumbered in

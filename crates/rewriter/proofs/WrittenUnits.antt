@@ -1,42 +1,41 @@
 -- Units that stand anew, each at its place, are read of the new section, and are the old ones moved.
-use Rattle.std.proofs.Common.{◌≡◌, ◌≤◌, ◌<◌, ◌+◌, ◌-◌, ◌++◌, ℕ, zero, suc, List, [], ◌∷◌, length, slice_index, take, drop, ◌∙◌, sym, ap, refl, subst, arith, inl, inr}
+use Rattle.std.proofs.Common.{◌≡◌, ◌≤◌, ◌<◌, ◌+◌, ◌-◌, ◌++◌, ℕ, zero, suc, List, [], ◌∷◌, length, slice_index, take, drop, ◌∙◌, sym, ap, refl, subst, arith}
 use Rattle.std.specs.Prelude.{map}
 use Rattle.std.specs.List.{All, AllZip, sum_by}
-use Rattle.std.proofs.lemmas.Bool.{cases_eq}
 use Rattle.std.proofs.lemmas.List.{take-append-drop, length-take-le}
-use Rattle.std.proofs.lemmas.List.Elements.{All-from_get_or, AllZip-get_or, length_all_zip}
+use Rattle.std.proofs.lemmas.List.Elements.{All-from_get_or, length_all_zip}
 use Rattle.std.proofs.lemmas.List.Sums.{sum_by-cons}
 use Rattle.dw_base.specs.declared.fault.Reach.{Reach}
 use Rattle.abbrev_tables.specs.Listings.{Listing, IsTableAt}
-use Rattle.abbrev_tables.proofs.ListingOnce.{listing_once}
 use Rattle.abbrev_tables.proofs.ListingStands.{declarations_stand}
 use Rattle.entry_arena.specs.declared.entry.Entry.{Entry}
 use Rattle.entry_arena.specs.declared.entry.ChainEnd.{ChainEnd}
 use Rattle.entry_arena.specs.Arena.{entry_at}
 use Rattle.entry_arena.specs.Trees.{listed_to}
 use Rattle.entry_read.specs.declared.head.UnitHead.{UnitHead}
-use Rattle.entry_read.specs.Heads.{unit_end, IsHead, Follow}
-use Rattle.entry_read.specs.Units.{HeadAndForest, end_of, declarations_of, IsWithin}
+use Rattle.fixed_width.specs.InitialLengths.{unit_end}
+use Rattle.entry_read.specs.Heads.{IsHead, Follow}
+use Rattle.entry_read.specs.Units.{HeadAndForest, end_of, declarations_of, IsUnit, IsWithin}
 use Rattle.unit_write.specs.declared.places.Places.{Places}
 use Rattle.unit_write.specs.Placing.{IsRenumbered}
-use Rattle.unit_write.specs.Moved.{IsMovedEntry, IsMovedEnd, AreMovedValues, StandsShort, IsWrittenAnew}
-use Rattle.value_links.specs.Reading.{UnitRead, Reading, no_unit, unit_heads, unit_among, unit_at, counts_of, AreWithin, declarations, IsUnitRead, HasEntryWith, HaveUsedTables, AreUnitsIn}
-use Rattle.value_links.specs.Laws.{IsBuilt, AreBuilt}
+use Rattle.entry_read.specs.Short.{StandsShort, EndsShort}
+use Rattle.unit_write.specs.Moved.{IsMovedEntry, IsMovedEnd, AreMovedValues, IsWrittenAnew}
+use Rattle.value_links.specs.Reading.{UnitRead, Reading, no_unit, unit_heads, unit_among, unit_at, counts_of, AreWithin, declarations, IsUnitRead, AreUnitsIn}
+use Rattle.value_links.specs.Laws.{IsBuilt}
 use Rattle.value_links.specs.World.{World, head_and_forest, table_at, Holds, IsWorldOf}
 use Rattle.rewriter.specs.declared.tables.NewTable.{NewTable}
-use Rattle.rewriter.specs.Tables.{TableAnew, new_table_at, IsTableWritten, AreTablesWritten}
-use Rattle.rewriter.specs.Placed.{PlacesAnew, places_anew, places_at, unit_in, PlacesFollow, ArePlacesOf}
-use Rattle.rewriter.specs.Numbers.{AreNewNumbers}
-use Rattle.rewriter.specs.Units.{IsUnitMoved, AreUnitsWritten}
-use Rattle.rewriter.specs.Held.{table_for, IsUnitBehind, StandAnew}
+use Rattle.rewriter.specs.declared.new_places.NewPlaces.{NewPlaces}
+use Rattle.rewriter.specs.inside.Tables.{new_table_at, IsTableWritten, AreTablesWritten}
+use Rattle.rewriter.specs.inside.Placed.{PlacesAnew, places_anew, places_at, unit_in, PlacesFollow, ArePlacesOf}
+use Rattle.rewriter.specs.inside.Numbers.{AreNewNumbers}
+use Rattle.rewriter.specs.inside.Units.{IsUnitMoved, AreUnitsWritten}
+use Rattle.rewriter.specs.inside.Held.{table_for, IsUnitBehind, StandAnew}
 use Rattle.rewriter.proofs.HeadsStay.{head_stays}
-use Rattle.rewriter.proofs.UnitsStay.{moved_stay, short_stays, written_read}
+use Rattle.rewriter.proofs.UnitsStay.{unit_stays, moved_stay, short_stays, ends_stay, written_fills, written_read}
 use Rattle.rewriter.proofs.Standing.{held_count, held_unit}
 use Rattle.rewriter.proofs.Final.{table_known, unit_once}
 use Rattle.rewriter.proofs.BuiltTables.{built_anew}
 use Rattle.rewriter.proofs.BuiltUnits.{unit_built}
-use Rattle.rewriter.proofs.UsedAgain.{IsUsedAgain, used_again}
-use Rattle.rewriter.proofs.WorldFacts.{of_table}
 use Rattle.rewriter.proofs.Written.{one_place, table_coded}
 
 -- LISTS OF UNITS
@@ -87,25 +86,24 @@ sums_same f (x ∷ xs) (y ∷ ys) size each =
     let more : sum_by f xs ≡ sum_by f ys = sums_same f xs ys (let e : length (x ∷ xs) ≡ length (y ∷ ys) = size in omega arith) (λ u inside. each (suc u) (let i : u < length xs = inside in omega arith)) in
     sum_by-cons f x xs ∙ ap (λ (n : ℕ). n + sum_by f xs) here ∙ ap (λ (n : ℕ). f y + n) more ∙ sym (sum_by-cons f y ys)
 
-module _ (world : World) (reach : Reach) (tables : List NewTable) (places : List Places) (lines : List ℕ) (abbrevs info : List ℕ) (whole : ℕ) (is : IsWorldOf world.image reach world) (written : AreTablesWritten world abbrevs tables) (are : ArePlacesOf world tables places whole) (file : List ℕ) (r : Reading) (holds : Holds file world r) where
+module _ (world : World) (reach : Reach) (tables : List NewTable) (places : List Places) (new_places : NewPlaces) (abbrevs info : List ℕ) (whole : ℕ) (is : IsWorldOf world.image reach world) (written : AreTablesWritten world abbrevs tables) (are : ArePlacesOf world tables places whole) (file : List ℕ) (r : Reading) (holds : Holds file world r) where
   -- A unit is read of the new section, and is the old one with a number, moved.
   record IsUnitAnew (u : ℕ) (new : UnitRead) : Type 0 where
     pub read : IsUnitRead info abbrevs new
     pub head : IsHead info new.head
-    pub stands : IsTableAt abbrevs new.head.table new.table
     pub built : All IsBuilt (declarations new)
-    pub moved : IsUnitMoved world r tables places lines u new
+    pub moved : IsUnitMoved world r.links tables places new_places u new
 
   -- ONE UNIT
 
-  module _ (u : ℕ) (known : u < length world.units) (behind : IsUnitBehind world tables places lines u (take (places_at places u).end info)) (fits : (places_at places u).end ≤ length info) where
-    read_known : u < length r.units
-    read_known = let size : length world.units ≡ length r.units = held_count file world r holds in omega arith
+  module _ (u : ℕ) (known : u < length world.units) (behind : IsUnitBehind world tables places new_places u (take (places_at places u).end info)) (fits : (places_at places u).end ≤ length info) where
+    read_known : u < length r.links.units
+    read_known = let size : length world.units ≡ length r.links.units = held_count file world r holds in omega arith
 
-    valid_known : u < length is.r.units
-    valid_known = let size : length world.units ≡ length is.r.units = held_count world.image world is.r is.holds in omega arith
+    valid_known : u < length is.r.links.units
+    valid_known = let size : length world.units ≡ length is.r.links.units = held_count world.image world is.r is.holds in omega arith
 
-    held_as : unit_in world.units u ≡ head_and_forest (unit_at r u)
+    held_as : unit_in world.units u ≡ head_and_forest (unit_at r.links u)
     held_as = held_unit file world r u holds
 
     anew : IsTableWritten world.units abbrevs (table_at world.tables (slice_index world.table_of u)) (new_table_at tables (slice_index world.table_of u))
@@ -114,7 +112,7 @@ module _ (world : World) (reach : Reach) (tables : List NewTable) (places : List
     w : IsWrittenAnew (unit_in world.units u) (table_for world u) (new_table_at tables (slice_index world.table_of u)).columns (new_table_at tables (slice_index world.table_of u)).numbers (declarations_of anew.listing) behind.numbers.table behind.numbers.type_offset behind.numbers.held.items (places_at places u).start (take (places_at places u).end info)
     w = behind.written (declarations_of anew.listing) anew.renumbered
 
-    numbered : AreNewNumbers world r tables places lines u behind.numbers
+    numbered : AreNewNumbers world r.links tables places new_places u behind.numbers
     numbered = behind.numbered file r holds
 
     joined : take (places_at places u).end info ++ drop (places_at places u).end info ≡ info
@@ -130,9 +128,6 @@ module _ (world : World) (reach : Reach) (tables : List NewTable) (places : List
         let first = written_read (unit_in world.units u) (table_for world u) anew.listing (new_table_at tables (slice_index world.table_of u)).columns (new_table_at tables (slice_index world.table_of u)).numbers behind.numbers.table behind.numbers.type_offset behind.numbers.held.items (places_at places u).start (take (places_at places u).end info) (drop (places_at places u).end info) abbrevs w inside stands in
         subst (λ (z : List ℕ). IsUnitRead z abbrevs (read_in z)) joined first
 
-    table_there : IsTableAt abbrevs w.head.table anew.listing
-    table_there = subst (λ (n : ℕ). IsTableAt abbrevs n anew.listing) (sym (w.fields.table ∙ numbered.table_at)) anew.stands
-
     head_there : IsHead info w.head
     head_there = subst (λ (z : List ℕ). IsHead z w.head) joined (head_stays (take (places_at places u).end info) (drop (places_at places u).end info) w.head w.is_head)
 
@@ -147,15 +142,15 @@ module _ (world : World) (reach : Reach) (tables : List NewTable) (places : List
 
     built_there : All IsBuilt (declarations_of anew.listing)
     built_there =
-        let old : All IsBuilt (declarations (unit_at is.r u)) = unit_built declarations_stand world.image reach is.r is.valid is.read u valid_known in
-        let same : table_for world u ≡ (unit_at is.r u).table = table_known world.image world is.r u is.holds valid_known in
+        let old : All IsBuilt (declarations (unit_at is.r.links u)) = unit_built declarations_stand world.image reach is.r is.valid is.read u valid_known in
+        let same : table_for world u ≡ (unit_at is.r.links u).table = table_known world.image world is.r u is.holds valid_known in
         built_anew world.units abbrevs (table_at world.tables (slice_index world.table_of u)) (new_table_at tables (slice_index world.table_of u)) anew (subst (λ (t : Listing). All IsBuilt (declarations_of t)) (sym same) old)
 
-    values_there : AreMovedValues (unit_at r u).forest behind.numbers.held.items info (listed_to (read_in info).forest 0)
+    values_there : AreMovedValues (unit_at r.links u).forest behind.numbers.held.items info (listed_to (read_in info).forest 0)
     values_there =
         let stay : AreMovedValues (unit_in world.units u).forest behind.numbers.held.items (take (places_at places u).end info ++ drop (places_at places u).end info) w.forest = moved_stay (take (places_at places u).end info) (drop (places_at places u).end info) w.head (declarations_of anew.listing) w.forest w.is_unit (unit_in world.units u).forest behind.numbers.held.items w.values in
         let here : AreMovedValues (unit_in world.units u).forest behind.numbers.held.items info w.forest = subst (λ (z : List ℕ). AreMovedValues (unit_in world.units u).forest behind.numbers.held.items z w.forest) joined stay in
-        let same : AreMovedValues (unit_at r u).forest behind.numbers.held.items info w.forest = subst (λ (h : HeadAndForest). AreMovedValues h.forest behind.numbers.held.items info w.forest) held_as here in
+        let same : AreMovedValues (unit_at r.links u).forest behind.numbers.held.items info w.forest = subst (λ (h : HeadAndForest). AreMovedValues h.forest behind.numbers.held.items info w.forest) held_as here in
         record { count = same.count; each = same.each }
 
     short_there : (id : ℕ) → id < length w.forest.entries → StandsShort info (declarations_of anew.listing) w.forest.values (entry_at w.forest.entries id)
@@ -163,10 +158,21 @@ module _ (world : World) (reach : Reach) (tables : List NewTable) (places : List
         let stays : StandsShort (take (places_at places u).end info ++ drop (places_at places u).end info) (declarations_of anew.listing) w.forest.values (entry_at w.forest.entries id) = short_stays (take (places_at places u).end info) (drop (places_at places u).end info) w.head (declarations_of anew.listing) w.forest w.is_unit (entry_at w.forest.entries id) (w.short id inside) in
         subst (λ (z : List ℕ). StandsShort z (declarations_of anew.listing) w.forest.values (entry_at w.forest.entries id)) joined stays
 
+    ends_short_there : All (EndsShort info) w.forest.ends
+    ends_short_there =
+        subst (λ (z : List ℕ). All (EndsShort z) w.forest.ends) joined (ends_stay (take (places_at places u).end info) (drop (places_at places u).end info) (declarations_of anew.listing) w.forest.ends w.ends_short)
+
+    filled_there : IsUnit info w.head (declarations_of anew.listing) (listed_to (read_in info).forest (end_of w.head))
+    filled_there =
+        let fills : end_of w.head ≡ w.forest.place = written_fills (unit_in world.units u) (table_for world u) (new_table_at tables (slice_index world.table_of u)).columns (new_table_at tables (slice_index world.table_of u)).numbers (declarations_of anew.listing) behind.numbers.table behind.numbers.type_offset behind.numbers.held.items (places_at places u).start (take (places_at places u).end info) w in
+        let stays : IsUnit (take (places_at places u).end info ++ drop (places_at places u).end info) w.head (declarations_of anew.listing) w.forest = unit_stays (take (places_at places u).end info) (drop (places_at places u).end info) w.head (declarations_of anew.listing) w.forest w.is_unit fills in
+        let here : IsUnit info w.head (declarations_of anew.listing) w.forest = subst (λ (z : List ℕ). IsUnit z w.head (declarations_of anew.listing) w.forest) joined stays in
+        subst (λ (place : ℕ). IsUnit info w.head (declarations_of anew.listing) (listed_to (read_in info).forest place)) (sym fills) here
+
     placed_there : (map (λ (e : Entry). e.at) w.forest.entries ≡ (places_at places u).entries) × (map (λ (e : ChainEnd). e.at) w.forest.ends ≡ (places_at places u).ends) × (length (take (places_at places u).end info) ≡ (places_at places u).end)
     placed_there = one_place (unit_in world.units u) (table_for world u) (new_table_at tables (slice_index world.table_of u)).columns (new_table_at tables (slice_index world.table_of u)).numbers (places_at places u).start (map (λ (e : Entry). e.at) w.forest.entries) (places_at places u).entries (map (λ (e : ChainEnd). e.at) w.forest.ends) (places_at places u).ends (length (take (places_at places u).end info)) (places_at places u).end (table_coded world reach u is known) w.placed (are.each u known)
 
-    moved_there : IsUnitMoved world r tables places lines u (read_in info)
+    moved_there : IsUnitMoved world r.links tables places new_places u (read_in info)
     moved_there = record {
       numbers = behind.numbers;
       numbered = numbered;
@@ -181,145 +187,58 @@ module _ (world : World) (reach : Reach) (tables : List NewTable) (places : List
       values = values_there;
       chain_ends = subst (λ (h : HeadAndForest). AllZip IsMovedEnd h.forest.ends w.forest.ends) held_as w.ends;
       short = short_there;
+      ends_short = ends_short_there;
+      filled = filled_there;
       entry_places = placed_there.0;
       end_places = placed_there.1;
     }
 
     unit_anew : (new : UnitRead) × IsUnitAnew u new
-    unit_anew = (read_in info, record { read = unit_read; head = head_there; stands = table_there; built = built_there; moved = moved_there })
+    unit_anew = (read_in info, record { read = unit_read; head = head_there; built = built_there; moved = moved_there })
 
   -- ALL UNITS
 
   module _ (g : Gathered (length world.units) IsUnitAnew) where
-    entries_kept : (u : ℕ) → u < length g.units → length (unit_among g.units u).forest.entries ≡ length (unit_at is.r u).forest.entries
+    entries_kept : (u : ℕ) → u < length g.units → length (unit_among g.units u).forest.entries ≡ length (unit_at is.r.links u).forest.entries
     entries_kept u inside =
         let known : u < length world.units = subst (λ (n : ℕ). u < n) g.count inside in
-        let moved : IsUnitMoved world r tables places lines u (unit_among g.units u) = (g.each u known).moved in
-        sym (length_all_zip (IsMovedEntry (new_table_at tables (slice_index world.table_of u)).numbers) (unit_at r u).forest.entries (unit_among g.units u).forest.entries moved.entries) ∙ ap (λ (x : UnitRead). length x.forest.entries) (unit_once file world.image world r is.r u holds is.holds known)
+        let moved : IsUnitMoved world r.links tables places new_places u (unit_among g.units u) = (g.each u known).moved in
+        sym (length_all_zip (IsMovedEntry (new_table_at tables (slice_index world.table_of u)).numbers) (unit_at r.links u).forest.entries (unit_among g.units u).forest.entries moved.entries) ∙ ap (λ (x : UnitRead). length x.forest.entries) (unit_once file world.image world r is.r u holds is.holds known)
 
-    values_kept : (u : ℕ) → u < length g.units → length (unit_among g.units u).forest.values ≡ length (unit_at is.r u).forest.values
+    values_kept : (u : ℕ) → u < length g.units → length (unit_among g.units u).forest.values ≡ length (unit_at is.r.links u).forest.values
     values_kept u inside =
         let known : u < length world.units = subst (λ (n : ℕ). u < n) g.count inside in
-        let moved : IsUnitMoved world r tables places lines u (unit_among g.units u) = (g.each u known).moved in
+        let moved : IsUnitMoved world r.links tables places new_places u (unit_among g.units u) = (g.each u known).moved in
         moved.values.count ∙ ap (λ (x : UnitRead). length x.forest.values) (unit_once file world.image world r is.r u holds is.holds known)
 
     within : AreWithin g.units
     within =
-        let size : length g.units ≡ length is.r.units = g.count ∙ held_count world.image world is.r is.holds in
-        let entries : (counts_of g.units).entries ≡ (counts_of is.r.units).entries = sums_same (λ (x : UnitRead). length x.forest.entries) g.units is.r.units size entries_kept in
-        let values : (counts_of g.units).values ≡ (counts_of is.r.units).values = sums_same (λ (x : UnitRead). length x.forest.values) g.units is.r.units size values_kept in
-        subst (λ (n : ℕ). IsWithin (counts_of []) n (counts_of g.units).values) (sym entries) (subst (IsWithin (counts_of []) (counts_of is.r.units).entries) (sym values) is.read.parts.units.within)
+        let size : length g.units ≡ length is.r.links.units = g.count ∙ held_count world.image world is.r is.holds in
+        let entries : (counts_of g.units).entries ≡ (counts_of is.r.links.units).entries = sums_same (λ (x : UnitRead). length x.forest.entries) g.units is.r.links.units size entries_kept in
+        let values : (counts_of g.units).values ≡ (counts_of is.r.links.units).values = sums_same (λ (x : UnitRead). length x.forest.values) g.units is.r.links.units size values_kept in
+        subst (λ (n : ℕ). IsWithin (counts_of []) n (counts_of g.units).values) (sym entries) (subst (IsWithin (counts_of []) (counts_of is.r.links.units).entries) (sym values) is.read.links.units.within)
 
-    -- TABLES
-
-    abbrev new_at : ℕ → TableAnew
-    new_at i = new_table_at tables i
-
-    abbrev new_unit : ℕ → UnitRead
-    new_unit u = unit_among g.units u
-
-    unit_there : (u : ℕ) → u < length g.units → IsUnitAnew u (new_unit u)
-    unit_there u inside = g.each u (subst (λ (n : ℕ). u < n) g.count inside)
-
-    table_once : (u : ℕ) → u < length g.units → (t : Listing) → IsTableAt abbrevs (new_unit u).head.table t → (new_unit u).table ≡ t
-    table_once u inside t stands = listing_once abbrevs (new_unit u).head.table (new_unit u).table t (unit_there u inside).stands stands
-
-    -- units that name one place have one table
-    tables_alike : (u v : ℕ) → u < length g.units → v < length g.units → (new_unit u).head.table ≡ (new_unit v).head.table → (new_unit u).table ≡ (new_unit v).table
-    tables_alike u v one two same = table_once u one (new_unit v).table (subst (λ (n : ℕ). IsTableAt abbrevs n (new_unit v).table) (sym same) (unit_there v two).stands)
-
-    module _ (i : ℕ) (inside : i < length world.tables) (number : ℕ) (again : IsUsedAgain world.units abbrevs (table_at world.tables i) (new_at i) (written.each i inside) number) where
-      abbrev v : ℕ
-      v = again.used.u
-
-      user_known : again.used.u < length g.units
-      user_known = subst (λ (n : ℕ). v < n) (sym g.count) again.used.inside
-
-      -- a unit that names the place of a table has it
-      user_table : slice_index world.table_of again.used.u ≡ i
-      user_table = elim (cases_eq (slice_index world.table_of v) i) [
-        | inl same ↦ same
-        | inr other ↦ absurd ((of_table world reach is i inside).apart v again.used.inside other again.used.named)
-      ]
-
-      user_named : (new_unit again.used.u).head.table ≡ (new_at i).at
-      user_named = (unit_there v user_known).moved.table_at ∙ ap (λ (n : ℕ). (new_at n).at) user_table
-
-      old_entries : (unit_in world.units again.used.u).forest.entries ≡ (unit_at r again.used.u).forest.entries
-      old_entries = ap (λ (h : HeadAndForest). h.forest.entries) (held_unit file world r v holds)
-
-      old_there : again.used.id < length (unit_at r again.used.u).forest.entries
-      old_there = subst (λ (es : List Entry). again.used.id < length es) old_entries again.used.there
-
-      -- the new number of the entry's declaration
-      new_number : slice_index (new_at (slice_index world.table_of again.used.u)).numbers (entry_at (unit_at r again.used.u).forest.entries again.used.id).decl ≡ number + 1
-      new_number =
-          ap (λ (n : ℕ). slice_index (new_at n).numbers (entry_at (unit_at r v).forest.entries again.used.id).decl) user_table
-          ∙ ap (λ (es : List Entry). slice_index (new_at i).numbers (entry_at es again.used.id).decl) (sym old_entries)
-          ∙ ap (λ (n : ℕ). slice_index (new_at i).numbers n) again.used.is
-          ∙ again.is
-
-      -- so the new entry has the new declaration
-      entry_again : HasEntryWith g.units (new_at i).at number
-      entry_again =
-          let numbers : List ℕ = (new_at (slice_index world.table_of v)).numbers in
-          let none : Entry = entry_at [] 0 in
-          let entries = (unit_there v user_known).moved.entries in
-          let count : length (unit_at r v).forest.entries ≡ length (new_unit v).forest.entries = length_all_zip (IsMovedEntry numbers) (unit_at r v).forest.entries (new_unit v).forest.entries entries in
-          let moved : IsMovedEntry numbers (entry_at (unit_at r v).forest.entries again.used.id) (entry_at (new_unit v).forest.entries again.used.id) = AllZip-get_or (IsMovedEntry numbers) (unit_at r v).forest.entries (new_unit v).forest.entries again.used.id none none entries old_there in
-          record {
-            u = v;
-            inside = user_known;
-            named = user_named;
-            id = again.used.id;
-            there = subst (λ (n : ℕ). again.used.id < n) count old_there;
-            is = omega (arith, moved.decl, new_number);
-          }
-
-    -- each declaration of a table is that of an entry
-    table_used : (u number : ℕ) → u < length g.units → number < length (new_unit u).table.decls → HasEntryWith g.units (new_unit u).head.table number
-    table_used u number inside below =
-        let i : ℕ = slice_index world.table_of u in
-        let size : length g.units ≡ length is.r.units = g.count ∙ held_count world.image world is.r is.holds in
-        let known : i < length world.tables = is.holds.tables.inside u (subst (λ (n : ℕ). u < n) size inside) in
-        let table : IsTableWritten world.units abbrevs (table_at world.tables i) (new_at i) = written.each i known in
-        let place : (new_unit u).head.table ≡ (new_at i).at = (unit_there u inside).moved.table_at in
-        let same : (new_unit u).table ≡ table.listing = table_once u inside table.listing (subst (λ (n : ℕ). IsTableAt abbrevs n table.listing) (sym place) table.stands) in
-        let again = used_again world.units abbrevs (table_at world.tables i) (new_at i) table number (subst (λ (t : Listing). number < length t.decls) same below) in
-        subst (λ (n : ℕ). HasEntryWith g.units n number) (sym place) (entry_again i known number again)
-
-    tables_used : HaveUsedTables g.units
-    tables_used = record { alike = tables_alike; used = table_used }
-
-    -- and can be written
-    table_built : (u : ℕ) → u < length g.units → (t : Listing) → IsTableAt abbrevs (new_unit u).head.table t → All IsBuilt (declarations_of t)
-    table_built u inside t stands = subst (λ (z : Listing). All IsBuilt (declarations_of z)) (table_once u inside t stands) (unit_there u inside).built
-
-    tables_built : AreBuilt abbrevs g.units
-    tables_built = All-from_get_or (λ (x : UnitRead). (t : Listing) → IsTableAt abbrevs x.head.table t → All IsBuilt (declarations_of t)) g.units no_unit table_built
-
-    units_read : StandAnew world tables places lines info (length world.units) → AreUnitsIn info abbrevs g.units
+    units_read : StandAnew world tables places new_places info (length world.units) → AreUnitsIn info abbrevs g.units
     units_read stand =
         let size : length g.units ≡ length places = g.count ∙ sym are.count in
         record {
-          tiled = heads_follow info g.units places 0 (length info) size (λ u inside. (let one : IsUnitAnew u (unit_among g.units u) = unit_there u inside in record { stands = one.head; at = one.moved.at; ends = one.moved.ends })) (stand.size.1 refl);
-          each = All-from_get_or (IsUnitRead info abbrevs) g.units no_unit (λ u inside. (unit_there u inside).read);
-          used = tables_used;
+          tiled = heads_follow info g.units places 0 (length info) size (λ u inside. (let one : IsUnitAnew u (unit_among g.units u) = g.each u (subst (λ (n : ℕ). u < n) g.count inside) in record { stands = one.head; at = one.moved.at; ends = one.moved.ends })) (stand.size.1 refl);
+          each = All-from_get_or (IsUnitRead info abbrevs) g.units no_unit (λ u inside. (g.each u (subst (λ (n : ℕ). u < n) g.count inside)).read);
           within = within;
         }
 
-    all_written : StandAnew world tables places lines info (length world.units) → AreUnitsWritten world r tables places lines info abbrevs g.units
+    all_written : StandAnew world tables places new_places info (length world.units) → AreUnitsWritten world r.links tables places new_places info abbrevs g.units
     all_written stand =
-        let size : length world.units ≡ length r.units = held_count file world r holds in
+        let size : length world.units ≡ length r.links.units = held_count file world r holds in
         record {
           read = units_read stand;
-          built = tables_built;
+          built = All-from_get_or (λ (x : UnitRead). All IsBuilt (declarations x)) g.units no_unit (λ u inside. (g.each u (subst (λ (n : ℕ). u < n) g.count inside)).built);
           count = g.count ∙ size;
           each = λ u inside. (g.each u (subst (λ (n : ℕ). u < n) (sym size) inside)).moved;
         }
 
   -- units that stand anew, each at its place, are read
-  pub units_written : StandAnew world tables places lines info (length world.units) → (units : List UnitRead) × AreUnitsWritten world r tables places lines info abbrevs units
+  pub units_written : StandAnew world tables places new_places info (length world.units) → (units : List UnitRead) × AreUnitsWritten world r.links tables places new_places info abbrevs units
   units_written stand =
       let g : Gathered (length world.units) IsUnitAnew = gathered (length world.units) IsUnitAnew (λ u below. unit_anew u below (stand.each u below) (stand.inside u below)) in
       (g.units, all_written g stand)

@@ -1,14 +1,1 @@
-pub mod Tables
-pub mod Placed
-pub mod Numbers
-pub mod Units
-pub mod Follows
-pub mod Sections
-pub mod Anew
-pub mod Counting
-pub mod Appended
-pub mod Rewritten
-pub mod Bodies
-pub mod Tidy
-pub mod Held
-pub mod Columns
+pub mod inside

@@ -6,28 +6,15 @@ ghost use Rattle.line_write.specs.Least.{LeastLines, OrderedLines};
 ghost use Rattle.line_write.specs.Readings.{StandAnew};
 ghost use Rattle.companions.specs.Aranges.{SetsTile, HaveUnits, IsOutside};
 ghost use Rattle.unit_write.specs.declared.places.Places.{Places as AnyPlaces};
-ghost use Rattle.value_links.specs.Sections.{body_named, debug_line, debug_aranges};
+ghost use Rattle.value_links.specs.Sections.{debug_line, debug_aranges};
 ghost use Rattle.value_links.specs.World.{IsWorldOf};
 
 use companions::{ArangeSet, patch_aranges};
 use dw_base::NoMemory;
-use elf_sections::Image;
 use line_write::{Lines, shrink_lines};
 use std::alloc::Global;
 use unit_write::Places;
-use value_links::{World, sections_found};
-
-// The body of the section with a name; none where no section has it.
-fn section_body<'i>(image: &'i Image<'_>, name: &[u8]) -> &'i [u8]
-    ensures { result.now ≡ body_named image.now name.now }
-{
-    // A law, which costs nothing: a section is found by its name exactly where one has it.
-    sections_found();
-    match image.find(name) {
-        Some(number) => image.body(number),
-        None => &[],
-    }
-}
+use value_links::World;
 
 /// The line number programs of a file written anew, in fewer than the 2^32 - 1 bytes that a section of the 32-bit format can't have
 /// (DWARF 5 section 7.4). The only error is want of memory.
@@ -38,7 +25,7 @@ pub fn write_lines(alloc: Global, world: &World<'_>) -> Result<Lines, NoMemory>
     ensures order { IfOk result (λ lines. OrderedLines (debug_line world.now.image) lines.bytes.items) }
     ensures fits { IfOk result (λ lines. length lines.bytes.items < 2 ^ 32 - 1) }
 {
-    let section = section_body(world.image(), b".debug_line");
+    let section = world.section(b".debug_line");
     shrink_lines(alloc, section, world.programs())
 }
 
@@ -84,6 +71,6 @@ pub fn write_aranges(
     ensures size { IfOk result (λ aranges. length aranges.items ≡ length (debug_aranges world.now.image)) }
 {
     let starts = starts_of(alloc, places)?;
-    let section = section_body(world.image(), b".debug_aranges");
+    let section = world.section(b".debug_aranges");
     patched(alloc, section, world.aranges(), &starts)
 }

@@ -2,8 +2,8 @@
 ghost use Rattle.std.specs.Prelude.{IfOk, OnOk};
 ghost use Rattle.dw_base.specs.declared.fault.Reach.TheVariants.{Narrow};
 ghost use Rattle.value_links.specs.Laws.{IsImageInOrder};
-ghost use Rattle.rewriter.specs.Bodies.{AddsBody, AreBodiesWith, new_bytes};
-ghost use Rattle.rewriter.specs.Sections.{AreFor, HasSections};
+ghost use Rattle.rewriter.specs.inside.Bodies.{AddsBody, AreBodiesWith, new_bytes};
+ghost use Rattle.rewriter.specs.inside.Sections.{AreFor, HasSections};
 
 use crate::sections::NewSections;
 use dw_base::NoMemory;

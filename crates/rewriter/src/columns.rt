@@ -1,16 +1,16 @@
 // The columns of abbreviation tables in their least forms.
 ghost use Rattle.std.specs.Prelude.{◌≡◌, ◌<◌, ◌^◌, ℕ, List, [], length, OnOk, IfOk};
 ghost use Rattle.std.specs.List.{All};
-ghost use Rattle.spelled.specs.Spelled.{AreBytes};
 ghost use Rattle.column_forms.specs.TableColumns.{AreBestFor};
 ghost use Rattle.entry_read.specs.Units.{declarations_of, IsTable, IsUnitHeld};
-ghost use Rattle.rewriter.specs.Columns.{AreNamers, values_of_units, HaveRoomFor, AddsEntries, AreUnitsOf};
+ghost use Rattle.rewriter.specs.inside.Columns.{AreNamers, values_of_units, HaveRoomFor, AddsEntries, AreUnitsOf};
 
 use abbrev_tables::{Spec, Table};
 use column_forms::Tallies;
 use dw_base::NoMemory;
 use entry_read::Unit;
 use std::alloc::Global;
+use unit_write::bytes_are_small;
 
 /// The units that have one table.
 #[derive(Drop)]
@@ -51,14 +51,6 @@ pub fn units_by_table(
     Ok(all)
 }
 
-// Contracts see a slice as a list of numbers. It has fewer than 2^63, and each is a byte.
-fn bytes_are_small(section: &[u8])
-    ensures few { length section.now < 2 ^ 63 }
-    ensures small { AreBytes section.now }
-{
-    let _section = section;
-}
-
 // Counts the values of all entries of a unit.
 fn add_unit(
     alloc: Global,
@@ -96,10 +88,10 @@ pub fn choose_columns(
     requires named { (section : List ℕ) × AreUnitsOf units.now.items table.now named.now.items section }
     ensures { IfOk result (λ best. (section : List ℕ) → AreUnitsOf units.now.items table.now named.now.items section → AreBestFor section (values_of_units units.now.items table.now.decls named.now.items) table.now.specs best.items) }
 {
-    let specs = table.specs(alloc)?;
+    let specs = table.specs();
     let mut tallies = Tallies::new(alloc, specs.len())?;
     for number in named.iter() {
         add_unit(alloc, &mut tallies, table, &units[*number as usize])?;
     }
-    Ok(tallies.best(alloc, &specs)?)
+    Ok(tallies.best(alloc, specs)?)
 }

@@ -6,10 +6,10 @@ ghost use Rattle.value_links.specs.Sections.{debug_line};
 ghost use Rattle.value_links.specs.Faults.{IsValid, NamesFault};
 ghost use Rattle.value_links.specs.Same.{Same};
 ghost use Rattle.value_links.specs.World.{IsWorldOf};
-ghost use Rattle.rewriter.specs.Sections.{IsPlaced};
-ghost use Rattle.rewriter.specs.Anew.{HaveLeastCodes, HaveLeastColumns};
-ghost use Rattle.rewriter.specs.Tidy.{IsTidy};
-ghost use Rattle.rewriter.specs.Rewritten.{IsRewritten};
+ghost use Rattle.value_links.specs.Placed.{IsPlaced};
+ghost use Rattle.value_links.specs.Classes.{HaveLeastCodes, HaveOrderedCodes, HaveLeastColumns, HaveFirstColumns};
+ghost use Rattle.value_links.specs.Tidy.{IsTidy};
+ghost use Rattle.rewriter.specs.inside.Rewritten.{IsRewritten};
 
 use crate::assemble::assemble;
 use crate::sections::write_sections;
@@ -51,7 +51,9 @@ pub fn rewrite(alloc: Global, file: &[u8]) -> Result<Vec<u8>, Refusal>
     ensures least { IfOk result (λ written. LeastLines (debug_line file.now) (debug_line written.items)) }
     ensures order { IfOk result (λ written. OrderedLines (debug_line file.now) (debug_line written.items)) }
     ensures columns { IfOk result (λ written. HaveLeastColumns file.now written.items) }
+    ensures columns_order { IfOk result (λ written. HaveFirstColumns file.now written.items) }
     ensures codes { IfOk result (λ written. HaveLeastCodes file.now written.items) }
+    ensures codes_order { IfOk result (λ written. HaveOrderedCodes file.now written.items) }
     ensures tidy { IfOk result (λ written. IsTidy file.now written.items) }
     ensures placed { IfOk result (λ written. IsPlaced file.now written.items) }
     ensures refused { IfErr result (λ refusal. NamesFault file.now Narrow refusal) }

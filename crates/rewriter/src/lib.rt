@@ -7,6 +7,7 @@ mod assemble;
 mod assemble_tests;
 mod columns;
 mod file;
+mod new_places;
 #[cfg(test)]
 mod number_tests;
 mod numbers;

@@ -1,4 +1,5 @@
 // What references and section offsets become, worked out by hand.
+use crate::new_places::NewPlaces;
 use crate::numbers::new_numbers;
 use crate::places::place_units;
 use crate::test_file::{FILE, tables_of, world_of};
@@ -10,13 +11,18 @@ use unit_write::NewNumbers;
 // The new numbers of a unit of the file, whose second line number program is at 43 now.
 fn numbers_of(alloc: Global, unit: u32) -> Result<NewNumbers, NoMemory> {
     let world = world_of(alloc, &FILE)?;
-    if world.programs().len() != 2 || unit as usize >= world.units().len() {
+    if unit as usize >= world.units().len() {
+        return Err(NoMemory);
+    }
+    if world.programs().len() != 2 {
         return Err(NoMemory);
     }
     let tables = tables_of(alloc, &world)?;
     let places = place_units(alloc, &world, &tables.tables)?;
-    let lines = vec![in alloc; 0u64, 43]?;
-    new_numbers(alloc, &world, &tables.tables, &places, &lines, unit)
+    let new_places = NewPlaces {
+        programs: vec![in alloc; 0u64, 43]?,
+    };
+    new_numbers(alloc, &world, &tables.tables, &places, &new_places, unit)
 }
 
 // Of the compilation unit: the root's program; the base type, which stands at 17 as before; and the code 0, from 31 to 30. Of the

@@ -1,29 +1,27 @@
 // The new numbers of references and section offsets.
 ghost use Rattle.std.specs.Prelude.{◌≡◌, ◌≤◌, ◌<◌, ◌+◌, ◌^◌, ℕ, List, IfOk, OnOk, length};
 ghost use Rattle.dw_base.specs.declared.fault.Reach.{Reach};
-ghost use Rattle.form_codec.specs.Values.{meant_in};
 ghost use Rattle.entry_arena.specs.declared.entry.Target.{Target};
 ghost use Rattle.entry_arena.specs.Arena.{entry_at, chain_end_at, HasChainEnd};
-ghost use Rattle.value_links.specs.Reading.{Reading, unit_at};
-ghost use Rattle.value_links.specs.Resolved.{IsTargetAt, Resolves};
-ghost use Rattle.value_links.specs.Links.{resolved_by};
+ghost use Rattle.value_links.specs.Reading.{Reading};
+ghost use Rattle.value_links.specs.Linked.{IsTargetAt};
 ghost use Rattle.value_links.specs.World.{IsWorldOf, Holds};
-ghost use Rattle.rewriter.specs.Tables.{AreTablesWritten};
-ghost use Rattle.rewriter.specs.Placed.{places_anew, ArePlacesOf};
-ghost use Rattle.rewriter.specs.Numbers.{MovesTo, AreNewNumbers};
-ghost use Rattle.rewriter.specs.Held.{HavePlaces, AllHavePlaces, HaveLines, MeansSomething, IsNumberOf, EntryMeans, entry_in, name_in, value_in, AreNumbersOf, UnitMeans, AreNumbered, HasType, IsTypeMoved};
+ghost use Rattle.rewriter.specs.declared.new_places.NewPlaces.{NewPlaces as AnyPlaces};
+ghost use Rattle.rewriter.specs.inside.Tables.{AreTablesWritten};
+ghost use Rattle.rewriter.specs.inside.Placed.{places_anew, ArePlacesOf};
+ghost use Rattle.rewriter.specs.inside.Numbers.{MovesTo, AreNewNumbers};
+ghost use Rattle.rewriter.specs.inside.Held.{HavePlaces, AllHavePlaces, AreNewPlaces, MeansSomething, IsLinkFor, IsNumberOf, EntryMeans, entry_in, name_in, value_in, AreNumbersOf, UnitMeans, AreNumbered, HasType, IsTypeMoved};
 
+use crate::new_places::NewPlaces;
 use crate::tables::NewTable;
 use dw_base::NoMemory;
+use dw_base::constants::DW_UT_TYPE;
 use entry_arena::{ChainEnd, Entry, Target};
 use entry_read::Unit;
 use form_codec::Value;
 use std::alloc::Global;
 use unit_write::{NewNumbers, Places};
 use value_links::{Link, World};
-
-// DW_UT_type
-const TYPE: u8 = 2;
 
 // The number of the entry that stands at a place.
 fn entry_number(entries: &[Entry], place: u64) -> usize
@@ -85,7 +83,7 @@ fn place_in(unit: &Unit<'_>, offset: u64) -> u64
 fn link_of(world: &World<'_>, unit: u32, name: u64, value: &Value) -> Link
     requires unit { unit < length world.now.units }
     requires means { MeansSomething world.now unit name value.now }
-    ensures { (file : List ℕ) (r : Reading) (id : ℕ) → Holds file world.now r → Resolves r unit id name (meant_in (unit_at r unit).forest.section value.now) (resolved_by (meant_in (unit_at r unit).forest.section value.now) result) }
+    ensures { IsLinkFor world.now unit name value.now result }
 {
     match world.resolve(unit, name, value) {
         Some(link) => link,
@@ -99,7 +97,7 @@ fn local_number(world: &World<'_>, places: &Vec<Places>, unit: u32, name: u64, o
     requires unit { unit < length world.now.units }
     requires placed { AllHavePlaces world.now places.now.items }
     requires means { MeansSomething world.now unit name (Value.LocalRef old) }
-    ensures number { (lines : List ℕ) → IsNumberOf world.now places.now.items lines unit name (Value.LocalRef old) result }
+    ensures number { (new_places : AnyPlaces) → IsNumberOf world.now places.now.items new_places unit name (Value.LocalRef old) result }
     ensures fits { result < 2 ^ 32 }
 {
     match link_of(world, unit, name, &Value::LocalRef(old)) {
@@ -118,7 +116,7 @@ fn section_number(world: &World<'_>, places: &Vec<Places>, unit: u32, name: u64,
     requires unit { unit < length world.now.units }
     requires placed { AllHavePlaces world.now places.now.items }
     requires means { MeansSomething world.now unit name (Value.SectionRef old) }
-    ensures number { (lines : List ℕ) → IsNumberOf world.now places.now.items lines unit name (Value.SectionRef old) result }
+    ensures number { (new_places : AnyPlaces) → IsNumberOf world.now places.now.items new_places unit name (Value.SectionRef old) result }
     ensures fits { result < 2 ^ 32 }
 {
     match link_of(world, unit, name, &Value::SectionRef(old)) {
@@ -132,15 +130,15 @@ fn section_number(world: &World<'_>, places: &Vec<Places>, unit: u32, name: u64,
 }
 
 // The new number of a section offset: the place of a line number program, else the old number.
-fn offset_number(world: &World<'_>, lines: &Vec<u64>, unit: u32, name: u64, old: u64) -> u64
+fn offset_number(world: &World<'_>, new_places: &NewPlaces, unit: u32, name: u64, old: u64) -> u64
     requires unit { unit < length world.now.units }
-    requires lines { HaveLines world.now lines.now.items }
+    requires new_places { AreNewPlaces world.now new_places.now }
     requires means { MeansSomething world.now unit name (Value.Offset old) }
-    ensures number { (places : List Places) → IsNumberOf world.now places lines.now.items unit name (Value.Offset old) result }
+    ensures number { (places : List Places) → IsNumberOf world.now places new_places.now unit name (Value.Offset old) result }
     ensures fits { result < 2 ^ 32 }
 {
     match link_of(world, unit, name, &Value::Offset(old)) {
-        Link::Lines(program) => lines[program as usize],
+        Link::Lines(program) => new_places.programs[program as usize],
         Link::Kept(_) => old,
         // A section offset names a program, or is kept.
         _ => unreachable!(),
@@ -151,22 +149,22 @@ fn offset_number(world: &World<'_>, lines: &Vec<u64>, unit: u32, name: u64, old:
 fn new_number(
     world: &World<'_>,
     places: &Vec<Places>,
-    lines: &Vec<u64>,
+    new_places: &NewPlaces,
     unit: u32,
     name: u64,
     value: Value,
 ) -> u64
     requires unit { unit < length world.now.units }
     requires placed { AllHavePlaces world.now places.now.items }
-    requires lines { HaveLines world.now lines.now.items }
+    requires new_places { AreNewPlaces world.now new_places.now }
     requires means { MeansSomething world.now unit name value }
-    ensures number { IsNumberOf world.now places.now.items lines.now.items unit name value result }
+    ensures number { IsNumberOf world.now places.now.items new_places.now unit name value result }
     ensures fits { result < 2 ^ 32 }
 {
     match value {
         Value::LocalRef(old) => local_number(world, places, unit, name, old),
         Value::SectionRef(old) => section_number(world, places, unit, name, old),
-        Value::Offset(old) => offset_number(world, lines, unit, name, old),
+        Value::Offset(old) => offset_number(world, new_places, unit, name, old),
         _ => 0,
     }
 }
@@ -180,7 +178,7 @@ fn name_of(world: &World<'_>, unit: u32, id: u32, column: u32) -> u64
     let entry = world.units()[unit as usize].forest().entry(id);
     let table = world.table_numbers()[unit as usize] as usize;
     let named = &world.tables()[table];
-    named.table.columns(entry.decl).column(column as usize).name
+    named.table.columns(entry.decl)[column as usize].name
 }
 
 // Its value.
@@ -198,20 +196,20 @@ fn push_numbers(
     held: &mut Vec<u64>,
     world: &World<'_>,
     places: &Vec<Places>,
-    lines: &Vec<u64>,
+    new_places: &NewPlaces,
     unit: u32,
     id: u32,
 ) -> Result<(), NoMemory>
     requires entry { EntryMeans world.now unit id }
     requires placed { AllHavePlaces world.now places.now.items }
-    requires lines { HaveLines world.now lines.now.items }
-    ensures { OnOk result (AreNumbersOf world.now places.now.items lines.now.items unit id held.old.items held.new.items) }
+    requires new_places { AreNewPlaces world.now new_places.now }
+    ensures { OnOk result (AreNumbersOf world.now places.now.items new_places.now unit id held.old.items held.new.items) }
 {
     let count = world.units()[unit as usize].forest().entry(id).count;
     for column in 0..count {
         let name = name_of(world, unit, id, column);
         let value = value_of(world, unit, id, column);
-        let number = new_number(world, places, lines, unit, name, value);
+        let number = new_number(world, places, new_places, unit, name, value);
         held.push(number)?;
     }
     Ok(())
@@ -222,18 +220,18 @@ fn new_held(
     alloc: Global,
     world: &World<'_>,
     places: &Vec<Places>,
-    lines: &Vec<u64>,
+    new_places: &NewPlaces,
     unit: u32,
 ) -> Result<Vec<u64>, NoMemory>
     requires unit { UnitMeans world.now unit }
     requires placed { AllHavePlaces world.now places.now.items }
-    requires lines { HaveLines world.now lines.now.items }
-    ensures { IfOk result (λ held. AreNumbered world.now places.now.items lines.now.items unit held.items) }
+    requires new_places { AreNewPlaces world.now new_places.now }
+    ensures { IfOk result (λ held. AreNumbered world.now places.now.items new_places.now unit held.items) }
 {
     let count = world.units()[unit as usize].forest().len();
     let mut held: Vec<u64> = Vec::new(alloc);
     for id in 0..count {
-        push_numbers(&mut held, world, places, lines, unit, id)?;
+        push_numbers(&mut held, world, places, new_places, unit, id)?;
     }
     Ok(held)
 }
@@ -245,31 +243,31 @@ fn new_type_offset(unit: &Unit<'_>, places: &Places) -> u64
     ensures { IsTypeMoved unit.now (places_anew places.now) result }
 {
     let head = unit.head();
-    if head.kind != TYPE {
+    if head.kind != DW_UT_TYPE {
         return 0;
     }
     let number = entry_number(unit.forest().entries(), place_in(unit, head.type_at));
     u64::from(places.entries[number]) - places.start
 }
 
-/// The new numbers of the unit with a number: the new places of all that its references and section offsets name. `lines` are the
-/// new places of the line number programs. Each number fits the 32 bits of an offset. The only error is want of memory.
+/// The new numbers of the unit with a number: the new places of all that its references and section offsets name. `places` are
+/// those of the units, and `new_places` those of what section offsets name. Each number fits the 32 bits of an offset. The only error is want of memory.
 pub fn new_numbers(
     alloc: Global,
     world: &World<'_>,
     tables: &Vec<NewTable>,
     places: &Vec<Places>,
-    lines: &Vec<u64>,
+    new_places: &NewPlaces,
     unit: u32,
 ) -> Result<NewNumbers, NoMemory>
     requires world { (reach : Reach) × IsWorldOf world.now.image reach world.now }
     requires unit { unit < length world.now.units }
     requires tables { (abbrevs : List ℕ) × (length abbrevs < 2 ^ 32) × AreTablesWritten world.now abbrevs tables.now.items }
     requires places { (size : ℕ) × ArePlacesOf world.now tables.now.items places.now.items size }
-    requires lines { HaveLines world.now lines.now.items }
-    ensures numbers { IfOk result (λ new. (file : List ℕ) (r : Reading) → Holds file world.now r → AreNewNumbers world.now r tables.now.items places.now.items lines.now.items unit new) }
+    requires new_places { AreNewPlaces world.now new_places.now }
+    ensures numbers { IfOk result (λ new. (file : List ℕ) (r : Reading) → Holds file world.now r → AreNewNumbers world.now r.links tables.now.items places.now.items new_places.now unit new) }
 {
-    let held = new_held(alloc, world, places, lines, unit)?;
+    let held = new_held(alloc, world, places, new_places, unit)?;
     let own = &world.units()[unit as usize];
     let new = &places[unit as usize];
     let table = world.table_numbers()[unit as usize] as usize;

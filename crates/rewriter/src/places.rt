@@ -1,11 +1,11 @@
 // Where units stand in the new .debug_info.
 ghost use Rattle.std.specs.Prelude.{◌≤◌, ◌<◌, ◌+◌, ℕ, IfOk};
 ghost use Rattle.dw_base.specs.declared.fault.Reach.TheVariants.{Narrow};
-ghost use Rattle.entry_read.specs.Heads.{least_reserved};
+ghost use Rattle.fixed_width.specs.InitialLengths.{least_reserved};
 ghost use Rattle.unit_write.specs.Most.{most_bytes};
 ghost use Rattle.value_links.specs.World.{IsWorldOf};
-ghost use Rattle.rewriter.specs.Placed.{unit_in, AreWritable, ArePlacesOf};
-ghost use Rattle.rewriter.specs.Held.{HasTable, IsPlacedFrom};
+ghost use Rattle.rewriter.specs.inside.Placed.{unit_in, AreWritable, ArePlacesOf};
+ghost use Rattle.rewriter.specs.inside.Held.{HasTable, IsPlacedFrom};
 
 use crate::tables::NewTable;
 use dw_base::NoMemory;

@@ -5,10 +5,11 @@ ghost use Rattle.line_write.specs.Least.{LeastLines, OrderedLines};
 ghost use Rattle.value_links.specs.Sections.{debug_line};
 ghost use Rattle.value_links.specs.Reading.{Reading};
 ghost use Rattle.value_links.specs.World.{Holds, IsWorldOf};
-ghost use Rattle.rewriter.specs.Sections.{AreFor};
-ghost use Rattle.rewriter.specs.Anew.{AreAnew};
+ghost use Rattle.rewriter.specs.inside.Sections.{AreFor};
+ghost use Rattle.rewriter.specs.inside.Anew.{AreAnew};
 
 use crate::anew::{write_aranges, write_lines};
+use crate::new_places::NewPlaces;
 use crate::places::place_units;
 use crate::tables::write_tables;
 use crate::units::write_units;
@@ -47,7 +48,10 @@ pub fn write_sections(alloc: Global, world: &World<'_>) -> Result<NewSections, N
     let lines = write_lines(alloc, world)?;
     let tables = write_tables(alloc, world)?;
     let places = place_units(alloc, world, &tables.tables)?;
-    let info = write_units(alloc, world, &tables, &places, &lines.starts)?;
+    let new_places = NewPlaces {
+        programs: lines.starts,
+    };
+    let info = write_units(alloc, world, &tables, &places, &new_places)?;
     let aranges = write_aranges(alloc, world, &places)?;
     Ok(NewSections {
         info,

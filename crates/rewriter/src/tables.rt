@@ -5,10 +5,11 @@ ghost use Rattle.dw_base.specs.declared.fault.Reach.{Reach};
 ghost use Rattle.abbrev_tables.specs.Written.{IsWritableColumn};
 ghost use Rattle.entry_read.specs.Units.{IsTable};
 ghost use Rattle.value_links.specs.World.{table_at, IsWorldOf};
-ghost use Rattle.rewriter.specs.Tables.{AreUses, AreColumnsChosen, AreTablesWritten, table_anew};
-ghost use Rattle.rewriter.specs.Counting.{AreCounted};
-ghost use Rattle.rewriter.specs.Columns.{units_with, AreNamers};
-ghost use Rattle.rewriter.specs.Appended.{IsAppended, AreAppended};
+ghost use Rattle.value_links.specs.Uses.{AreUses};
+ghost use Rattle.rewriter.specs.inside.Tables.{AreColumnsChosen, AreTablesWritten, table_anew};
+ghost use Rattle.rewriter.specs.inside.Counting.{AreCounted};
+ghost use Rattle.rewriter.specs.inside.Columns.{units_with, AreNamers};
+ghost use Rattle.rewriter.specs.inside.Appended.{IsAppended, AreAppended};
 
 use crate::columns::{Namers, choose_columns, units_by_table};
 use crate::uses::{Uses, count_uses};

@@ -2,8 +2,8 @@
 ghost use Rattle.std.specs.Prelude.{◌<◌, ◌-◌, ◌^◌, length, IfOk};
 ghost use Rattle.dw_base.specs.declared.fault.Reach.TheVariants.{Narrow};
 ghost use Rattle.value_links.specs.World.{IsWorldOf};
-ghost use Rattle.rewriter.specs.Tables.{AreTablesWritten};
-ghost use Rattle.rewriter.specs.Placed.{AreWritable};
+ghost use Rattle.rewriter.specs.inside.Tables.{AreTablesWritten};
+ghost use Rattle.rewriter.specs.inside.Placed.{AreWritable};
 
 use crate::tables::{Tables, write_tables};
 use abbrev_tables::listings;

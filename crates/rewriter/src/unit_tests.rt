@@ -1,4 +1,5 @@
 // Units as they are written anew, worked out by hand.
+use crate::new_places::NewPlaces;
 use crate::places::place_units;
 use crate::test_file::{FILE, NEW_INFO, tables_of, world_of};
 use crate::units::write_units;
@@ -14,8 +15,10 @@ fn units_of(alloc: Global) -> Result<Vec<u8>, NoMemory> {
     }
     let tables = tables_of(alloc, &world)?;
     let places = place_units(alloc, &world, &tables.tables)?;
-    let lines = vec![in alloc; 0u64, 43]?;
-    write_units(alloc, &world, &tables, &places, &lines)
+    let new_places = NewPlaces {
+        programs: vec![in alloc; 0u64, 43]?,
+    };
+    write_units(alloc, &world, &tables, &places, &new_places)
 }
 
 #[test]

@@ -2,14 +2,15 @@
 ghost use Rattle.std.specs.Prelude.{◌≡◌, ◌<◌, ◌^◌, ℕ, List, IfOk, OnOk, length};
 ghost use Rattle.dw_base.specs.declared.fault.Reach.{Reach};
 ghost use Rattle.leb_codec.specs.Digits.{Extends};
-ghost use Rattle.entry_read.specs.Heads.{least_reserved};
+ghost use Rattle.fixed_width.specs.InitialLengths.{least_reserved};
 ghost use Rattle.value_links.specs.Reading.{UnitRead, Reading};
 ghost use Rattle.value_links.specs.World.{IsWorldOf, Holds};
-ghost use Rattle.rewriter.specs.Tables.{AreTablesWritten};
-ghost use Rattle.rewriter.specs.Placed.{places_at, AreWritable, ArePlacesOf};
-ghost use Rattle.rewriter.specs.Units.{AreUnitsWritten};
-ghost use Rattle.rewriter.specs.Held.{HaveLines, IsUnitBehind};
+ghost use Rattle.rewriter.specs.inside.Tables.{AreTablesWritten};
+ghost use Rattle.rewriter.specs.inside.Placed.{places_at, AreWritable, ArePlacesOf};
+ghost use Rattle.rewriter.specs.inside.Units.{AreUnitsWritten};
+ghost use Rattle.rewriter.specs.inside.Held.{AreNewPlaces, IsUnitBehind};
 
+use crate::new_places::NewPlaces;
 use crate::numbers::new_numbers;
 use crate::tables::Tables;
 use dw_base::NoMemory;
@@ -24,7 +25,7 @@ fn write_numbered(
     world: &World<'_>,
     tables: &Tables,
     places: &Vec<Places>,
-    lines: &Vec<u64>,
+    new_places: &NewPlaces,
     number: u32,
 ) -> Result<(), NoMemory>
     requires world { (reach : Reach) × IsWorldOf world.now.image reach world.now }
@@ -33,12 +34,12 @@ fn write_numbered(
     requires narrow { length tables.now.bytes.items < 2 ^ 32 }
     requires writable { AreWritable world.now tables.now.tables.items }
     requires places { (size : ℕ) × ArePlacesOf world.now tables.now.tables.items places.now.items size }
-    requires lines { HaveLines world.now lines.now.items }
+    requires new_places { AreNewPlaces world.now new_places.now }
     requires behind { length info.old.items ≡ (places_at places.now.items number).start }
-    ensures written { OnOk result (IsUnitBehind world.now tables.now.tables.items places.now.items lines.now.items number info.new.items) }
+    ensures written { OnOk result (IsUnitBehind world.now tables.now.tables.items places.now.items new_places.now number info.new.items) }
     ensures behind { OnOk result (Extends info.old.items info.new.items) }
 {
-    let new = new_numbers(alloc, world, &tables.tables, places, lines, number)?;
+    let new = new_numbers(alloc, world, &tables.tables, places, new_places, number)?;
     let table = world.table_numbers()[number as usize] as usize;
     let unit = &world.units()[number as usize];
     let old = &world.tables()[table];
@@ -47,22 +48,22 @@ fn write_numbered(
     Ok(())
 }
 
-/// Writes the units of a file anew, as the new .debug_info (DWARF 5 section 7.5), at these places. `lines` are the new places of
-/// the line number programs. The only error is want of memory.
+/// Writes the units of a file anew, as the new .debug_info (DWARF 5 section 7.5), at these places. `new_places` are
+/// those of what section offsets name. The only error is want of memory.
 pub fn write_units(
     alloc: Global,
     world: &World<'_>,
     tables: &Tables,
     places: &Vec<Places>,
-    lines: &Vec<u64>,
+    new_places: &NewPlaces,
 ) -> Result<Vec<u8>, NoMemory>
     requires world { (reach : Reach) × IsWorldOf world.now.image reach world.now }
     requires tables { AreTablesWritten world.now tables.now.bytes.items tables.now.tables.items }
     requires narrow { length tables.now.bytes.items < 2 ^ 32 }
     requires writable { AreWritable world.now tables.now.tables.items }
     requires places { (size : ℕ) × ArePlacesOf world.now tables.now.tables.items places.now.items size }
-    requires lines { HaveLines world.now lines.now.items }
-    ensures written { IfOk result (λ info. (file : List ℕ) (r : Reading) → Holds file world.now r → (units : List UnitRead) × AreUnitsWritten world.now r tables.now.tables.items places.now.items lines.now.items info.items tables.now.bytes.items units) }
+    requires new_places { AreNewPlaces world.now new_places.now }
+    ensures written { IfOk result (λ info. (file : List ℕ) (r : Reading) → Holds file world.now r → (units : List UnitRead) × AreUnitsWritten world.now r.links tables.now.tables.items places.now.items new_places.now info.items tables.now.bytes.items units) }
     ensures fits { IfOk result (λ info. length info.items < least_reserved) }
 {
     let mut info: Vec<u8> = Vec::new(alloc);
@@ -73,7 +74,7 @@ pub fn write_units(
             world,
             tables,
             places,
-            lines,
+            new_places,
             number as u32,
         )?;
     }

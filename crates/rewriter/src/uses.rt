@@ -1,6 +1,6 @@
 // The uses of declarations.
 ghost use Rattle.std.specs.Prelude.{◌≡◌, ◌<◌, ◌+◌, ◌^◌, ℕ, length, slice_index, OnOk, IfOk};
-ghost use Rattle.rewriter.specs.Counting.{HaveDeclarations, AddsUses, AreCountable, AreCounted, AreNone};
+ghost use Rattle.rewriter.specs.inside.Counting.{HaveDeclarations, AddsUses, AreCountable, AreCounted, AreNone};
 
 use dw_base::NoMemory;
 use entry_arena::Entry;

@@ -1,5 +1,5 @@
 -- From what was read to the whole file, in the clauses of the work.
-use Rattle.std.proofs.Common.{◌≡◌, ◌≤◌, ◌<◌, ◌+◌, ◌^◌, ℕ, List, length, take, ◌∙◌, refl, ap, subst, inl, Option, Some, None, Result, Ok, Err}
+use Rattle.std.proofs.Common.{◌≡◌, ◌≤◌, ◌<◌, ◌+◌, ◌^◌, ℕ, List, length, take, ◌∙◌, refl, ap, subst, inl, arith, Option, Some, None, Result, Ok, Err}
 use Rattle.std.specs.Prelude.{OnOk, IsSome, option_map}
 use Rattle.std.specs.Option.{ForSome}
 use Rattle.std.proofs.lemmas.Bool.{false≢true}
@@ -9,9 +9,12 @@ use Rattle.dw_base.specs.declared.fault.Refusal.{Refusal}
 use Rattle.dw_base.specs.declared.fault.Refusal.TheVariants.{Refused, NoMemory}
 use Rattle.value_links.specs.Faults.{NamesFault}
 use Rattle.value_links.specs.Laws.{FirstFaultsDecide}
-use Rattle.shrink_app.specs.Ending.{ending_of}
+use Rattle.shrink_app.specs.inside.Ending.{ending_of}
 use Rattle.shrink_app.specs.File.{Faulty, IsValid}
-use Rattle.shrink_app.specs.Run.{Writes, EndsByFault}
+use Rattle.shrink_app.specs.declared.ending.Ending.{Ending}
+use Rattle.shrink_app.specs.declared.ending.Ending.TheVariants as ending
+use Rattle.shrink_app.specs.Run.{Writes, input_limit}
+use Rattle.shrink_app.specs.inside.Run.{EndsByFault, RefusesLong}
 use Rattle.shrink_app.proofs.Fronts.{short_front, long_front}
 
 -- what is so in any case
@@ -30,6 +33,14 @@ long_read decide told front read long = λ file e. decide.file file Narrow Limit
 pub refusal_named : (told : Option (List ℕ)) (front : List ℕ) (refusal : Refusal) → ForSome told (λ file. front ≡ file) → NamesFault front Narrow refusal → EndsByFault {T = Unit {0}} told (Err (ending_of refusal))
 refusal_named told front (Refused fault) read h = λ file e. subst (λ (f : List ℕ). Faulty f fault.kind fault.place) (read file e) h
 refusal_named told front NoMemory read h = tt
+
+-- a file within the limit isn't refused for its length, and may be for another fault
+pub within_limit : {T : Type 0} (told : Option (List ℕ)) (r : Result T Ending) → ForSome told (λ file. length file ≤ input_limit) → RefusesLong told r
+within_limit told (Ok x) short = short
+within_limit told (Err (ending.Refused fault)) short = λ file e long. absurd (let s : length file ≤ input_limit = short file e in omega arith)
+within_limit told (Err ending.ReadFault) short = tt
+within_limit told (Err ending.WriteFault) short = tt
+within_limit told (Err ending.NoMemory) short = tt
 
 pub valid_read : {T E : Type 0} (told : Option (List ℕ)) (front : List ℕ) (r : Result T E) → ForSome told (λ file. front ≡ file) → IsValid front → OnOk r (ForSome told IsValid)
 valid_read told front r read valid =

@@ -22,6 +22,7 @@ StaysValid file written = IsValidWithin written Wide
 abbrev pub HasLeastLines : List ℕ → List ℕ → Type 0
 HasLeastLines file written = LeastLines (debug_line file) (debug_line written)
 
--- the opcodes of each line number program stand in the order that is stated for them
+-- which of the least line number programs is written: its pair comes first, and its opcodes stand in the order that is stated for
+-- them
 abbrev pub HasOrderedLines : List ℕ → List ℕ → Type 0
 HasOrderedLines file written = OrderedLines (debug_line file) (debug_line written)

@@ -1,65 +1,13 @@
--- What the parts of the work do to the counts of faults of a host.
-use Rattle.std.specs.Prelude.{◌≡◌, ◌≤◌, ℕ, List, length, take, Option, Some, Result, Ok, Err, ⊤, IsSome}
-use Rattle.std.specs.Option.{ForSome}
-use Rattle.shrink_app.specs.File.{Faulty}
-use Rattle.dw_base.specs.Host.{Rose}
-use Rattle.shrink_app.specs.declared.ending.Ending.{Ending}
-use Rattle.shrink_app.specs.declared.ending.Ending.TheVariants.{Refused, ReadFault, WriteFault, NoMemory}
-
--- A read fault comes where the count rose, and else the count stays. No other end but want of memory comes.
-abbrev pub OnlyReadFault : {T : Type 0} → ℕ → ℕ → Result T Ending → Type 0
-OnlyReadFault before now (Ok x) = now ≡ before
-OnlyReadFault before now (Err (Refused fault)) = ⊥
-OnlyReadFault before now (Err ReadFault) = Rose before now
-OnlyReadFault before now (Err WriteFault) = ⊥
-OnlyReadFault before now (Err NoMemory) = now ≡ before
-
--- the same of a write fault
-abbrev pub OnlyWriteFault : {T : Type 0} → ℕ → ℕ → Result T Ending → Type 0
-OnlyWriteFault before now (Ok x) = now ≡ before
-OnlyWriteFault before now (Err (Refused fault)) = ⊥
-OnlyWriteFault before now (Err ReadFault) = ⊥
-OnlyWriteFault before now (Err WriteFault) = Rose before now
-OnlyWriteFault before now (Err NoMemory) = now ≡ before
-
--- what was read goes on with n bytes of the file, of which none is left where n is 0
-abbrev pub IsReadOn : List ℕ → List ℕ → List ℕ → ℕ → Type 0
-IsReadOn file old new n =
-    old ≡ take (length old) file → (new ≡ take (length new) file) × (n ≡ 0 → length file ≤ length new)
-
--- a read fault is the end exactly where the count rose, but for a count at the last value of its type
-abbrev pub HasReadCause : {T : Type 0} → ℕ → ℕ → Result T Ending → Type 0
-HasReadCause before now (Ok x) = now ≡ before
-HasReadCause before now (Err (Refused fault)) = now ≡ before
-HasReadCause before now (Err ReadFault) = Rose before now
-HasReadCause before now (Err WriteFault) = now ≡ before
-HasReadCause before now (Err NoMemory) = now ≡ before
-
--- the same of a write fault
-abbrev pub HasWriteCause : {T : Type 0} → ℕ → ℕ → Result T Ending → Type 0
-HasWriteCause before now (Ok x) = now ≡ before
-HasWriteCause before now (Err (Refused fault)) = now ≡ before
-HasWriteCause before now (Err ReadFault) = now ≡ before
-HasWriteCause before now (Err WriteFault) = Rose before now
-HasWriteCause before now (Err NoMemory) = now ≡ before
+-- What is written under the name of the output.
+use Rattle.std.specs.Prelude.{◌≡◌, ℕ, List, Option, Some, IsSome}
+use Rattle.dw_base.specs.declared.fault.Reach.TheVariants.{Narrow}
+use Rattle.elf_sections.specs.Faults.{file_limit}
 
 -- where both files are told, the output holds bytes of which P holds beside those of the input
 abbrev pub Writes : (List ℕ → List ℕ → Type 0) → (List ℕ → Option (List ℕ)) → (List ℕ → Option (List ℕ)) → List ℕ → List ℕ → Type 0
 Writes P old new input output =
     (file : List ℕ) → old input ≡ Some file → IsSome (old output) → (written : List ℕ) × (new output ≡ Some written) × P file written
 
--- a refusal and a read fault leave every file as it was
-abbrev pub LeavesFiles : {T : Type 0} → (List ℕ → Option (List ℕ)) → (List ℕ → Option (List ℕ)) → Result T Ending → Type 0
-LeavesFiles old new (Ok x) = ⊤
-LeavesFiles old new (Err (Refused fault)) = (f : List ℕ) → new f ≡ old f
-LeavesFiles old new (Err ReadFault) = (f : List ℕ) → new f ≡ old f
-LeavesFiles old new (Err WriteFault) = ⊤
-LeavesFiles old new (Err NoMemory) = ⊤
-
--- a refusal names a fault of the file that was read, where that is told
-abbrev pub EndsByFault : {T : Type 0} → Option (List ℕ) → Result T Ending → Type 0
-EndsByFault told (Ok x) = ⊤
-EndsByFault told (Err (Refused fault)) = ForSome told (λ file. Faulty file fault.kind fault.place)
-EndsByFault told (Err ReadFault) = ⊤
-EndsByFault told (Err WriteFault) = ⊤
-EndsByFault told (Err NoMemory) = ⊤
+-- the most bytes of an input
+abbrev pub input_limit : ℕ
+input_limit = file_limit Narrow

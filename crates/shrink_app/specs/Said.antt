@@ -1,22 +1,15 @@
 -- What the program says.
-use Rattle.std.specs.Prelude.{◌≡◌, ◌≤◌, ◌<◌, ℕ, List, [], ◌∷◌, ◌++◌, codes, ◌⊎◌, Option, option_map}
+use Rattle.std.specs.Prelude.{◌≡◌, ℕ, List, [], ◌∷◌, ◌++◌, codes, ◌⊎◌, Option, option_map}
 use Rattle.std.specs.Option.{ForSome}
 use Rattle.shrink_app.specs.File.{Faulty}
 use Rattle.std.specs.Fmt.{decimal}
 use Rattle.dw_base.specs.Fault.{name_of}
-use Rattle.dw_base.specs.Host.{Rose, AddsPart}
+use Rattle.dw_base.specs.Host.{AddsPart}
 use Rattle.dw_base.specs.declared.fault.Kind.{Kind}
 
 -- the line that names a fault
 abbrev pub refusal_text : Kind → ℕ → List ℕ
 refusal_text kind place = codes "refused " ++ name_of kind ++ codes " at " ++ decimal place ++ 10 ∷ []
-
--- the status after a message: the one that was meant, or 5 where the count of failed messages rose, or 6
-pub record SaysOrStops (status before now result : ℕ) : Type 0 where
-  pub which : (result ≡ status) ⊎ ((result ≡ 5) ⊎ (result ≡ 6))
-  pub later : before ≤ now
-  pub failed : result ≡ 5 → Rose before now
-  pub rose : before < now → result ≡ 5
 
 -- what was said names a fault, which the file has where it is told
 abbrev pub SaysFault : Option (List ℕ) → Option (List ℕ) → Option (List ℕ) → Type 0

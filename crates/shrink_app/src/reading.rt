@@ -3,7 +3,7 @@ ghost use Rattle.std.specs.Prelude.{◌≡◌, ◌≢◌, ◌≤◌, ◌<◌, �
 ghost use Rattle.std.specs.Option.{ForSome};
 ghost use Rattle.dw_base.specs.Host.{Rose};
 ghost use Rattle.shrink_app.specs.declared.ending.Ending.TheVariants.{WriteFault};
-ghost use Rattle.shrink_app.specs.Run.{OnlyReadFault, HasReadCause, IsReadOn, EndsByFault};
+ghost use Rattle.shrink_app.specs.inside.Run.{OnlyReadFault, HasReadCause, IsReadOn, EndsByFault, RefusesLong};
 
 use crate::ending::Ending;
 use dw_base::{Fault, Host, Kind, Stop};
@@ -75,6 +75,7 @@ fn read_file<H: Host>(alloc: Global, name: &str, host: &mut H) -> Result<Vec<u8>
 pub fn read_input<H: Host>(alloc: Global, name: &str, host: &mut H) -> Result<Vec<u8>, Ending>
     ensures read { IfOk result (λ file. ForSome (H.bytes host.old name.now) (λ b. file.items ≡ b)) }
     ensures refused { EndsByFault (H.bytes host.old name.now) result }
+    ensures long { RefusesLong (H.bytes host.old name.now) result }
     ensures unwritten { IfErr result (λ ending. ending ≡ WriteFault → ⊥) }
     ensures files { (f : List ℕ) → H.bytes host.new f ≡ H.bytes host.old f }
     ensures said { H.said host.new ≡ H.said host.old }

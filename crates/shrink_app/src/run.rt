@@ -1,15 +1,16 @@
 // The program's work: what its words ask for, with its status.
-ghost use Rattle.std.specs.Prelude.{◌≡◌, ◌≢◌, ◌≤◌, ◌<◌, ◌⊎◌, ◌++◌, ℕ, List, IfSome, IfNone, IsSomeAnd, IsNone, MatchOption, Some, option_map, codes};
+ghost use Rattle.std.specs.Prelude.{◌≡◌, ◌≢◌, ◌≤◌, ◌<◌, ◌⊎◌, ◌++◌, ℕ, List, IfSome, IfNone, IsSomeAnd, IsNone, MatchOption, Some, option_map, codes, length};
 ghost use Rattle.std.specs.Option.{ForSome};
+ghost use Rattle.dw_base.specs.declared.fault.Kind.TheVariants.{Limit};
 ghost use Rattle.dw_base.specs.Host.{Rose, AddsPart};
 ghost use Rattle.value_links.specs.Same.{Same};
-ghost use Rattle.rewriter.specs.Sections.{IsPlaced};
-ghost use Rattle.rewriter.specs.Anew.{HaveLeastCodes, HaveLeastColumns};
-ghost use Rattle.rewriter.specs.Tidy.{IsTidy};
+ghost use Rattle.value_links.specs.Placed.{IsPlaced};
+ghost use Rattle.value_links.specs.Classes.{HaveLeastCodes, HaveOrderedCodes, HaveLeastColumns, HaveFirstColumns};
+ghost use Rattle.value_links.specs.Tidy.{IsTidy};
 ghost use Rattle.shrink_app.specs.File.{IsValid, StaysValid, HasLeastLines, HasOrderedLines};
 ghost use Rattle.shrink_app.specs.Words.{asked};
-ghost use Rattle.shrink_app.specs.Run.{Writes};
-ghost use Rattle.shrink_app.specs.Said.{SaysFault, SaysPart};
+ghost use Rattle.shrink_app.specs.Run.{Writes, input_limit};
+ghost use Rattle.shrink_app.specs.Said.{refusal_text, SaysFault, SaysPart};
 
 use crate::ending::Ending;
 use crate::saying::{say, text_of};
@@ -43,6 +44,9 @@ pub fn run<H: Host>(alloc: Global, words: &Vec<String>, host: &mut H) -> u8
     // A refusal names a fault of the input.
     ensures refused { result ≡ 3 → IsSomeAnd (asked words.now.items) (λ n. SaysFault (H.bytes host.old n.0) (H.said host.old) (H.said host.new)) }
 
+    // An input that is longer than its limit is refused for that, whatever its first bytes are.
+    ensures long { result ≡ 3 → IsSomeAnd (asked words.now.items) (λ n. ForSome (H.bytes host.old n.0) (λ file. input_limit < length file → H.said host.new ≡ option_map (λ b. b ++ refusal_text Limit 0) (H.said host.old))) }
+
     // A read fault comes where the input's count rose, and wherever it rose.
     ensures read_fault { result ≡ 4 → IsSomeAnd (asked words.now.items) (λ n. Rose (H.read_faults host.old n.0) (H.read_faults host.new n.0)) }
     ensures read_rose { IfSome (asked words.now.items) (λ n. H.read_faults host.old n.0 < H.read_faults host.new n.0 → result ≡ 4) }
@@ -66,7 +70,9 @@ pub fn run<H: Host>(alloc: Global, words: &Vec<String>, host: &mut H) -> u8
     ensures least { result ≡ 0 → IsSomeAnd (asked words.now.items) (λ n. Writes HasLeastLines (H.bytes host.old) (H.bytes host.new) n.0 n.1) }
     ensures order { result ≡ 0 → IsSomeAnd (asked words.now.items) (λ n. Writes HasOrderedLines (H.bytes host.old) (H.bytes host.new) n.0 n.1) }
     ensures columns { result ≡ 0 → IsSomeAnd (asked words.now.items) (λ n. Writes HaveLeastColumns (H.bytes host.old) (H.bytes host.new) n.0 n.1) }
+    ensures columns_order { result ≡ 0 → IsSomeAnd (asked words.now.items) (λ n. Writes HaveFirstColumns (H.bytes host.old) (H.bytes host.new) n.0 n.1) }
     ensures codes { result ≡ 0 → IsSomeAnd (asked words.now.items) (λ n. Writes HaveLeastCodes (H.bytes host.old) (H.bytes host.new) n.0 n.1) }
+    ensures codes_order { result ≡ 0 → IsSomeAnd (asked words.now.items) (λ n. Writes HaveOrderedCodes (H.bytes host.old) (H.bytes host.new) n.0 n.1) }
     ensures tidy { result ≡ 0 → IsSomeAnd (asked words.now.items) (λ n. Writes IsTidy (H.bytes host.old) (H.bytes host.new) n.0 n.1) }
     ensures placed { result ≡ 0 → IsSomeAnd (asked words.now.items) (λ n. Writes IsPlaced (H.bytes host.old) (H.bytes host.new) n.0 n.1) }
 

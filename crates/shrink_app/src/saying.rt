@@ -1,7 +1,8 @@
 // What the program says.
 ghost use Rattle.std.specs.Prelude.{◌≡◌, ◌⊎◌, ◌++◌, ℕ, List, IfOk, option_map, string_bytes};
 ghost use Rattle.dw_base.specs.Host.{AddsPart};
-ghost use Rattle.shrink_app.specs.Said.{refusal_text, SaysOrStops};
+ghost use Rattle.shrink_app.specs.Said.{refusal_text};
+ghost use Rattle.shrink_app.specs.inside.Said.{SaysOrStops};
 
 use dw_base::{Fault, Host, Stop};
 use std::alloc::{AllocError, Global};

@@ -3,11 +3,12 @@ ghost use Rattle.std.specs.Prelude.{◌≡◌, ◌≢◌, ◌≤◌, ◌<◌, �
 ghost use Rattle.std.specs.Option.{ForSome};
 ghost use Rattle.dw_base.specs.Host.{Rose};
 ghost use Rattle.value_links.specs.Same.{Same};
-ghost use Rattle.rewriter.specs.Sections.{IsPlaced};
-ghost use Rattle.rewriter.specs.Anew.{HaveLeastCodes, HaveLeastColumns};
-ghost use Rattle.rewriter.specs.Tidy.{IsTidy};
+ghost use Rattle.value_links.specs.Placed.{IsPlaced};
+ghost use Rattle.value_links.specs.Classes.{HaveLeastCodes, HaveOrderedCodes, HaveLeastColumns, HaveFirstColumns};
+ghost use Rattle.value_links.specs.Tidy.{IsTidy};
 ghost use Rattle.shrink_app.specs.File.{IsValid, StaysValid, HasLeastLines, HasOrderedLines};
-ghost use Rattle.shrink_app.specs.Run.{HasReadCause, HasWriteCause, Writes, LeavesFiles, EndsByFault};
+ghost use Rattle.shrink_app.specs.Run.{Writes};
+ghost use Rattle.shrink_app.specs.inside.Run.{HasReadCause, HasWriteCause, LeavesFiles, EndsByFault, RefusesLong};
 
 use crate::ending::Ending;
 use crate::reading::read_input;
@@ -24,10 +25,13 @@ pub fn shrink<H: Host>(alloc: Global, input: &str, output: &str, host: &mut H) -
     ensures least { OnOk result (Writes HasLeastLines (H.bytes host.old) (H.bytes host.new) input.now output.now) }
     ensures order { OnOk result (Writes HasOrderedLines (H.bytes host.old) (H.bytes host.new) input.now output.now) }
     ensures columns { OnOk result (Writes HaveLeastColumns (H.bytes host.old) (H.bytes host.new) input.now output.now) }
+    ensures columns_order { OnOk result (Writes HaveFirstColumns (H.bytes host.old) (H.bytes host.new) input.now output.now) }
     ensures codes { OnOk result (Writes HaveLeastCodes (H.bytes host.old) (H.bytes host.new) input.now output.now) }
+    ensures codes_order { OnOk result (Writes HaveOrderedCodes (H.bytes host.old) (H.bytes host.new) input.now output.now) }
     ensures tidy { OnOk result (Writes IsTidy (H.bytes host.old) (H.bytes host.new) input.now output.now) }
     ensures placed { OnOk result (Writes IsPlaced (H.bytes host.old) (H.bytes host.new) input.now output.now) }
     ensures refused { EndsByFault (H.bytes host.old input.now) result }
+    ensures long { RefusesLong (H.bytes host.old input.now) result }
     ensures files { LeavesFiles (H.bytes host.old) (H.bytes host.new) result }
     ensures faulty_kept { (file : List ℕ) → H.bytes host.old input.now ≡ Some file → ¬ IsValid file → (f : List ℕ) → H.bytes host.new f ≡ H.bytes host.old f }
     ensures faulty_unwritten { (file : List ℕ) → H.bytes host.old input.now ≡ Some file → ¬ IsValid file → (f : List ℕ) → H.write_faults host.new f ≡ H.write_faults host.old f }

@@ -1,6 +1,6 @@
 // A whole file to a host.
 ghost use Rattle.std.specs.Prelude.{◌≡◌, ◌≢◌, ℕ, List, [], ◌++◌, option_map, OnOk};
-ghost use Rattle.shrink_app.specs.Run.{OnlyWriteFault};
+ghost use Rattle.shrink_app.specs.inside.Run.{OnlyWriteFault};
 
 use crate::ending::Ending;
 use dw_base::{Host, Stop};

@@ -7,7 +7,7 @@ use Rattle.leb_codec.specs.Layout.{SlotRow, row_at, slot_number, need, steps_to}
 use Rattle.slot_layout.specs.declared.slots.Slot.{Slot}
 use Rattle.slot_layout.specs.declared.slots.SlotKind.TheVariants.{Uleb}
 use Rattle.slot_layout.specs.Rows.{form_of, row_of, rows_of}
-use Rattle.slot_layout.specs.Rounds.{AreSlots, AreStarts, AreRaised, raised_size, AreNoted, NotesSlot}
+use Rattle.slot_layout.specs.inside.Rounds.{AreSlots, AreStarts, AreRaised, raised_size, AreNoted, NotesSlot}
 use Rattle.slot_layout.proofs.SumLaws.{sum_range}
 
 abbrev pub no_slot : Slot

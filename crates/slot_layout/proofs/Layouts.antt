@@ -6,7 +6,7 @@ use Rattle.std.proofs.lemmas.List.{ext_get_or, get_or-take, length-take-le}
 use Rattle.std.proofs.lemmas.List.Sorted.{IsNonDecreasingBy-from_default}
 use Rattle.leb_codec.specs.LebLaws.{UnsignedLens}
 use Rattle.leb_codec.specs.Layout.{SlotForm, SlotRow, row_at, slot_number, need, size_after, steps_to, ranks_by_slot, sizes_below, need_below, ranks_at, AcceptsSlot, AcceptsLayout, HasFirstRanks}
-use Rattle.slot_layout.specs.Rounds.{AreSlots, AreRaised, NotesSlot, joined}
+use Rattle.slot_layout.specs.inside.Rounds.{AreSlots, AreRaised, NotesSlot, joined}
 use Rattle.slot_layout.proofs.SizeLaws.{size_steps, step_within, step_past, steps_few, after_rises}
 use Rattle.slot_layout.proofs.RoundLaws.{rounds, rounds_length, rounds_next, rounds_rise, rounds_small, rounds_sized, raised_is, still_member}
 use Rattle.slot_layout.proofs.RankLaws.{IsRanked, ranked_next, ranked_same, count_front, fronts, AreLong, split_joined, joined_length, front_at, length_fronts, length_below, below_at}

@@ -5,7 +5,7 @@ use Rattle.std.proofs.lemmas.Bool.{cases_lt, cond-true, cond-false, lt-ltb, le-l
 use Rattle.std.proofs.lemmas.List.{length-take-le, length-append, take_at, drop_at}
 use Rattle.std.proofs.lemmas.List.Sums.{sum_by-cons}
 use Rattle.leb_codec.specs.Layout.{SlotForm, uleb, call, SlotRow, row_at, IsSlotSize, size_after, steps_to, ranks_by_slot, sizes_below, step_count}
-use Rattle.slot_layout.specs.Rounds.{AreNoted, joined}
+use Rattle.slot_layout.specs.inside.Rounds.{AreNoted, joined}
 use Rattle.slot_layout.proofs.SizeLaws.{step_within, step_past}
 use Rattle.slot_layout.proofs.RoundLaws.{rounds, rounds_start}
 

@@ -4,7 +4,7 @@ use Rattle.std.proofs.lemmas.Bool.{cases_lt}
 use Rattle.std.proofs.lemmas.List.{ext_get_or, length-map, get_or-map}
 use Rattle.leb_codec.specs.LebLaws.{UnsignedLens}
 use Rattle.leb_codec.specs.Layout.{SlotForm, SlotRow, row_at, slot_number, need, IsSlotSize, IsSlotNumber, IsLayout, IsLeastLayout, size_after, uleb, call}
-use Rattle.slot_layout.specs.Rounds.{AreSlots, AreSmall, AreRaised, raised_size, smallest_of}
+use Rattle.slot_layout.specs.inside.Rounds.{AreSlots, AreSmall, AreRaised, raised_size, smallest_of}
 use Rattle.slot_layout.proofs.SumLaws.{sum_rises}
 use Rattle.slot_layout.proofs.SizeLaws.{smallest_sized, smallest_least, smallest_few, need_rises, need_few, grown_sized, number_small, number_rises}
 

@@ -5,7 +5,7 @@ use Rattle.std.proofs.lemmas.Bool.Decides.{nat_tests}
 use Rattle.leb_codec.specs.Leb.{least_unsigned_len}
 use Rattle.leb_codec.specs.LebLaws.{UnsignedLens}
 use Rattle.leb_codec.specs.Layout.{SlotForm, uleb, call, SlotRow, slot_number, need, IsSlotSize, size_after, steps_to}
-use Rattle.slot_layout.specs.Rounds.{AreSmall}
+use Rattle.slot_layout.specs.inside.Rounds.{AreSmall}
 use Rattle.slot_layout.proofs.SumLaws.{sum_range-small, sum_range_rises}
 
 pub size_steps : (form : SlotForm) (s : ℕ) → IsSlotSize form s → size_after form (steps_to form s) ≡ s

@@ -5,7 +5,7 @@ use Rattle.std.specs.Prelude.{slice_range}
 use Rattle.std.proofs.lemmas.List.{drop-take, length-take, length-drop, get_or-take, get_or-drop, take-take}
 use Rattle.std.proofs.lemmas.List.Sums.{sum_by-take-drop, sum_by-cons, sum_by-take-le, sum_by-le}
 use Rattle.std.proofs.lemmas.List.Elements.{All-from_get_or}
-use Rattle.slot_layout.specs.Rounds.{AreSmall}
+use Rattle.slot_layout.specs.inside.Rounds.{AreSmall}
 
 -- sums of so many small sizes are small
 pub sum-small : (sizes : List ℕ) → AreSmall sizes → sum sizes ≤ 5 * 2 ^ 28

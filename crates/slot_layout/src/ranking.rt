@@ -2,7 +2,7 @@
 ghost use Rattle.std.specs.Prelude.{◌≡◌, ◌<◌, ◌≤◌, ◌++◌, ℕ, [], length, slice_index, slice_index_or, OnOk, IfOk};
 ghost use Rattle.leb_codec.specs.Layout.{row_at, steps_to};
 ghost use Rattle.slot_layout.specs.Rows.{rows_of};
-ghost use Rattle.slot_layout.specs.Rounds.{AreNoted, joined};
+ghost use Rattle.slot_layout.specs.inside.Rounds.{AreNoted, joined};
 
 use crate::slots::Slot;
 use dw_base::NoMemory;

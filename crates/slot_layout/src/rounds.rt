@@ -2,7 +2,7 @@
 ghost use Rattle.std.specs.Prelude.{◌≡◌, ◌<◌, ◌≤◌, ◌+◌, ◌-◌, ◌^◌, ℕ, length, sum, slice_index, slice_index_or, [], IfOk, true, false};
 ghost use Rattle.leb_codec.specs.Layout.{IsLayout, IsLowestLayout, IsLeastLayout, HasNarrowNumbers, AcceptsLayout, HasFirstRanks};
 ghost use Rattle.slot_layout.specs.Rows.{rows_of};
-ghost use Rattle.slot_layout.specs.Rounds.{AreSlots, AreStarts, AreSmall, AreRaised, NotesSlot, joined, smallest_of};
+ghost use Rattle.slot_layout.specs.inside.Rounds.{AreSlots, AreStarts, AreSmall, AreRaised, NotesSlot, joined, smallest_of};
 
 use crate::ranking::{StepRanks, note};
 use crate::slots::Slot;

@@ -1,7 +1,7 @@
 // Layouts of worked rows, and of small lists of slots against a plain search.
 ghost use Rattle.std.specs.Prelude.{◌≡◌, true};
 ghost use Rattle.slot_layout.specs.Rows.{rows_of};
-ghost use Rattle.slot_layout.specs.Rounds.{AreSlots};
+ghost use Rattle.slot_layout.specs.inside.Rounds.{AreSlots};
 
 use crate::{Layout, Slot, SlotKind, solve};
 use dw_base::NoMemory;

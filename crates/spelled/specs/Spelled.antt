@@ -1,6 +1,6 @@
 -- Things that are spelled by bytes, one after the other. A relation `Spells` says which bytes spell a value.
 -- Bytes are numbers below 256.
-use Rattle.std.specs.Prelude.{◌≡◌, ◌≤◌, ◌<◌, ◌+◌, ◌⊎◌, ℕ, List, [], ◌∷◌, ◌++◌, length, take, drop, slice_index}
+use Rattle.std.specs.Prelude.{◌≡◌, ◌<◌, ◌+◌, ◌⊎◌, ℕ, List, [], ◌∷◌, ◌++◌, length, slice_index}
 
 -- each number is a byte
 abbrev pub AreBytes : List ℕ → Type 0
@@ -10,30 +10,14 @@ AreBytes bytes = (k : ℕ) → k < length bytes → slice_index bytes k < 256
 abbrev pub HasUniqueFronts : {V : Type 0} → (V → List ℕ → Type 0) → Type 0
 HasUniqueFronts {V} Spells = (v w : V) (a b x y : List ℕ) → Spells v a → Spells w b → a ++ x ≡ b ++ y → (a ≡ b) × (v ≡ w)
 
--- each spelling has a byte
-abbrev pub HasBytes : {V : Type 0} → (V → List ℕ → Type 0) → Type 0
-HasBytes {V} Spells = (v : V) (a : List ℕ) → Spells v a → 0 < length a
-
 -- the bytes are spellings of the values, one after the other
 abbrev pub Joined : {V : Type 0} → (V → List ℕ → Type 0) → List V → List ℕ → Type 0
 Joined Spells [] bytes = bytes ≡ []
 Joined Spells (v ∷ vs) bytes = (first : List ℕ) × (rest : List ℕ) × Spells v first × Joined Spells vs rest × (bytes ≡ first ++ rest)
 
--- some values and their bytes, and then more values and the bytes of these
-pub record GoesOn {V : Type 0} (Spells : V → List ℕ → Type 0) (vs : List V) (a : List ℕ) (ws : List V) (b : List ℕ) : Type 0 where
-  pub more : List V
-  pub tail : List ℕ
-  pub values : ws ≡ vs ++ more
-  pub bytes : b ≡ a ++ tail
-  pub spelled : Joined Spells more tail
-
 -- the values and then an end
 abbrev pub UntilEnd : {V : Type 0} → (V → List ℕ → Type 0) → (List ℕ → Type 0) → List V → List ℕ → Type 0
 UntilEnd {V} Spells IsEnd vs bytes = (front : List ℕ) × (end : List ℕ) × Joined Spells vs front × IsEnd end × (bytes ≡ front ++ end)
-
--- no two ends begin the same bytes
-abbrev pub HasOneEnd : (List ℕ → Type 0) → Type 0
-HasOneEnd IsEnd = (a b x y : List ℕ) → IsEnd a → IsEnd b → a ++ x ≡ b ++ y → a ≡ b
 
 -- an end doesn't begin the bytes of a thing
 abbrev pub EndsApart : {V : Type 0} → (V → List ℕ → Type 0) → (List ℕ → Type 0) → Type 0

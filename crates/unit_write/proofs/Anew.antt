@@ -1,8 +1,9 @@
 -- The items of a unit that are written anew: they are walked in the new section, and each is the old one with new numbers.
 use Rattle.std.proofs.Common.{◌≡◌, ◌≢◌, ◌≤◌, ◌<◌, ◌+◌, ◌-◌, ℕ, zero, suc, List, [], ◌∷◌, ◌++◌, length, take, drop, get_or, ◌∙◌, sym, ap, refl, subst, arith, inl, inr}
 use Rattle.std.specs.Prelude.{map, if◌then◌else◌, Bool}
-use Rattle.std.specs.List.{AllZip}
+use Rattle.std.specs.List.{All, AllZip}
 use Rattle.std.proofs.lemmas.List.{append-nil, append_assoc, length-append, length-map, get_or_append_left, get_or-append-add, get_or-take, get_or-drop, get_or-map}
+use Rattle.std.proofs.lemmas.List.Elements.{All-nil, All-cons}
 use Rattle.std.proofs.lemmas.Bool.{cases_lt}
 use Rattle.std.proofs.Common.{add-one}
 use Rattle.leb_codec.specs.Leb.{Uleb, ShortestUnsigned, least_unsigned_len}
@@ -24,12 +25,13 @@ use Rattle.entry_arena.proofs.SpellingLaws.{cut, values_found}
 use Rattle.entry_read.specs.Units.{declarations_of}
 use Rattle.unit_write.specs.Values.{with_number, HaveSize}
 use Rattle.unit_write.specs.Placing.{columns_of, values_in, EntrySize, ArePlaced, IsRenumbered}
-use Rattle.unit_write.specs.Moved.{WrittenBetween, IsMovedEntry, IsMovedEnd, StandsShort}
-use Rattle.unit_write.specs.Puts.{PutsValues, PutsEntry, PutsItems, numbers_in}
+use Rattle.entry_read.specs.Short.{WrittenBetween, StandsShort, EndsShort}
+use Rattle.unit_write.specs.Moved.{IsMovedEntry, IsMovedEnd}
+use Rattle.unit_write.specs.inside.Puts.{PutsValues, PutsEntry, PutsItems, numbers_in}
 use Rattle.entry_arena.proofs.Between.{length_between}
 use Rattle.entry_arena.proofs.OnwardLaws.{walks_go_on}
 use Rattle.unit_write.proofs.PutLaws.{values_as}
-use Rattle.unit_write.proofs.ShortLaws.{renamed, values_short, entry_short, first_short}
+use Rattle.unit_write.proofs.ShortLaws.{renamed, values_short, entry_short, first_short, end_short}
 
 values_spelled : (section : List ℕ) (cs : List Spec) (vs : List Value) (ns bytes : List ℕ) → PutsValues section cs vs ns bytes → SpellsValues cs (renamed section vs ns) bytes
 values_spelled section [] [] [] bytes p = p
@@ -210,6 +212,7 @@ module _ (table : Listing) (columns : List Spec) (numbers held : List ℕ) (f : 
     pub ends_are : last.ends ≡ new.ends ++ ends
     pub placed : ArePlaced (EntrySize table columns numbers f) id items new.place (map (λ (e : Entry). e.at) entries) (map (λ (e : ChainEnd). e.at) ends) to
     pub short : (k : ℕ) → k < length entries → StandsShort section ds last.values (entry_at entries k)
+    pub ends_short : All (EndsShort section) ends
 
   children_same : (number : ℕ) → number < length table.decls → get_or numbers number 0 ≢ 0 → (declared_at (declarations_of table) number).children ≡ (declared_at ds (number_of number)).children
   children_same number known used =
@@ -265,6 +268,7 @@ module _ (table : Listing) (columns : List Spec) (numbers held : List ℕ) (f : 
           values_are = r.values_are ∙ ap (λ (z : List Value). z ++ r.values) s.listed ∙ append_assoc new.values s.values r.values;
           ends_are = r.ends_are ∙ ap (λ (z : List ChainEnd). z ++ r.ends) s.ended;
           short = first_short section ds r.last.values s.entry r.entries (subst (λ (z : List Value). StandsShort section ds z s.entry) (sym r.values_are) (s.short r.values)) r.short;
+          ends_short = r.ends_short;
           placed = (s.at, (length first, entry_sized table columns numbers held f entries first p, subst (λ (z : ℕ). ArePlaced (EntrySize table columns numbers f) (suc entries) rest z (map (λ (e : Entry). e.at) r.entries) (map (λ (e : ChainEnd). e.at) r.ends) to) there r.placed));
         }
 
@@ -287,6 +291,7 @@ module _ (table : Listing) (columns : List Spec) (numbers held : List ℕ) (f : 
           ends_are = sym (append-nil new.ends);
           placed = same;
           short = λ k inside. absurd (omega arith);
+          ends_short = All-nil (EndsShort section);
         }
     stand_anew (AnEntry number ∷ rest) done now new chains entries ends to bytes h moved (first, more, p, q, w) order inside whole =
         let e = entry_next number entries ends rest done now chains h in
@@ -340,5 +345,6 @@ module _ (table : Listing) (columns : List Spec) (numbers held : List ℕ) (f : 
           values_are = r.values_are;
           ends_are = r.ends_are ∙ joined;
           short = r.short;
+          ends_short = All-cons (EndsShort section) end r.ends (end_short section e.parent new.place c.mid one adds.coded) r.ends_short;
           placed = (refl, subst (λ (z : ℕ). ArePlaced (EntrySize table columns numbers f) entries rest z (map (λ (e : Entry). e.at) r.entries) (map (λ (e : ChainEnd). e.at) r.ends) to) one r.placed);
         }

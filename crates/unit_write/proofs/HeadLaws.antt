@@ -8,8 +8,9 @@ use Rattle.fixed_width.specs.Numbers.{number, number_at}
 use Rattle.fixed_width.proofs.Numbers.{number_back}
 use Rattle.form_codec.specs.Written.{low_bytes}
 use Rattle.entry_read.specs.declared.head.UnitHead.{UnitHead}
-use Rattle.entry_read.specs.Heads.{unit_length, version, unit_type, address_size, debug_abbrev_offset, signature, type_offset, type_unit, IsUnitType, header_size, unit_end, least_reserved, extra_at, type_at, IsHead}
-use Rattle.unit_write.specs.Puts.{own_bytes, header_bytes}
+use Rattle.fixed_width.specs.InitialLengths.{unit_length, version, unit_end, least_reserved}
+use Rattle.entry_read.specs.Heads.{unit_type, address_size, debug_abbrev_offset, signature, type_offset, type_unit, IsUnitType, header_size, extra_at, type_at, IsHead}
+use Rattle.unit_write.specs.inside.Puts.{own_bytes, header_bytes}
 
 number_there : (n v at : ℕ) (section front rest : List ℕ) → length front ≡ at → section ≡ front ++ (bytes_low_first 0 n v ++ rest) → v < 256 ^ n → number_at n at section ≡ v
 number_there n v at section front rest size whole few =

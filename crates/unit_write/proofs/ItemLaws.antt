@@ -12,8 +12,8 @@ use Rattle.entry_arena.specs.Onward.{HasWalked, EntryIsNext, EndIsNext}
 use Rattle.unit_write.specs.declared.items.Items.{Items}
 use Rattle.unit_write.specs.declared.items.Next.{Next}
 use Rattle.unit_write.specs.declared.items.Next.TheVariants.{Entry as TheEntry, End as TheEnd}
-use Rattle.unit_write.specs.Readings.{GoesOn, HasItem}
-use Rattle.unit_write.specs.Puts.{PutsItems, PutsNext}
+use Rattle.unit_write.specs.inside.Readings.{GoesOn, HasItem}
+use Rattle.unit_write.specs.inside.Puts.{PutsItems, PutsNext}
 
 -- a front of a walk is written, and so is the whole walk with bytes of what follows
 pub record WalkPut (Puts : ℕ → List ℕ → Type 0) (f : Arena) (ds : List Declared) (start place : ℕ) (all : List Item) (at : Items) (bytes : List ℕ) : Type 0 where

@@ -29,7 +29,8 @@ use Rattle.entry_arena.specs.Arena.{Arena, entry_at}
 use Rattle.entry_arena.specs.Trees.{Listed, AddsEntry, ValuesBetween, bytes_between, declared_at}
 use Rattle.entry_arena.proofs.Between.{length_between}
 use Rattle.entry_arena.proofs.StepLaws.{code_rises}
-use Rattle.unit_write.specs.Values.{with_number, IsWritten, HasSize, HaveSize}
+use Rattle.entry_read.specs.Short.{IsWritten}
+use Rattle.unit_write.specs.Values.{with_number, HasSize, HaveSize}
 use Rattle.unit_write.specs.Placing.{columns_of, values_in, EntrySize}
 
 -- the bytes that a value has whatever its form

@@ -12,17 +12,19 @@ use Rattle.entry_arena.specs.Walks.{Item, Walks}
 use Rattle.entry_arena.specs.Walks.Item.{AnEntry, AnEnd}
 use Rattle.entry_arena.specs.Onward.{HasWalked, EntryIsNext, EndIsNext}
 use Rattle.entry_arena.proofs.StepLaws.{code_rises, walks_rise}
-use Rattle.entry_read.specs.Heads.{header_size, least_reserved}
+use Rattle.fixed_width.specs.InitialLengths.{least_reserved}
+use Rattle.entry_read.specs.Heads.{header_size}
 use Rattle.entry_read.specs.Units.{HeadAndForest, entries_at, end_of, declarations_of, IsUnitHeld}
 use Rattle.entry_read.proofs.Declarations.{count_same}
 use Rattle.unit_write.specs.declared.items.Items.{Items}
 use Rattle.unit_write.specs.declared.items.Next.{Next}
 use Rattle.unit_write.specs.declared.items.Next.TheVariants.{Entry as TheEntry, End as TheEnd}
 use Rattle.unit_write.specs.declared.places.Places.{Places}
-use Rattle.unit_write.specs.Most.{most_bytes, HasRoom}
+use Rattle.unit_write.specs.Most.{most_bytes}
+use Rattle.unit_write.specs.inside.Most.{HasRoom}
 use Rattle.unit_write.specs.Placing.{EntrySize, ArePlaced}
 use Rattle.unit_write.specs.Moved.{IsWritable, IsPlacedAt}
-use Rattle.unit_write.specs.Readings.{IsNext, HasItem, PutsItem}
+use Rattle.unit_write.specs.inside.Readings.{IsNext, HasItem, PutsItem}
 use Rattle.unit_write.proofs.MostLaws.{entry_most}
 use Rattle.unit_write.proofs.Placed.{placed_entry, placed_end}
 use Rattle.unit_write.proofs.Standing.{whole_walk}

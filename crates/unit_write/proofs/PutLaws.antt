@@ -16,8 +16,9 @@ use Rattle.abbrev_tables.specs.Listings.{Listing, spec_at}
 use Rattle.entry_arena.specs.Arena.{Arena, entry_at, value_at}
 use Rattle.entry_arena.specs.Order.{IsInOrder}
 use Rattle.unit_write.specs.Placing.{columns_of, values_in}
-use Rattle.unit_write.specs.Values.{with_number, IsWritten, HasSize, HaveSize}
-use Rattle.unit_write.specs.Puts.{PutsValues, PutsEntry, numbers_in, own_bytes, header_bytes}
+use Rattle.entry_read.specs.Short.{IsWritten}
+use Rattle.unit_write.specs.Values.{with_number, HasSize, HaveSize}
+use Rattle.unit_write.specs.inside.Puts.{PutsValues, PutsEntry, numbers_in, own_bytes, header_bytes}
 
 six_parts : (o a b k e t x : List ℕ) → (((((o ++ a) ++ b) ++ k) ++ e) ++ t) ++ x ≡ o ++ (a ++ (b ++ (k ++ (e ++ (t ++ x)))))
 six_parts o a b k e t x = simp append_assoc

@@ -1,7 +1,8 @@
--- Entries that are written stand without a byte too many.
+-- Entries that are written, and the codes 0 that end chains, stand without a byte too many.
 use Rattle.std.proofs.Common.{◌≡◌, ◌≤◌, ◌<◌, ◌+◌, ◌-◌, ℕ, zero, suc, List, [], ◌∷◌, ◌++◌, length, ◌∙◌, sym, ap, subst, arith}
 use Rattle.std.specs.Prelude.{map}
-use Rattle.leb_codec.specs.Leb.{ShortestUnsigned}
+use Rattle.leb_codec.specs.Leb.{Uleb, ShortestUnsigned, least_unsigned_len}
+use Rattle.leb_codec.proofs.Lens.{least_unsigned, least_below}
 use Rattle.form_codec.specs.declared.value.Value.{Value}
 use Rattle.form_codec.specs.Forms.{Meaning}
 use Rattle.form_codec.specs.Values.{meant_in}
@@ -12,9 +13,9 @@ use Rattle.entry_arena.specs.Arena.{entry_at}
 use Rattle.entry_arena.specs.Trees.{declared_at, bytes_between, SpellsBetween}
 use Rattle.entry_arena.proofs.Between.{length_between}
 use Rattle.entry_arena.proofs.SpellingLaws.{cut}
-use Rattle.unit_write.specs.Values.{with_number, IsWritten}
-use Rattle.unit_write.specs.Moved.{WrittenBetween, StandsShort}
-use Rattle.unit_write.specs.Puts.{PutsValues}
+use Rattle.entry_read.specs.Short.{IsWritten, WrittenBetween, StandsShort, EndsShort}
+use Rattle.unit_write.specs.Values.{with_number}
+use Rattle.unit_write.specs.inside.Puts.{PutsValues}
 use Rattle.spelled.proofs.Parts.{own_part}
 
 -- what values mean with numbers of their own
@@ -59,3 +60,12 @@ entry_short section ds before vs more at mid to depth decl order coded valued =
 pub first_short : (section : List ℕ) (ds : List Declared) (values : List Value) (e : Entry) (entries : List Entry) → StandsShort section ds values e → ((k : ℕ) → k < length entries → StandsShort section ds values (entry_at entries k)) → (k : ℕ) → k < length (e ∷ entries) → StandsShort section ds values (entry_at (e ∷ entries) k)
 first_short section ds values e entries first rest zero inside = first
 first_short section ds values e entries first rest (suc k) inside = rest k (omega arith)
+
+-- a code 0 of one byte is shortest
+pub end_short : (section : List ℕ) (entry at to : ℕ) → to ≡ at + 1 → SpellsBetween (Uleb 0) section at to → EndsShort section (record { entry = entry; at = at })
+end_short section entry at to one coded =
+    let size : length (bytes_between section at to) ≡ to - at = length_between section at to coded.inside in
+    let few : least_unsigned_len 0 ≤ 1 = least_below 0 1 (record { some = omega arith; below = omega arith }) in
+    let some : 1 ≤ least_unsigned_len 0 = (least_unsigned 0).enough.some in
+    let short : SpellsBetween (ShortestUnsigned 0) section at to = record { order = coded.order; inside = coded.inside; spelled = (coded.spelled.0, omega arith) } in
+    subst (λ (n : ℕ). SpellsBetween (ShortestUnsigned 0) section at n) one short

@@ -10,12 +10,12 @@ use Rattle.abbrev_tables.specs.declared.decl.Spec.{Spec}
 use Rattle.abbrev_tables.specs.Listings.{Listing}
 use Rattle.entry_arena.specs.Arena.{Arena, entry_at}
 use Rattle.entry_arena.specs.Trees.{ValuesBetween}
-use Rattle.entry_read.specs.Heads.{least_reserved}
+use Rattle.fixed_width.specs.InitialLengths.{least_reserved}
 use Rattle.form_codec.proofs.FormLaws.{read_in}
 use Rattle.unit_write.specs.Values.{HasSize, HaveSize}
 use Rattle.unit_write.specs.Placing.{columns_of, values_in, EntrySize}
-use Rattle.unit_write.specs.Most.{HaveRoom}
-use Rattle.unit_write.specs.Readings.{AreStanding}
+use Rattle.unit_write.specs.inside.Most.{HaveRoom}
+use Rattle.unit_write.specs.inside.Readings.{AreStanding}
 
 -- so many bytes follow a place for the values that are left, where all from another place on have these
 pub record AreLeft (section : List ℕ) (columns : List Spec) (values : List Value) (at size to : ℕ) : Type 0 where

@@ -11,7 +11,7 @@ use Rattle.entry_read.specs.Units.{HeadAndForest, entries_at, declarations_of, I
 use Rattle.entry_read.proofs.Declarations.{count_same}
 use Rattle.entry_read.proofs.PlaceLaws.{entry_stands}
 use Rattle.unit_write.specs.Placing.{values_in}
-use Rattle.unit_write.specs.Readings.{AreStanding}
+use Rattle.unit_write.specs.inside.Readings.{AreStanding}
 
 module _ (unit : HeadAndForest) (table : Listing) (held : IsUnitHeld unit.forest.section unit.head (declarations_of table) unit.forest) where
   -- the whole walk over the unit's entries

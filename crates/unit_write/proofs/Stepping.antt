@@ -8,7 +8,7 @@ use Rattle.entry_arena.specs.Walks.{Item}
 use Rattle.entry_arena.specs.Onward.{HasWalked, EntryIsNext, EndIsNext, IsWalked}
 use Rattle.entry_arena.proofs.OnwardLaws.{walks_go_on}
 use Rattle.unit_write.specs.declared.items.Items.{Items}
-use Rattle.unit_write.specs.Readings.{IsEndNext}
+use Rattle.unit_write.specs.inside.Readings.{IsEndNext}
 
 module _ (f : Arena) (ds : List Declared) (start place : ℕ) (items : List Item) (now : Listed) (chains : List ℕ) (rest : List Item) (at : Items) (walked : HasWalked f.section ds start (listed_to f place) at.entries at.ends items now chains rest) where
   abbrev EntryNext : Type 0

@@ -1,7 +1,7 @@
 -- A unit that is written anew.
 use Rattle.std.proofs.Common.{◌≡◌, ◌≢◌, ◌≤◌, ◌<◌, ◌+◌, ◌-◌, ◌^◌, ℕ, suc, List, [], ◌∷◌, ◌++◌, length, take, drop, ◌∙◌, sym, ap, refl, subst, arith}
 use Rattle.std.specs.Prelude.{map, nat_eq, true}
-use Rattle.std.specs.List.{AllZip}
+use Rattle.std.specs.List.{All, AllZip}
 use Rattle.std.proofs.lemmas.List.{append_assoc, length-append, drop_at, take_all}
 use Rattle.spelled.specs.Spelled.{Appends}
 use Rattle.abbrev_tables.specs.declared.decl.Spec.{Spec}
@@ -16,11 +16,13 @@ use Rattle.entry_arena.specs.Walks.Item.{AnEntry, AnEnd}
 use Rattle.entry_arena.specs.Onward.{HasWalked}
 use Rattle.entry_arena.proofs.TreeLaws.{trees_are_walks}
 use Rattle.entry_read.specs.declared.head.UnitHead.{UnitHead}
-use Rattle.entry_read.specs.Heads.{IsUnitType, type_unit, header_size, least_reserved, unit_type}
+use Rattle.fixed_width.specs.InitialLengths.{least_reserved}
+use Rattle.entry_read.specs.Heads.{IsUnitType, type_unit, header_size, unit_type}
 use Rattle.entry_read.specs.Units.{HeadAndForest, entries_at, declarations_of}
 use Rattle.unit_write.specs.Placing.{EntrySize, ArePlaced, IsRenumbered}
-use Rattle.unit_write.specs.Moved.{IsMovedEntry, IsWritable, IsPlacedAt, StandsShort, IsWrittenAnew}
-use Rattle.unit_write.specs.Puts.{PutsEntry, PutsItems, header_bytes}
+use Rattle.entry_read.specs.Short.{StandsShort, EndsShort}
+use Rattle.unit_write.specs.Moved.{IsMovedEntry, IsWritable, IsPlacedAt, IsWrittenAnew}
+use Rattle.unit_write.specs.inside.Puts.{PutsEntry, PutsItems, header_bytes}
 use Rattle.unit_write.proofs.ValueLaws.{one_size}
 use Rattle.unit_write.proofs.Placed.{one_placing}
 use Rattle.unit_write.proofs.Anew.{nothing_moved, stand_anew}
@@ -113,6 +115,7 @@ module _ (unit : HeadAndForest) (table : Listing) (columns : List Spec) (numbers
         values = record { count = r.moved.count; each = r.moved.values };
         ends = r.moved.ends;
         short = subst (λ (z : List Entry). (id : ℕ) → id < length z → StandsShort section ds r.last.values (entry_at z id)) (sym r.entries_are) r.short;
+        ends_short = subst (λ (z : List ChainEnd). All (EndsShort section) z) (sym r.ends_are) r.ends_short;
         placed = record {
           place = p.place;
           whole = p.whole;

@@ -23,10 +23,11 @@ use Rattle.form_codec.proofs.Codes.{code_once}
 use Rattle.form_codec.proofs.WriteLaws.{low_len, number_low, low_small}
 use Rattle.form_codec.proofs.FormLaws.{in_form}
 use Rattle.abbrev_tables.specs.declared.decl.Spec.{Spec}
-use Rattle.unit_write.specs.Values.{is_moving, with_number, IsWritten, HasSize, OneSize}
+use Rattle.entry_read.specs.Short.{IsWritten}
+use Rattle.unit_write.specs.Values.{is_moving, with_number, HasSize, OneSize}
 use Rattle.unit_write.specs.Moved.{IsRoomy}
 use Rattle.unit_write.specs.Sizes.{NumbersHaveSizes, ShortestHaveSizes}
-use Rattle.unit_write.specs.Puts.{role_moves, shape_moves, PutsNumber}
+use Rattle.unit_write.specs.inside.Puts.{role_moves, shape_moves, PutsNumber}
 
 data_stays : (size n : ℕ) (test : Bool) → is_moving (if test then Bits size n else Whole (pos n)) ≡ false
 data_stays size n true = refl

@@ -1,7 +1,6 @@
 -- A unit that is written anew behind other bytes of .debug_info.
-use Rattle.std.specs.Prelude.{◌≡◌, ◌≢◌, ◌<◌, ◌+◌, ◌-◌, ℕ, List, [], ◌∷◌, length, map, slice_index, take, drop}
+use Rattle.std.specs.Prelude.{◌≡◌, ◌≢◌, ◌<◌, ◌+◌, ◌-◌, ℕ, List, length, map, slice_index}
 use Rattle.std.specs.List.{All, AllZip}
-use Rattle.leb_codec.specs.Leb.{ShortestUnsigned}
 use Rattle.form_codec.specs.declared.form.Form.TheVariants.{Ref1, Ref2}
 use Rattle.form_codec.specs.declared.value.Value.{Value}
 use Rattle.form_codec.specs.Forms.{code_of}
@@ -12,12 +11,13 @@ use Rattle.abbrev_tables.specs.Listings.{Listing}
 use Rattle.entry_arena.specs.declared.entry.Entry.{Entry}
 use Rattle.entry_arena.specs.declared.entry.ChainEnd.{ChainEnd}
 use Rattle.entry_arena.specs.Arena.{Arena, entry_at, value_at}
-use Rattle.entry_arena.specs.Trees.{Listed, SpellsBetween, declared_at}
+use Rattle.entry_arena.specs.Trees.{Listed}
 use Rattle.entry_arena.specs.Walks.{IsWhole}
 use Rattle.entry_read.specs.declared.head.UnitHead.{UnitHead}
 use Rattle.entry_read.specs.Heads.{IsHead}
 use Rattle.entry_read.specs.Units.{HeadAndForest, entries_at, declarations_of, IsUnit, IsUnitHeld}
-use Rattle.unit_write.specs.Values.{with_number, IsWritten}
+use Rattle.entry_read.specs.Short.{StandsShort, EndsShort}
+use Rattle.unit_write.specs.Values.{with_number}
 use Rattle.unit_write.specs.Placing.{EntrySize, ArePlaced}
 
 -- an entry is where it was among the entries, with the declaration that has its new number
@@ -66,20 +66,6 @@ pub record IsMovedHead (old new : UnitHead) (start end new_table type_offset : �
   pub extra : new.extra ≡ old.extra
   pub type_at : new.type_at ≡ type_offset
 
--- the values of columns stand in the bytes that are written for them, one after the other from a place up to another
-abbrev pub WrittenBetween : List ℕ → List Spec → List Value → ℕ → ℕ → Type 0
-WrittenBetween section [] [] from to = from ≡ to
-WrittenBetween section [] (v ∷ vs) from to = ⊥
-WrittenBetween section (c ∷ cs) [] from to = ⊥
-WrittenBetween section (c ∷ cs) (v ∷ vs) from to = (next : ℕ) × SpellsBetween (IsWritten c (meant_in section v)) section from next × WrittenBetween section cs vs next to
-
--- An entry stands without a byte too many: its code is shortest, and so is each value in its form, but that DW_FORM_ref_udata has
--- five bytes.
-pub record StandsShort (section : List ℕ) (ds : List Declared) (values : List Value) (e : Entry) : Type 0 where
-  pub values_at : ℕ
-  pub coded : SpellsBetween (ShortestUnsigned ((declared_at ds e.decl).code)) section e.at values_at
-  pub valued : WrittenBetween section ((declared_at ds e.decl).columns) (take e.count (drop e.first values)) values_at (e.at + e.len)
-
 -- The unit stands in the section from a place to its end, and no bytes follow its tree; its entries, values and codes 0 are
 -- those of the old unit at their new places, with these numbers. No byte is too many.
 pub record IsWrittenAnew (unit : HeadAndForest) (table : Listing) (columns : List Spec) (numbers : List ℕ) (ds : List Declared) (new_table type_at : ℕ) (held : List ℕ) (start : ℕ) (section : List ℕ) : Type 0 where
@@ -93,4 +79,5 @@ pub record IsWrittenAnew (unit : HeadAndForest) (table : Listing) (columns : Lis
   pub values : AreMovedValues unit.forest held section forest
   pub ends : AllZip IsMovedEnd unit.forest.ends forest.ends
   pub short : (id : ℕ) → id < length forest.entries → StandsShort section ds forest.values (entry_at forest.entries id)
+  pub ends_short : All (EndsShort section) forest.ends
   pub placed : IsPlacedAt unit table columns numbers start (map (λ (e : Entry). e.at) forest.entries) (map (λ (e : ChainEnd). e.at) forest.ends) (length section)

@@ -1,12 +1,12 @@
--- The bytes of a value that is written: with shortest LEB128 numbers, but for DW_FORM_ref_udata, which has five bytes, so that
--- its size doesn't depend on its number (DWARF 5 sections 7.5.5 and 7.5.6).
-use Rattle.std.specs.Prelude.{◌≡◌, ◌≢◌, ◌⊎◌, ◌+◌, ℕ, List, [], ◌∷◌, length, Bool, true, false}
-use Rattle.form_codec.specs.declared.form.Form.TheVariants.{RefUdata}
+-- How many bytes a value takes that is written (DWARF 5 sections 7.5.5 and 7.5.6). The size doesn't depend on its number where that
+-- follows what it names.
+use Rattle.std.specs.Prelude.{◌≡◌, ◌+◌, ℕ, List, [], ◌∷◌, length, Bool, true, false}
 use Rattle.form_codec.specs.declared.value.Value.{Value}
-use Rattle.form_codec.specs.Forms.{Meaning, code_of, SpellsValue, SpellsShortest}
+use Rattle.form_codec.specs.Forms.{Meaning}
 use Rattle.form_codec.specs.Forms.Meaning.{InUnit, InSection, SectionPlace}
 use Rattle.form_codec.specs.Values.{meant_in}
 use Rattle.abbrev_tables.specs.declared.decl.Spec.{Spec}
+use Rattle.entry_read.specs.Short.{IsWritten}
 
 -- a reference or a section offset: a number that follows what it names
 abbrev pub is_moving : Meaning → Bool
@@ -21,10 +21,6 @@ with_number new (InUnit n) = InUnit new
 with_number new (InSection n) = InSection new
 with_number new (SectionPlace n) = SectionPlace new
 with_number new meaning = meaning
-
--- These bytes are written for the value of a column.
-abbrev pub IsWritten : Spec → Meaning → List ℕ → Type 0
-IsWritten column meaning bytes = SpellsValue column.form column.constant meaning bytes × (((column.form ≡ code_of RefUdata) × (length bytes ≡ 5)) ⊎ ((column.form ≢ code_of RefUdata) × SpellsShortest column.form meaning bytes))
 
 -- So many bytes are written for the value of a column, whatever number it gets.
 abbrev pub HasSize : Spec → Meaning → ℕ → Type 0

@@ -1,6 +1,6 @@
 // What stands next among the entries of a unit and its codes 0.
 ghost use Rattle.std.specs.Prelude.{◌≡◌, ◌<◌, ◌-◌, ◌+◌, ◌^◌, length, IfSome, IsTrue, ◌↔◌};
-ghost use Rattle.unit_write.specs.Readings.{IsEndNext, GoesOn};
+ghost use Rattle.unit_write.specs.inside.Readings.{IsEndNext, GoesOn};
 
 use entry_arena::Forest;
 

@@ -1,4 +1,6 @@
 // Laws of the definitions.
+ghost use Rattle.std.specs.Prelude.{◌<◌, ◌^◌, length};
+ghost use Rattle.spelled.specs.Spelled.{AreBytes};
 ghost use Rattle.unit_write.specs.Values.{OneSize};
 ghost use Rattle.unit_write.specs.Placing.{OnePlacing};
 ghost use Rattle.unit_write.specs.Sizes.{NumbersHaveSizes, ShortestHaveSizes};
@@ -20,3 +22,11 @@ pub fn values_have_sizes()
     ensures numbers { NumbersHaveSizes }
     ensures others { ShortestHaveSizes }
 {}
+
+/// A law: contracts see a slice as a list of numbers, which has fewer than 2^63, and each is a byte.
+pub fn bytes_are_small(section: &[u8])
+    ensures few { length section.now < 2 ^ 63 }
+    ensures small { AreBytes section.now }
+{
+    let _section = section;
+}

@@ -12,6 +12,6 @@ mod write;
 #[cfg(test)]
 mod write_tests;
 
-pub use laws::{one_placing, one_size, values_have_sizes};
+pub use laws::{bytes_are_small, one_placing, one_size, values_have_sizes};
 pub use places::{Places, place_unit};
 pub use write::{NewNumbers, write_unit};

@@ -1,7 +1,8 @@
 // Where entries and codes 0 stand, counted by hand from DWARF 5 sections 7.5 and 7.6.
 ghost use Rattle.std.specs.Prelude.{◌≡◌, ◌≢◌, ◌<◌, ◌+◌, length, IsTrue};
 ghost use Rattle.std.specs.List.{All};
-ghost use Rattle.entry_read.specs.Heads.{IsHead, least_reserved};
+ghost use Rattle.fixed_width.specs.InitialLengths.{least_reserved};
+ghost use Rattle.entry_read.specs.Heads.{IsHead};
 ghost use Rattle.entry_read.specs.Units.{declarations_of, IsTable, IsUnitHeld};
 ghost use Rattle.unit_write.specs.Most.{most_bytes};
 
@@ -69,15 +70,12 @@ pub(crate) fn has_room(unit: &Unit<'_>, start: u64) -> bool
 }
 
 // Whether these are new codes of the declarations of a table without columns.
-fn are_codes(alloc: Global, table: &Table, numbers: &Vec<u32>) -> bool
+fn are_codes(table: &Table, numbers: &Vec<u32>) -> bool
     ensures bare { IsTrue result → length table.now.specs ≡ 0 }
     ensures numbered { IsTrue result → length numbers.now.items ≡ length table.now.decls }
     ensures used { IsTrue result → All (λ number. number ≢ 0) numbers.now.items }
 {
-    let Ok(columns) = table.specs(alloc) else {
-        return false;
-    };
-    columns.is_empty()
+    table.specs().is_empty()
         && numbers.len() == table.len() as usize
         && numbers.iter().all(|number| *number != 0)
 }
@@ -94,7 +92,7 @@ fn place_bare(
     requires held { IsUnitHeld unit.now.forest.section unit.now.head (declarations_of table.now) unit.now.forest }
 {
     let numbers = numbers.to_vec(alloc)?;
-    if !are_codes(alloc, table, &numbers) {
+    if !are_codes(table, &numbers) {
         return Err("no codes")?;
     }
     if !has_room(unit, start) {

@@ -1,18 +1,19 @@
 // Where the entries of a unit stand when it is written anew.
 ghost use Rattle.std.specs.Prelude.{◌≡◌, ◌≤◌, ◌<◌, ◌+◌, ◌^◌, ℕ, List, length, slice_index, IfOk, OnOk};
 ghost use Rattle.std.specs.List.{All};
-ghost use Rattle.spelled.specs.Spelled.{AreBytes};
 ghost use Rattle.leb_codec.specs.Leb.{least_unsigned_len};
 ghost use Rattle.form_codec.specs.Values.{IsValueIn};
 ghost use Rattle.entry_arena.specs.Arena.{entry_at};
-ghost use Rattle.entry_read.specs.Heads.{least_reserved};
+ghost use Rattle.fixed_width.specs.InitialLengths.{least_reserved};
 ghost use Rattle.unit_write.specs.Values.{HaveSize};
 ghost use Rattle.unit_write.specs.Placing.{EntrySize, values_in};
-ghost use Rattle.unit_write.specs.Most.{most_bytes, HaveRoom, HasRoom};
+ghost use Rattle.unit_write.specs.Most.{most_bytes};
+ghost use Rattle.unit_write.specs.inside.Most.{HaveRoom, HasRoom};
 ghost use Rattle.unit_write.specs.Moved.{IsWritable, IsPlacedAt};
-ghost use Rattle.unit_write.specs.Readings.{AreStanding, HasItem, PutsItem};
+ghost use Rattle.unit_write.specs.inside.Readings.{AreStanding, HasItem, PutsItem};
 
 use crate::items::{Items, Next};
+use crate::laws::bytes_are_small;
 use crate::parts::{new_columns, values_of};
 use crate::values::written_size;
 use abbrev_tables::{Spec, Table};
@@ -34,14 +35,6 @@ pub struct Places {
     pub ends: Vec<u32>,
     /// The place after the unit's last byte.
     pub end: u64,
-}
-
-/// Contracts see a slice as a list of numbers. It has fewer than 2^63, and each is a byte.
-pub(crate) fn bytes_are_small(section: &[u8])
-    ensures few { length section.now < 2 ^ 63 }
-    ensures small { AreBytes section.now }
-{
-    let _section = section;
 }
 
 // Contracts see the new codes as a list of numbers. Each is below 2^32.

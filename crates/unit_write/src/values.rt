@@ -1,17 +1,17 @@
 // The bytes of values that are written.
-ghost use Rattle.std.specs.Prelude.{◌≡◌, ◌<◌, ◌≤◌, ◌^◌, ◌++◌, ℕ, ℤ, List, length, OnOk, OnErr};
+ghost use Rattle.std.specs.Prelude.{◌≡◌, ◌<◌, ◌≤◌, ◌^◌, ℕ, ℤ, List, length, OnOk, OnErr};
 ghost use Rattle.spelled.specs.Spelled.{Appends};
 ghost use Rattle.leb_codec.specs.Digits.{Extends};
 ghost use Rattle.form_codec.specs.Forms.{shape_of};
 ghost use Rattle.form_codec.specs.Values.{meant_in, LiesIn, IsValueIn};
-ghost use Rattle.form_codec.specs.Written.{low_bytes};
-ghost use Rattle.unit_write.specs.Values.{is_moving, with_number, IsWritten, HasSize};
+ghost use Rattle.entry_read.specs.Short.{IsWritten};
+ghost use Rattle.unit_write.specs.Values.{is_moving, with_number, HasSize};
 ghost use Rattle.unit_write.specs.Moved.{IsRoomy};
-ghost use Rattle.unit_write.specs.Puts.{number_size as size_of_number, PutsNumber};
+ghost use Rattle.unit_write.specs.inside.Puts.{number_size as size_of_number, PutsNumber};
 
 use abbrev_tables::Spec;
 use dw_base::NoMemory;
-use form_codec::{Form, Shape, Value, Width, spelled_size, write_value};
+use form_codec::{Form, Shape, Value, put_low, spelled_size, write_value};
 use leb_codec::put_padded;
 
 // The bytes of DW_FORM_ref_udata: enough for each number below 2^35.
@@ -51,16 +51,6 @@ pub(crate) fn written_size(column: Spec, value: &Value) -> u64
         Some(form) => number_size(form),
         None => 0,
     }
-}
-
-/// Appends as many bytes of a number as a width has, the lowest first.
-pub(crate) fn put_low(out: &mut Vec<u8>, width: Width, number: u64) -> Result<(), NoMemory>
-    ensures ok { OnOk result (out.new.items ≡ out.old.items ++ low_bytes width number) }
-    ensures err { OnErr result (Extends out.old.items out.new.items) }
-{
-    let bytes = number.to_le_bytes();
-    out.extend_from_slice(&bytes[..usize::from(width.size())])?;
-    Ok(())
 }
 
 /// Appends a reference or a section offset in a form: DW_FORM_ref_udata has five bytes, and a form of fixed size its own.

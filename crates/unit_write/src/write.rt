@@ -7,30 +7,27 @@ ghost use Rattle.form_codec.specs.Values.{LiesIn};
 ghost use Rattle.abbrev_tables.specs.Tables.{Declared};
 ghost use Rattle.entry_arena.specs.Trees.{listed_to};
 ghost use Rattle.entry_arena.specs.Walks.{IsWhole};
-ghost use Rattle.entry_read.specs.Heads.{least_reserved, type_unit};
+ghost use Rattle.fixed_width.specs.InitialLengths.{least_reserved};
+ghost use Rattle.entry_read.specs.Heads.{type_unit};
 ghost use Rattle.unit_write.specs.Values.{HaveSize};
 ghost use Rattle.unit_write.specs.Placing.{IsRenumbered};
 ghost use Rattle.unit_write.specs.Moved.{IsRoomy, IsWritable, IsPlacedAt, IsWrittenAnew};
-ghost use Rattle.unit_write.specs.Readings.{HasItem};
-ghost use Rattle.unit_write.specs.Puts.{PutsValues, PutsEntry, PutsItems, PutsNext, own_bytes, header_bytes};
+ghost use Rattle.unit_write.specs.inside.Readings.{HasItem};
+ghost use Rattle.unit_write.specs.inside.Puts.{PutsValues, PutsEntry, PutsItems, PutsNext, own_bytes, header_bytes};
 
 use crate::items::{Items, Next};
 use crate::parts::{new_columns, part, values_of};
-use crate::values::{put_low, put_value};
+use crate::values::put_value;
 use abbrev_tables::{Spec, Table};
 use dw_base::NoMemory;
+use dw_base::constants::{DW_UT_SKELETON, DW_UT_TYPE};
 use entry_read::{Unit, UnitHead};
-use form_codec::{Value, Width};
+use form_codec::{Value, Width, put_low};
 use leb_codec::put_u;
 
 const VERSION: u64 = 5;
 
 const ADDRESS_SIZE: u8 = 8;
-
-// DW_UT_type and DW_UT_skeleton
-const TYPE: u8 = 2;
-
-const SKELETON: u8 = 4;
 
 /// The new numbers of a unit.
 #[derive(Drop)]
@@ -52,11 +49,11 @@ fn put_own(out: &mut Vec<u8>, kind: u8, extra: u64, type_offset: u64) -> Result<
     ensures err { OnErr result (Extends out.old.items out.new.items) }
 {
     match kind {
-        TYPE => {
+        DW_UT_TYPE => {
             put_low(out, Width::Eight, extra)?;
             put_low(out, Width::Four, type_offset)
         }
-        SKELETON => put_low(out, Width::Eight, extra),
+        DW_UT_SKELETON => put_low(out, Width::Eight, extra),
         _ => Ok(()),
     }
 }

@@ -10,9 +10,9 @@ ghost use Rattle.unit_write.specs.Placing.{columns_of, values_in};
 ghost use Rattle.unit_write.specs.Moved.{IsRoomy, IsWritable};
 ghost use Rattle.unit_write.specs.Sizes.{HoldsNumber};
 
+use crate::laws::bytes_are_small;
 use crate::parts::{new_columns, values_of};
 use crate::place_tests::has_room;
-use crate::places::bytes_are_small;
 use crate::values::{moves, put_number};
 use crate::write::put_head;
 use crate::{NewNumbers, place_unit, write_unit};
@@ -169,22 +169,13 @@ fn are_used(numbers: &[u32]) -> bool
 }
 
 // Whether a unit can be written with these columns and codes.
-fn is_writable(
-    alloc: Global,
-    unit: &Unit<'_>,
-    table: &Table,
-    specs: &Vec<Spec>,
-    numbers: &Vec<u32>,
-) -> bool
+fn is_writable(unit: &Unit<'_>, table: &Table, specs: &Vec<Spec>, numbers: &Vec<u32>) -> bool
     requires head { IsHead unit.now.forest.section unit.now.head }
     requires held { IsUnitHeld unit.now.forest.section unit.now.head (declarations_of table.now) unit.now.forest }
     ensures { IsTrue result → IsWritable unit.now table.now specs.now.items numbers.now.items }
 {
     bytes_are_small(unit.forest().section());
-    let Ok(old) = table.specs(alloc) else {
-        return false;
-    };
-    if specs.len() != old.len() || numbers.len() != table.len() as usize {
+    if specs.len() != table.specs().len() || numbers.len() != table.len() as usize {
         return false;
     }
     if !are_roomy(specs) {
@@ -215,7 +206,7 @@ fn write_sized(
     if !narrow || held.len() != unit.forest().value_count() as usize {
         return Err("no numbers")?;
     }
-    if !is_writable(alloc, unit, table, &specs, &numbers) {
+    if !is_writable(unit, table, &specs, &numbers) {
         return Err("not writable")?;
     }
     if !has_room(unit, 2) {

@@ -14,12 +14,12 @@ use Rattle.form_codec.specs.Values.{meant_in}
 use Rattle.entry_arena.specs.Arena.{value_at}
 use Rattle.value_links.specs.Attributes.{OffsetClass, offset_class, is_among, loclists_base, rnglists_base}
 use Rattle.value_links.specs.Attributes.OffsetClass.{LinePtr, RngList, LocList, RngListsPtr, LocListsPtr, AddrPtr, StrOffsetsPtr, MacPtr, Views, NoOffset}
-use Rattle.value_links.specs.Reading.{Reading, unit_at}
+use Rattle.value_links.specs.Reading.{Linkable, unit_at}
 use Rattle.value_links.specs.Values.{root_of}
-use Rattle.value_links.specs.Resolved.{Resolved, OffsetMeans, Resolves}
-use Rattle.value_links.specs.Resolved.Resolved.{Itself, Refers, Program, Kept}
+use Rattle.value_links.specs.Linked.{Linked, OffsetLinks, Links}
+use Rattle.value_links.specs.Linked.Linked.{Itself, Refers, Program, Kept}
 use Rattle.value_links.specs.Faults.{NamesNothing, unread_opcodes, IsUnread, FaultValue}
-use Rattle.value_links.specs.Checks.{IsBaseCause, IsCause}
+use Rattle.value_links.specs.inside.Checks.{IsBaseCause, IsCause}
 
 -- EXPRESSIONS
 
@@ -69,8 +69,8 @@ own_count values first count inside = let size : length (drop first values) ≡ 
 
 -- CAUSES
 
-module _ (r : Reading) (u id name : ℕ) where
-  offset_cause : (class : OffsetClass) (n : ℕ) → ((w : Resolved) → OffsetMeans r u id class n w → ⊥) → NamesNothing r u id class n
+module _ (r : Linkable) (u id name : ℕ) where
+  offset_cause : (class : OffsetClass) (n : ℕ) → ((w : Linked) → OffsetLinks r u id class n w → ⊥) → NamesNothing r u id class n
   offset_cause LinePtr n none = λ (p, here). none (Program p) (p, here, refl)
   offset_cause RngList n none = tt
   offset_cause LocList n none = tt
@@ -92,8 +92,8 @@ module _ (r : Reading) (u id name : ℕ) where
   range_cause i NoBase none = none
   range_cause i kind other = absurd other
 
-  -- the cause is the fault of a value that means nothing
-  pub cause_is : (section : List ℕ) (v : Value) (kind : Kind) → ((w : Resolved) → Resolves r u id name (meant_in section v) w → ⊥) → IsCause (root_of (unit_at r u)).attributes v kind → FaultValue r u id name (meant_in section v) kind
+  -- the cause is the fault of a value that refers to nothing
+  pub cause_is : (section : List ℕ) (v : Value) (kind : Kind) → ((w : Linked) → Links r u id name (meant_in section v) w → ⊥) → IsCause (root_of (unit_at r u)).attributes v kind → FaultValue r u id name (meant_in section v) kind
   cause_is section (value.LocalRef n) kind none is = subst (λ (z : Kind). FaultValue r u id name (InUnit n) z) (sym is) (λ (target, here). none (Refers u target) (target, here, refl))
   cause_is section (value.SectionRef n) kind none is = subst (λ (z : Kind). FaultValue r u id name (InSection n) z) (sym is) (λ (unit, target, here). none (Refers unit target) (unit, target, here, refl))
   cause_is section (value.Offset n) kind none is = subst (λ (z : Kind). FaultValue r u id name (SectionPlace n) z) (sym is) (offset_cause (offset_class name) n none)

@@ -1,26 +1,27 @@
--- The context of a unit's lists, by what is held of its file.
-use Rattle.std.proofs.Common.{◌≡◌, ◌<◌, ◌∙◌, ℕ, List, length, ap, subst}
+-- The contexts of units, by what is held of them.
+use Rattle.std.proofs.Common.{◌≡◌, ◌<◌, ◌+◌, ◌++◌, ◌∙◌, inl, inr, ℕ, suc, List, [], ◌∷◌, length, get_or, sym, ap, subst, arith}
 use Rattle.std.specs.Prelude.{Option, Some, None, IfSome, MatchOption}
+use Rattle.std.specs.List.{AllZip}
+use Rattle.std.proofs.Math.Seq.{get_or-append_seam}
+use Rattle.std.proofs.lemmas.Bool.{cases_lt}
+use Rattle.std.proofs.lemmas.List.{get_or_append_left}
 use Rattle.form_codec.specs.Forms.{Meaning}
 use Rattle.abbrev_tables.specs.Listings.{Listing}
 use Rattle.entry_read.specs.Units.{HeadAndForest, declarations_of}
-use Rattle.dw_base.specs.declared.fault.Fault.{Fault}
-use Rattle.dw_base.specs.Refusals.{IsFaultOf}
 use Rattle.list_model.specs.declared.context.Context.{Context}
 use Rattle.list_model.specs.declared.tables.AddrTable.{AddrTable}
 use Rattle.list_model.specs.Addresses.{IsAddrTable, HasBase}
-use Rattle.list_model.specs.Faults.{FaultBefore}
-use Rattle.list_model.specs.Laws.{TablesWhole}
-use Rattle.value_links.specs.Sections.{debug_addr}
+use Rattle.value_links.specs.declared.units.Units.{Units}
 use Rattle.value_links.specs.Attributes.{addr_base}
-use Rattle.value_links.specs.Reading.{Reading, unit_at}
+use Rattle.value_links.specs.Reading.{UnitRead, no_unit, no_context, unit_among}
 use Rattle.value_links.specs.Values.{root_of, IsFirstBase}
-use Rattle.value_links.specs.Links.{held_at}
-use Rattle.value_links.specs.World.{World, head_and_forest, own_table, Holds}
-use Rattle.value_links.specs.Checks.{root_attributes}
+use Rattle.value_links.specs.Parts.{HoldUnits}
+use Rattle.value_links.specs.inside.Checks.{root_attributes, table_held, AreContextsHeld}
 use Rattle.value_links.specs.Contexts.{IsTableOf, IsContext}
+use Rattle.value_links.specs.Whole.{AreContexts}
+use Rattle.value_links.proofs.Bases.{one_base}
 use Rattle.value_links.proofs.HeldUnits.{held_count, held_is}
-use Rattle.value_links.proofs.RootValues.{one_base}
+use Rattle.value_links.proofs.TabledUnits.{table_is}
 
 -- THE TABLE
 
@@ -29,9 +30,6 @@ module _ (addr : List ℕ) (attributes : List (ℕ × Meaning)) (base : ℕ) (fi
   table_found (Some table) has = (base, first, has)
   table_found None none = λ table (other, is, has). none table (subst (λ (b : ℕ). HasBase addr b table) (one_base attributes addr_base other base is first) has)
 
-  pub table_faulty : (origin : ℕ) (fault : Fault) → TablesWhole → IsFaultOf (FaultBefore addr base) origin fault → IsTableOf addr attributes None
-  table_faulty origin fault whole (place, at, faulty) = λ table (other, is, has). whole addr base table (subst (λ (b : ℕ). HasBase addr b table) (one_base attributes addr_base other base is first) has) (fault.kind, place, faulty)
-
 -- a table that is found is one
 pub table_stands : (addr : List ℕ) (attributes : List (ℕ × Meaning)) (found : Option AddrTable) → IsTableOf addr attributes found → IfSome found (IsAddrTable addr)
 table_stands addr attributes (Some table) (base, first, has) = has.stands
@@ -39,16 +37,31 @@ table_stands addr attributes None none = tt
 
 -- WHAT IS HELD
 
-module _ (file addr : List ℕ) (world : World) (r : Reading) (holds : Holds file world r) (u : ℕ) (inside : u < length world.units) where
-  known : u < length r.units
-  known = subst (λ (n : ℕ). u < n) (held_count r.units world.units holds.units) inside
+zip_each : {A B : Type 0} (R : A → B → Type 0) (xs : List A) (ys : List B) (d : A) (e : B) → length ys ≡ length xs → ((i : ℕ) → i < length xs → R (get_or xs i d) (get_or ys i e)) → AllZip R xs ys
+zip_each R [] [] d e size each = tt
+zip_each R [] (y ∷ ys) d e size each = absurd (omega arith)
+zip_each R (x ∷ xs) [] d e size each = absurd (omega arith)
+zip_each R (x ∷ xs) (y ∷ ys) d e size each = (each 0 (omega arith), zip_each R xs ys d e (omega arith) (λ i inside. each (suc i) (omega arith)))
 
-  -- a context by what is held is one by what is read
-  pub context_held : (unit : HeadAndForest) (table : Listing) (context : Context) → unit ≡ held_at world.units u → table ≡ own_table world u → addr ≡ debug_addr world.image → IsContext addr (root_attributes unit.forest (declarations_of table)) context → IsContext (debug_addr file) (root_of (unit_at r u)).attributes context
-  context_held unit table context e f g is =
-      let unit_is : unit ≡ head_and_forest (unit_at r u) = e ∙ held_is r.units world.units holds.units u known in
-      let table_is : table ≡ (unit_at r u).table = f ∙ ap (λ z. z.table) (holds.tables.each u known) in
-      let body : addr ≡ debug_addr file = g ∙ ap debug_addr holds.image in
-      subst (λ (z : List ℕ). IsContext z (root_of (unit_at r u)).attributes context) body
-      (subst (λ (z : HeadAndForest). IsContext addr (root_attributes z.forest (declarations_of (unit_at r u).table)) context) unit_is
-      (subst (λ (z : Listing). IsContext addr (root_attributes unit.forest (declarations_of z)) context) table_is is))
+-- the contexts by what is held are those by what was read
+pub contexts_read : (addr : List ℕ) (read : List UnitRead) (held : Units) (contexts : List Context) → HoldUnits read held → AreContextsHeld addr held contexts → AreContexts addr read contexts
+contexts_read addr read held contexts holds are =
+    let counted : length held.units.items ≡ length read = held_count read held.units.items holds.units in
+    zip_each (λ (unit : UnitRead) (context : Context). IsContext addr (root_of unit).attributes context) read contexts no_unit no_context (are.count ∙ counted) context_read
+  where
+    context_read : (u : ℕ) → u < length read → IsContext addr (root_of (unit_among read u)).attributes (get_or contexts u no_context)
+    context_read u known =
+        let counted : length held.units.items ≡ length read = held_count read held.units.items holds.units in
+        let here = are.each u (subst (λ (n : ℕ). u < n) (sym counted) known) in
+        subst (λ (z : Listing). IsContext addr (root_attributes (unit_among read u).forest (declarations_of z)) (get_or contexts u no_context)) (table_is read held u holds known)
+        (subst (λ (z : HeadAndForest). IsContext addr (root_attributes z.forest (declarations_of (table_held held u))) (get_or contexts u no_context)) (held_is read held.units.items holds.units u known) here)
+
+-- one more context
+pub one_more : (P : ℕ → Context → Type 0) (contexts : List Context) (context : Context) (n : ℕ) → length contexts ≡ n → ((u : ℕ) → u < n → P u (get_or contexts u no_context)) → P n context → (u : ℕ) → u < n + 1 → P u (get_or (contexts ++ context ∷ []) u no_context)
+one_more P contexts context n size each new u inside = elim (cases_lt u n) [
+  | inl before ↦ subst (P u) (sym (get_or_append_left contexts (context ∷ []) no_context u (omega arith))) (each u before)
+  | inr here ↦
+      let same : length contexts ≡ u = omega arith in
+      let there : get_or (contexts ++ context ∷ []) u no_context ≡ context = ap (λ (i : ℕ). get_or (contexts ++ context ∷ []) i no_context) (sym same) ∙ get_or-append_seam contexts context [] no_context in
+      subst (λ (i : ℕ). P i (get_or (contexts ++ context ∷ []) u no_context)) (sym size ∙ same) (subst (P n) (sym there) new)
+]

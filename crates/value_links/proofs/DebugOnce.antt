@@ -1,30 +1,23 @@
 -- A file means one thing.
-use Rattle.std.proofs.Common.{◌≡◌, ◌<◌, ◌+◌, ◌∙◌, ℕ, List, [], ◌∷◌, length, get_or, sym, ap, subst, refl}
+use Rattle.std.proofs.Common.{◌≡◌, ◌<◌, ◌+◌, ◌∙◌, ℕ, List, [], length, get_or, sym, ap, subst, refl}
 use Rattle.std.specs.Prelude.{Option, Some, None, Bool, false}
-use Rattle.std.specs.List.{AllZip}
 use Rattle.std.proofs.lemmas.List.{same_lists}
 use Rattle.form_codec.specs.Forms.{Meaning}
 use Rattle.entry_arena.specs.Forests.{Described}
 use Rattle.line_write.specs.Meaning.{ProgramMeaning}
 use Rattle.line_write.proofs.Tiling.{meaning_once as one_lines}
 use Rattle.value_links.specs.Sections.{debug_line}
-use Rattle.value_links.specs.Reading.{Reading, line_heads, unit_at, IsReadToLinks, IsReading}
+use Rattle.value_links.specs.Reading.{Reading, line_heads, unit_at}
+use Rattle.value_links.specs.Whole.{IsReading}
 use Rattle.value_links.specs.Resolved.{Resolved}
 use Rattle.value_links.specs.Debug.{EntryMeaning, UnitMeaning, SetMeaning, Debug, described, MeansAttribute, MeansEntry, MeansType, MeansUnit, MeansDebug}
 use Rattle.value_links.specs.Laws.{OneDebug}
 use Rattle.value_links.proofs.Targets.{entry_once}
-use Rattle.value_links.proofs.MeaningLaws.{targets, meaning_once}
-use Rattle.value_links.proofs.ReadingOnce.{reading_once}
+use Rattle.value_links.proofs.LinkedOnce.{targets}
+use Rattle.value_links.proofs.MeaningLaws.{meaning_once}
+use Rattle.value_links.proofs.ReadingOnce.{zip_once, reading_once}
 
-zip_once : {A B : Type 0} (R : A → B → Type 0) → ((a : A) (x y : B) → R a x → R a y → x ≡ y) → (items : List A) (xs ys : List B) → AllZip R items xs → AllZip R items ys → xs ≡ ys
-zip_once R one [] [] [] p q = refl
-zip_once R one [] [] (y ∷ ys) p q = absurd q
-zip_once R one [] (x ∷ xs) ys p q = absurd p
-zip_once R one (a ∷ items) [] ys p q = absurd p
-zip_once R one (a ∷ items) (x ∷ xs) [] p q = absurd q
-zip_once R one (a ∷ items) (x ∷ xs) (y ∷ ys) (p, ps) (q, qs) = ap (λ z. z ∷ xs) (one a x y p q) ∙ ap (λ z. y ∷ z) (zip_once R one items xs ys ps qs)
-
-module _ (file : List ℕ) (r : Reading) (read : IsReadToLinks file r) (u : ℕ) (inside : u < length r.units) where
+module _ (file : List ℕ) (r : Reading) (read : IsReading file r) (u : ℕ) (inside : u < length r.links.units) where
   attribute_once : (id : ℕ) (stands : ℕ × Meaning) (x y : ℕ × Resolved) → MeansAttribute r u id stands x → MeansAttribute r u id stands y → x ≡ y
   attribute_once id stands x y p q =
       let name : x.0 ≡ y.0 = p.name ∙ sym q.name in
@@ -39,8 +32,8 @@ module _ (file : List ℕ) (r : Reading) (read : IsReadToLinks file r) (u : ℕ)
       ∙ ap (λ (z : Bool). record { depth = y.depth; tag = y.tag; children = z; attributes = x.attributes }) (p.children ∙ sym q.children)
       ∙ ap (λ (z : List (ℕ × Resolved)). record { depth = y.depth; tag = y.tag; children = y.children; attributes = z }) attributes
 
-  type_once : (x y : Option ℕ) → MeansType r u x → MeansType r u y → x ≡ y
-  type_once (Some i) (Some j) (kind, here) (same, there) = ap (λ (z : ℕ). Some z) (entry_once (unit_at r u).forest (targets file r read u inside).order i j ((unit_at r u).head.at + (unit_at r u).head.type_at) here there)
+  type_once : (x y : Option ℕ) → MeansType r.links u x → MeansType r.links u y → x ≡ y
+  type_once (Some i) (Some j) (kind, here) (same, there) = ap (λ (z : ℕ). Some z) (entry_once (unit_at r.links u).forest (targets file r.links read.links u inside).order i j ((unit_at r.links u).head.at + (unit_at r.links u).head.type_at) here there)
   type_once (Some i) None (kind, here) other = absurd (other kind)
   type_once None (Some j) other (kind, here) = absurd (other kind)
   type_once None None p q = refl
@@ -49,7 +42,7 @@ module _ (file : List ℕ) (r : Reading) (read : IsReadToLinks file r) (u : ℕ)
   unit_once x y p q =
       let size : length x.forest ≡ length y.forest = p.forest.count ∙ sym q.forest.count in
       let none : Described = record { depth = 0; tag = 0; children = false; attributes = [] } in
-      let forest : x.forest ≡ y.forest = same_lists x.forest y.forest size (λ id d known. entry_same id (get_or (described (unit_at r u)) id none) (get_or x.forest id d) (get_or y.forest id d) (p.forest.each id none d known) (q.forest.each id none d (subst (λ (z : ℕ). id < z) size known))) in
+      let forest : x.forest ≡ y.forest = same_lists x.forest y.forest size (λ id d known. entry_same id (get_or (described (unit_at r.links u)) id none) (get_or x.forest id d) (get_or y.forest id d) (p.forest.each id none d known) (q.forest.each id none d (subst (λ (z : ℕ). id < z) size known))) in
       ap (λ (z : ℕ). record { unit_type = z; signature = x.signature; type_entry = x.type_entry; forest = x.forest }) (p.unit_type ∙ sym q.unit_type)
       ∙ ap (λ (z : ℕ). record { unit_type = y.unit_type; signature = z; type_entry = x.type_entry; forest = x.forest }) (p.signature ∙ sym q.signature)
       ∙ ap (λ (z : Option ℕ). record { unit_type = y.unit_type; signature = y.signature; type_entry = z; forest = x.forest }) (type_once x.type_entry y.type_entry p.type_entry q.type_entry)
@@ -59,9 +52,9 @@ module _ (file : List ℕ) (r : Reading) (read : IsReadToLinks file r) (u : ℕ)
 meant_once : (file : List ℕ) (r : Reading) (a b : Debug) → IsReading file r → MeansDebug file r a → MeansDebug file r b → a ≡ b
 meant_once file r a b read p q =
     let size : length a.units ≡ length b.units = p.units.count ∙ sym q.units.count in
-    let units : a.units ≡ b.units = same_lists a.units b.units size (λ u d inside. unit_once file r read.parts u (subst (λ (z : ℕ). u < z) p.units.count inside) (get_or a.units u d) (get_or b.units u d) (p.units.each u d inside) (q.units.each u d (subst (λ (z : ℕ). u < z) size inside))) in
-    let tiled = read.parts.programs.tiled in
-    let programs : a.programs ≡ b.programs = one_lines (debug_line file) a.programs b.programs (line_heads r.programs, tiled, p.programs) (line_heads r.programs, tiled, q.programs) in
+    let units : a.units ≡ b.units = same_lists a.units b.units size (λ u d inside. unit_once file r read u (subst (λ (z : ℕ). u < z) p.units.count inside) (get_or a.units u d) (get_or b.units u d) (p.units.each u d inside) (q.units.each u d (subst (λ (z : ℕ). u < z) size inside))) in
+    let tiled = read.links.programs.tiled in
+    let programs : a.programs ≡ b.programs = one_lines (debug_line file) a.programs b.programs (line_heads r.links.programs, tiled, p.programs) (line_heads r.links.programs, tiled, q.programs) in
     ap (λ (z : List ProgramMeaning). record { programs = z; units = a.units; aranges = a.aranges }) programs
     ∙ ap (λ (z : List UnitMeaning). record { programs = b.programs; units = z; aranges = a.aranges }) units
     ∙ ap (λ (z : List SetMeaning). record { programs = b.programs; units = b.units; aranges = z }) (p.aranges ∙ sym q.aranges)

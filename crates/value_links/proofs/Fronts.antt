@@ -1,7 +1,7 @@
 -- The front of the units of a section: what is held of it, one unit more, the faults after it, and the end.
 use Rattle.std.proofs.Common.{◌≡◌, ◌≤◌, ◌<◌, ◌+◌, ◌∙◌, ◌++◌, inl, inr, ℕ, suc, List, [], ◌∷◌, length, get_or, take, drop, map, sym, ap, subst, refl, add-one, arith}
 use Rattle.std.specs.List.{All, Contains, sum_by}
-use Rattle.std.proofs.Math.Seq.{take-suc, drop-cons, get_or-append_seam}
+use Rattle.std.proofs.Math.Seq.{take-suc, take-length, drop-cons, get_or-append_seam}
 use Rattle.std.proofs.lemmas.Bool.{cases_lt}
 use Rattle.std.proofs.lemmas.Grind.{get_or_default_zero}
 use Rattle.std.proofs.lemmas.List.{take-append-drop, map-append, length-append, length-map, get_or-map, get_or_append_left}
@@ -11,20 +11,20 @@ use Rattle.dw_base.specs.declared.fault.Fault.{Fault}
 use Rattle.dw_base.specs.declared.fault.Kind.{Kind}
 use Rattle.dw_base.specs.declared.fault.Kind.TheVariants.{Limit, Pointer}
 use Rattle.dw_base.specs.Refusals.{IsFaultOf}
-use Rattle.abbrev_tables.specs.Listings.{Listing, IsTableAt}
-use Rattle.abbrev_tables.proofs.ListingOnce.{listing_once}
+use Rattle.abbrev_tables.specs.Listings.{IsTableAt}
 use Rattle.entry_read.specs.declared.head.UnitHead.{UnitHead}
 use Rattle.entry_read.specs.declared.unit.Counts.{Counts}
 use Rattle.entry_read.specs.Heads.{no_head, head_numbered, Follow, Tile}
 use Rattle.entry_read.specs.Units.{HeadAndForest, declarations_of, IsUnitHeld, IsWithin, entry_limit, value_limit}
 use Rattle.entry_read.specs.Faults.{FaultUnit}
 use Rattle.value_links.specs.declared.units.NamedTable.{NamedTable}
-use Rattle.value_links.specs.Reading.{UnitRead, no_unit, unit_among, counts_of, AreWithin, IsUnitByTable}
+use Rattle.value_links.specs.declared.units.Units.{Units}
+use Rattle.value_links.specs.Reading.{UnitRead, no_unit, unit_heads, unit_among, counts_of, declarations, AreWithin, IsUnitRead}
 use Rattle.value_links.specs.Faults.{IsUnitOf, FaultOffset, FaultRest, FaultEntries, FaultUnits, InfoFault}
 use Rattle.value_links.specs.Laws.{IsBuilt}
 use Rattle.value_links.specs.World.{head_and_forest, table_at, named_by, AreTablesOf}
-use Rattle.value_links.specs.Parts.{IsUnitsFault}
-use Rattle.value_links.specs.Tabled.{AreTablePlaces, AreNumbers, IsNamed, HoldFront, named_places, places_of}
+use Rattle.value_links.specs.Parts.{AreUnitsHeld, IsUnitsFault}
+use Rattle.value_links.specs.inside.Tabled.{AreTablePlaces, AreNumbers, IsNamed, HoldFront, named_places, places_of}
 use Rattle.value_links.proofs.TableLaws.{places_rise}
 
 -- HEADS
@@ -51,21 +51,17 @@ unit_of info heads i tile inside =
 
 -- A FRONT
 
--- all declarations of the table that a unit names can be written
-abbrev CanBeBuilt : List ℕ → UnitRead → Type 0
-CanBeBuilt abbrevs u = (table : Listing) → IsTableAt abbrevs u.head.table table → All IsBuilt (declarations_of table)
-
 pub nothing_held : (info abbrevs : List ℕ) (heads : List UnitHead) (tables : List NamedTable) (numbers : List ℕ) (units : List HeadAndForest) → units ≡ [] → HoldFront info abbrevs heads tables numbers units (record { entries = 0; values = 0 }) 0
 nothing_held info abbrevs heads tables numbers units none = record {
   read = [];
   held = none;
   front = refl;
   size = refl;
-  each = All-nil (IsUnitByTable info abbrevs);
+  each = All-nil (IsUnitRead info abbrevs);
   within = record { entries = omega arith; values = omega arith };
   counted = refl;
   tabled = λ u inside. absurd (omega arith);
-  built = All-nil (CanBeBuilt abbrevs);
+  built = All-nil (λ (u : UnitRead). All IsBuilt (declarations u));
 }
 
 -- what is read of the unit after a front, by the table that its header names
@@ -79,17 +75,11 @@ pub record IsNext (info abbrevs : List ℕ) (head : UnitHead) (named : NamedTabl
 abbrev read_next : UnitHead → NamedTable → HeadAndForest → UnitRead
 read_next head named unit = record { head = head; table = named.table; forest = unit.forest }
 
-unit_is_read : (info abbrevs : List ℕ) (head : UnitHead) (named : NamedTable) (unit : HeadAndForest) → IsNext info abbrevs head named unit → IsUnitByTable info abbrevs (read_next head named unit)
+unit_is_read : (info abbrevs : List ℕ) (head : UnitHead) (named : NamedTable) (unit : HeadAndForest) → IsNext info abbrevs head named unit → IsUnitRead info abbrevs (read_next head named unit)
 unit_is_read info abbrevs head named unit next =
     let inside : named.place < length abbrevs = next.table.inside in
     let place : named.place ≡ head.table = next.names in
     record { named = omega arith; table = subst (λ (z : ℕ). IsTableAt abbrevs z named.table) place next.table.stands; section = next.section; entries = next.entries }
-
--- a table that stands at the same place is the same
-unit_is_built : (info abbrevs : List ℕ) (head : UnitHead) (named : NamedTable) (unit : HeadAndForest) → IsNext info abbrevs head named unit → CanBeBuilt abbrevs (read_next head named unit)
-unit_is_built info abbrevs head named unit next table stands =
-    let own = (unit_is_read info abbrevs head named unit next).table in
-    subst (λ (z : Listing). All IsBuilt (declarations_of z)) (listing_once abbrevs head.table named.table table own stands) next.table.built
 
 sum_push : (f : UnitRead → ℕ) (read : List UnitRead) (u : UnitRead) → sum_by f (read ++ u ∷ []) ≡ sum_by f read + f u
 sum_push f read u =
@@ -141,11 +131,11 @@ module _ (info abbrevs : List ℕ) (heads : List UnitHead) (tables : List NamedT
         held = put ∙ ap (λ z. z ++ unit ∷ []) h.held ∙ ap (λ z. map head_and_forest h.read ++ z ∷ []) is ∙ sym (map-append head_and_forest h.read (r ∷ []));
         front = map-append (λ (u : UnitRead). u.head) h.read (r ∷ []) ∙ ap (λ z. z ++ head ∷ []) h.front ∙ sym (take-suc heads i no_head inside) ∙ ap (λ z. take z heads) (sym (add-one i));
         size = let all : length (h.read ++ r ∷ []) ≡ length h.read + 1 = length-append h.read (r ∷ []) in omega arith;
-        each = All-push (IsUnitByTable info abbrevs) h.read r h.each (unit_is_read info abbrevs head named unit next);
+        each = All-push (IsUnitRead info abbrevs) h.read r h.each (unit_is_read info abbrevs head named unit next);
         within = within_push h.read r counts h.counted few;
         counted = summed ∙ counts_push h.read r counts h.counted;
         tabled = tabled_push tables numbers h.read r i h.size h.tabled (ap (λ (z : ℕ). record { place = z; table = named.table }) next.names);
-        built = All-push (CanBeBuilt abbrevs) h.read r h.built (unit_is_built info abbrevs head named unit next);
+        built = All-push (λ (u : UnitRead). All IsBuilt (declarations u)) h.read r h.built next.table.built;
       }
 
   -- a fault of the next unit is one of the units
@@ -180,8 +170,7 @@ table_named heads tables numbers u are inside =
 
 -- ALL UNITS
 
--- the tables of all units, each with its place
-pub tables_are : (info abbrevs : List ℕ) (heads : List UnitHead) (places : List ℕ) (tables : List NamedTable) (numbers : List ℕ) (units : List HeadAndForest) (counts : Counts) → AreTablePlaces heads places → places_of tables ≡ places → AreNumbers heads places numbers → (h : HoldFront info abbrevs heads tables numbers units counts (length heads)) → AreTablesOf h.read tables numbers
+tables_are : (info abbrevs : List ℕ) (heads : List UnitHead) (places : List ℕ) (tables : List NamedTable) (numbers : List ℕ) (units : List HeadAndForest) (counts : Counts) → AreTablePlaces heads places → places_of tables ≡ places → AreNumbers heads places numbers → (h : HoldFront info abbrevs heads tables numbers units counts (length heads)) → AreTablesOf h.read tables numbers
 tables_are info abbrevs heads places tables numbers units counts are same numbered h =
     let count : length numbers ≡ length heads = numbered.count in
     let size : length h.read ≡ length heads = h.size in
@@ -220,6 +209,16 @@ tables_are info abbrevs heads places tables numbers units counts are same number
             | inr rest ↦ omega arith
           ]
         ]
+
+pub units_held : (info abbrevs : List ℕ) (heads : List UnitHead) (places : List ℕ) (held : Units) (counts : Counts) → Tile info heads → AreTablePlaces heads places → places_of held.tables.items ≡ places → AreNumbers heads places held.table_of.items → HoldFront info abbrevs heads held.tables.items held.table_of.items held.units.items counts (length heads) → AreUnitsHeld info abbrevs held
+units_held info abbrevs heads places held counts tile are same numbered h =
+    let all : unit_heads h.read ≡ heads = h.front ∙ take-length heads in
+    record {
+      read = h.read;
+      units = record { tiled = subst (λ (z : List UnitHead). Follow info z 0 (length info)) (sym all) tile; each = h.each; within = h.within };
+      holds = record { units = h.held; tables = tables_are info abbrevs heads places held.tables.items held.table_of.items held.units.items counts are same numbered h };
+      built = h.built;
+    }
 
 -- FAULTS
 

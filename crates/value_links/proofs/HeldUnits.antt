@@ -16,7 +16,8 @@ use Rattle.entry_read.proofs.OwnerLaws.{values_belong}
 use Rattle.value_links.specs.Sections.{debug_line}
 use Rattle.value_links.specs.Reading.{ProgramRead, UnitRead, line_heads, no_program, no_unit, unit_among, declarations, IsUnitRead, AreUnitsIn, AreProgramsOf}
 use Rattle.value_links.specs.World.{head_and_forest}
-use Rattle.value_links.specs.Links.{held_at, program_among, AreUnitsApart, AreProgramsApart}
+use Rattle.value_links.specs.Links.{held_at}
+use Rattle.value_links.specs.inside.Links.{program_among, AreUnitsApart, AreProgramsApart}
 use Rattle.value_links.proofs.Targets.{HasTargets, held_targets}
 use Rattle.value_links.proofs.Tiles.{units_chained, programs_chained}
 

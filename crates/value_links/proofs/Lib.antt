@@ -1,15 +1,16 @@
 mod WorkedRows
 pub mod SectionLaws
+pub mod Bases
 pub mod LinkLaws
 pub mod Targets
 pub mod Tiles
+pub mod LinkedOnce
 pub mod MeaningLaws
 pub mod ReadingOnce
 pub mod DebugOnce
 pub mod ValidUnits
 pub mod ValidLinks
 pub mod Validity
-pub mod Resolving
 pub mod Meaningful
 pub mod HeldUnits
 pub mod Searching
@@ -23,11 +24,7 @@ pub mod PartValues
 pub mod Refusing
 pub mod TableFaults
 pub mod TableLaws
-pub mod WholeTables
-pub mod UsedLaws
 pub mod Fronts
-pub mod KeptLaws
-pub mod Parted
 pub mod WorldLaws
 pub mod HeldLinks
 pub mod SectionBytes

@@ -1,5 +1,5 @@
--- The value with a number means one thing, and has one link.
-use Rattle.std.proofs.Common.{◌≡◌, ◌<◌, ◌+◌, ◌-◌, ◌∙◌, inl, inr, ℕ, length, sym, ap, subst, refl, arith}
+-- The value with a number refers to one thing, and has one link.
+use Rattle.std.proofs.Common.{◌≡◌, ◌<◌, ◌+◌, ◌-◌, ◌∙◌, inl, inr, ℕ, length, sym, ap, subst, arith}
 use Rattle.std.proofs.lemmas.Bool.{cases_lt}
 use Rattle.std.proofs.lemmas.List.{get_or_past}
 use Rattle.form_codec.specs.Forms.{Meaning}
@@ -8,18 +8,18 @@ use Rattle.abbrev_tables.specs.Listings.{spec_at}
 use Rattle.entry_arena.specs.Arena.{value_at}
 use Rattle.entry_read.specs.Places.{HaveOwners}
 use Rattle.value_links.specs.declared.link.Link.{Link}
-use Rattle.value_links.specs.declared.link.Link.TheVariants.{Plain, Place, Lines, Kept as KeptPlace}
 use Rattle.value_links.specs.Sections.{debug_info, debug_abbrev}
-use Rattle.value_links.specs.Reading.{UnitRead, Reading, no_unit, declarations, unit_at}
-use Rattle.value_links.specs.Values.{entry_of, declaration_of, meaning_at, HasValueAt}
-use Rattle.value_links.specs.Resolved.{Resolved, Resolves}
-use Rattle.value_links.specs.Resolved.Resolved.{Itself, Refers, Program, Kept}
-use Rattle.value_links.specs.Links.{resolved_by}
-use Rattle.value_links.specs.Owners.{IsOwner, name_with}
-use Rattle.value_links.specs.Laws.{OneResolved, OneLink}
+use Rattle.value_links.specs.Reading.{UnitRead, Linkable, no_unit, declarations, unit_at}
+use Rattle.value_links.specs.Values.{entry_of, declaration_of, HasValueAt}
+use Rattle.value_links.specs.inside.Values.{meaning_at}
+use Rattle.value_links.specs.Linked.{Linked, Links}
+use Rattle.value_links.specs.Linked.Linked.{Itself, Refers, Program, Kept}
+use Rattle.value_links.specs.Links.{IsLinkOf}
+use Rattle.value_links.specs.inside.Owners.{IsOwner, name_with}
+use Rattle.value_links.specs.Laws.{OneLinkedValue, OneLink}
 use Rattle.value_links.proofs.HeldUnits.{unit_owners}
 use Rattle.value_links.proofs.EntryValues.{column_of, column_numbered}
-use Rattle.value_links.proofs.MeaningLaws.{meaning_once}
+use Rattle.value_links.proofs.LinkedOnce.{linked_once}
 use Rattle.value_links.proofs.Owning.{owner_once}
 
 -- the number of a value tells its entry, the name of its attribute and what it says
@@ -40,7 +40,7 @@ by_number unit owned id number name meaning place h =
     }
 
 -- a unit with an entry is one of those that were read
-known_unit : (r : Reading) (u id : ℕ) → id < length (unit_at r u).forest.entries → u < length r.units
+known_unit : (r : Linkable) (u id : ℕ) → id < length (unit_at r u).forest.entries → u < length r.units
 known_unit r u id known = elim (cases_lt u (length r.units)) [
   | inl inside ↦ inside
   | inr past ↦
@@ -49,8 +49,8 @@ known_unit r u id known = elim (cases_lt u (length r.units)) [
       absurd (omega arith)
 ]
 
-pub resolved_once : OneResolved
-resolved_once file r u number v w read a b =
+pub linked_value_once : OneLinkedValue
+linked_value_once file r u number v w read a b =
     let unit = unit_at r u in
     let known : u < length r.units = known_unit r u a.id a.stands.known in
     let owned = unit_owners (debug_info file) (debug_abbrev file) r.units read.units u known in
@@ -59,23 +59,17 @@ resolved_once file r u number v w read a b =
     let id : a.id ≡ b.id = owner_once (declarations unit) unit.forest owned a.id b.id number one.owner other.owner in
     let name : a.name ≡ b.name = one.named ∙ ap (λ (z : ℕ). name_with (declarations unit) (entry_of unit z) number) id ∙ sym other.named in
     let meaning : a.meaning ≡ b.meaning = one.meant ∙ sym other.meant in
-    let moved : Resolves r u b.id b.name b.meaning v = subst (λ (z : ℕ). Resolves r u z b.name b.meaning v) id (subst (λ (z : ℕ). Resolves r u a.id z b.meaning v) name (subst (λ (z : Meaning). Resolves r u a.id a.name z v) meaning a.resolves)) in
-    meaning_once file r u b.id b.name b.meaning v w read known moved b.resolves
+    let moved : Links r u b.id b.name b.meaning v = subst (λ (z : ℕ). Links r u z b.name b.meaning v) id (subst (λ (z : ℕ). Links r u a.id z b.meaning v) name (subst (λ (z : Meaning). Links r u a.id a.name z v) meaning a.links)) in
+    linked_once file r u b.id b.name b.meaning v w read known moved b.links
 
--- the link by which something is meant
-abbrev link_by : Resolved → Link
-link_by (Itself meaning) = Plain
-link_by (Refers unit target) = Place unit target
-link_by (Program program) = Lines program
-link_by (Kept place) = KeptPlace place
-
-links_back : (meaning : Meaning) (link : Link) → link_by (resolved_by meaning link) ≡ link
-links_back meaning Plain = refl
-links_back meaning (Place unit target) = refl
-links_back meaning (Lines program) = refl
-links_back meaning (KeptPlace place) = refl
+-- one link tells what a value refers to
+told_once : (linked : Linked) (a b : Link) → IsLinkOf linked a → IsLinkOf linked b → a ≡ b
+told_once (Itself meaning) a b e f = e ∙ sym f
+told_once (Refers unit target) a b e f = e ∙ sym f
+told_once (Program program) a b e f = e ∙ sym f
+told_once (Kept place) a b e f = e ∙ sym f
 
 pub link_once : OneLink
-link_once file r u number a b read here there =
-    let meaning : Meaning = meaning_at (unit_at r u) number in
-    sym (links_back meaning a) ∙ ap link_by (resolved_once file r u number (resolved_by meaning a) (resolved_by meaning b) read here there) ∙ links_back meaning b
+link_once file r u number a b read (v, here, told) (w, there, other) =
+    let same : v ≡ w = linked_value_once file r u number v w read here there in
+    told_once w a b (subst (λ (z : Linked). IsLinkOf z a) same told) other

@@ -1,81 +1,30 @@
--- The value of an attribute means one thing.
-use Rattle.std.proofs.Common.{◌≡◌, ◌≤◌, ◌<◌, ◌+◌, ◌∙◌, ℕ, List, length, sym, ap, subst, arith}
-use Rattle.std.proofs.lemmas.List.Elements.{All-get_or}
-use Rattle.form_codec.specs.Forms.{Meaning}
-use Rattle.form_codec.specs.Forms.Meaning.{InUnit, InSection, SectionPlace, LocationList, RangeList}
-use Rattle.entry_arena.specs.declared.entry.Target.{Target}
-use Rattle.entry_read.specs.Units.{entries_at, end_of}
-use Rattle.value_links.specs.Sections.{debug_info, debug_abbrev, debug_line}
-use Rattle.value_links.specs.Attributes.{OffsetClass, offset_class}
-use Rattle.value_links.specs.Attributes.OffsetClass.{LinePtr, RngList, LocList, RngListsPtr, LocListsPtr, AddrPtr, StrOffsetsPtr, MacPtr, Views, NoOffset}
-use Rattle.value_links.specs.Reading.{ProgramRead, UnitRead, Reading, no_program, program_at, no_unit, unit_at, declarations, IsUnitRead, IsReadToLinks}
-use Rattle.value_links.specs.Resolved.{Resolved, IsTargetAt, IsSectionTarget, IsProgramAt, OffsetMeans, Resolves}
-use Rattle.value_links.specs.Resolved.Resolved.{Refers, Program}
-use Rattle.value_links.specs.Laws.{OneMeaning}
-use Rattle.value_links.proofs.Targets.{HasTargets, held_targets, target_once}
-use Rattle.entry_read.proofs.Chained.{has_bytes, lies_once}
-use Rattle.value_links.proofs.Tiles.{units_chained, programs_chained}
+-- What a value refers to means one thing.
+use Rattle.std.proofs.Common.{◌≡◌, ◌∙◌, sym, subst, refl}
+use Rattle.value_links.specs.Linked.{Linked}
+use Rattle.value_links.specs.Linked.Linked.{Itself as LinkItself, Refers as LinkRefers, Program as LinkProgram, Kept as LinkKept}
+use Rattle.value_links.specs.Resolved.{Resolved, ResolvesLink}
+use Rattle.value_links.specs.Resolved.Resolved.{Itself, Refers, Program, Kept}
+use Rattle.value_links.specs.Laws.{OneMeaning, LinkedMean}
+use Rattle.value_links.proofs.LinkedOnce.{linked_once}
 
-module _ (file : List ℕ) (r : Reading) (read : IsReadToLinks file r) where
-  unit_read : (u : ℕ) → u < length r.units → IsUnitRead (debug_info file) (debug_abbrev file) (unit_at r u)
-  unit_read u inside = All-get_or (IsUnitRead (debug_info file) (debug_abbrev file)) r.units u no_unit inside read.units.each
-
-  pub targets : (u : ℕ) → u < length r.units → HasTargets (unit_at r u).head (unit_at r u).forest
-  targets u inside =
-      let here = unit_read u inside in
-      held_targets (debug_info file) (unit_at r u).head (declarations (unit_at r u)) (unit_at r u).forest here.section here.entries
-
-  -- the unit of a target is one
-  unit_once : (v w : ℕ) (a b : Target) (place : ℕ) → IsSectionTarget r place v a → IsSectionTarget r place w b → v ≡ w
-  unit_once v w a b place (v_in, here) (w_in, there) =
-      let first = targets v v_in in
-      let second = targets w w_in in
-      let v_from : entries_at (unit_at r v).head ≤ place = first.from a place here in
-      let v_at : (unit_at r v).head.at ≤ place = omega arith in
-      let v_to : place < end_of (unit_at r v).head = first.to a place here in
-      let w_from : entries_at (unit_at r w).head ≤ place = second.from b place there in
-      let w_at : (unit_at r w).head.at ≤ place = omega arith in
-      let w_to : place < end_of (unit_at r w).head = second.to b place there in
-      lies_once (λ (x : UnitRead). x.head.at) (λ (x : UnitRead). x.head.len) r.units 0 (length (debug_info file)) v w place no_unit (units_chained (debug_info file) r.units 0 (length (debug_info file)) read.units.tiled) v_in w_in v_at v_to w_at w_to
-
-  section_once : (v w : ℕ) (a b : Target) (place : ℕ) → IsSectionTarget r place v a → IsSectionTarget r place w b → Refers v a ≡ Refers w b
-  section_once v w a b place here there =
-      let same : v ≡ w = unit_once v w a b place here there in
-      let moved : IsTargetAt (unit_at r w).forest a place = subst (λ (z : ℕ). IsTargetAt (unit_at r z).forest a place) same here.1 in
-      let target : a ≡ b = target_once (unit_at r w).forest (targets w there.0).order a b place moved there.1 in
-      ap (λ (z : ℕ). Refers z a) same ∙ ap (λ (z : Target). Refers w z) target
-
-  -- and so is the program that begins at a place
-  program_once : (n p q : ℕ) → IsProgramAt r n p → IsProgramAt r n q → p ≡ q
-  program_once n p q (p_in, p_at) (q_in, q_at) =
-      let at : ProgramRead → ℕ = λ x. x.head.at in
-      let len : ProgramRead → ℕ = λ x. x.head.len in
-      let chained = programs_chained (debug_line file) r.programs 0 (length (debug_line file)) read.programs.tiled in
-      let p_some : 0 < (program_at r p).head.len = has_bytes at len r.programs 0 (length (debug_line file)) p no_program chained p_in in
-      let q_some : 0 < (program_at r q).head.len = has_bytes at len r.programs 0 (length (debug_line file)) q no_program chained q_in in
-      lies_once at len r.programs 0 (length (debug_line file)) p q n no_program chained p_in q_in (omega arith) (omega arith) (omega arith) (omega arith)
-
-  offset_once : (u id : ℕ) (class : OffsetClass) (n : ℕ) (v w : Resolved) → OffsetMeans r u id class n v → OffsetMeans r u id class n w → v ≡ w
-  offset_once u id LinePtr n v w (p, here, e) (q, there, f) = e ∙ ap (λ (z : ℕ). Program z) (program_once n p q here there) ∙ sym f
-  offset_once u id RngList n v w a b = absurd a
-  offset_once u id LocList n v w a b = absurd a
-  offset_once u id RngListsPtr n v w a b = absurd a
-  offset_once u id LocListsPtr n v w a b = absurd a
-  offset_once u id AddrPtr n v w a b = a ∙ sym b
-  offset_once u id StrOffsetsPtr n v w a b = a ∙ sym b
-  offset_once u id MacPtr n v w a b = a ∙ sym b
-  offset_once u id Views n v w a b = absurd a
-  offset_once u id NoOffset n v w a b = absurd a
-
-  value_once : (u id name : ℕ) (meaning : Meaning) (v w : Resolved) → u < length r.units → Resolves r u id name meaning v → Resolves r u id name meaning w → v ≡ w
-  value_once u id name (InUnit n) v w inside (a, here, e) (b, there, f) =
-      let target : a ≡ b = target_once (unit_at r u).forest (targets u inside).order a b ((unit_at r u).head.at + n) here there in
-      e ∙ ap (λ (z : Target). Refers u z) target ∙ sym f
-  value_once u id name (InSection n) v w inside (x, a, here, e) (y, b, there, f) = e ∙ section_once x y a b n here there ∙ sym f
-  value_once u id name (SectionPlace n) v w inside a b = offset_once u id (offset_class name) n v w a b
-  value_once u id name (LocationList i) v w inside a b = absurd a
-  value_once u id name (RangeList i) v w inside a b = absurd a
-  value_once u id name meaning v w inside a b = a ∙ sym b
+resolved_once : (linked : Linked) (v w : Resolved) → ResolvesLink linked v → ResolvesLink linked w → v ≡ w
+resolved_once (LinkItself meaning) v w a b = a ∙ sym b
+resolved_once (LinkRefers unit target) v w a b = a ∙ sym b
+resolved_once (LinkProgram p) v w a b = a ∙ sym b
+resolved_once (LinkKept n) v w a b = a ∙ sym b
 
 pub meaning_once : OneMeaning
-meaning_once file r u id name meaning v w read inside a b = value_once file r read u id name meaning v w inside a b
+meaning_once file r u id name meaning v w read inside a b =
+    let linked : a.linked ≡ b.linked = linked_once file r.links u id name meaning a.linked b.linked read.links inside a.links b.links in
+    resolved_once b.linked v w (subst (λ (z : Linked). ResolvesLink z v) linked a.resolves) b.resolves
+
+resolved_of : (linked : Linked) → (v : Resolved) × ResolvesLink linked v
+resolved_of (LinkItself meaning) = (Itself meaning, refl)
+resolved_of (LinkRefers unit target) = (Refers unit target, refl)
+resolved_of (LinkProgram p) = (Program p, refl)
+resolved_of (LinkKept n) = (Kept n, refl)
+
+pub links_mean : LinkedMean
+links_mean r u id name meaning linked links =
+    let (v, resolves) = resolved_of linked in
+    (v, record { linked = linked; links = links; resolves = resolves })

@@ -23,15 +23,18 @@ use Rattle.entry_read.specs.Heads.{type_unit}
 use Rattle.entry_read.proofs.Parts.{values_push}
 use Rattle.entry_read.proofs.PlaceLaws.{entry_stands}
 use Rattle.value_links.specs.Sections.{offset_named, debug_info, debug_abbrev, debug_line, info_name}
-use Rattle.value_links.specs.Reading.{ProgramRead, Reading, line_heads, HasRows, no_unit, unit_at, declarations, IsUnitRead, IsReading}
+use Rattle.value_links.specs.Reading.{ProgramRead, Linkable, Reading, line_heads, HasRows, no_unit, unit_at, declarations, IsUnitRead}
+use Rattle.value_links.specs.Whole.{IsReadToLinks, IsReading}
 use Rattle.value_links.specs.Values.{entry_of, declaration_of, values_of, HasValueAt}
-use Rattle.value_links.specs.Resolved.{Resolved, Resolves, IsTypeEntry}
+use Rattle.value_links.specs.Linked.{Linked, Links, IsTypeEntry}
+use Rattle.value_links.specs.Resolved.{Resolved, Resolves}
 use Rattle.value_links.specs.Debug.{EntryMeaning, UnitMeaning, Debug, described, set_meaning, MeansAttribute, MeansEntry, MeansType, MeanEntries, MeansUnit, MeansDebug}
 use Rattle.value_links.specs.Faults.{FaultLinks, IsValid}
 use Rattle.value_links.specs.Faults.Pass.{OfLinks}
 use Rattle.value_links.specs.Laws.{ValidFilesMean}
 use Rattle.value_links.specs.Parts.{LinkedFilesMean}
-use Rattle.value_links.proofs.Resolving.{search_below, resolved_or_faulty}
+use Rattle.value_links.proofs.LinkLaws.{search_below, linked_or_faulty}
+use Rattle.value_links.proofs.MeaningLaws.{links_mean}
 
 -- LISTS
 
@@ -66,19 +69,25 @@ module _ (r : Reading) (u id : ℕ) where
       let (ys, zip) = columns_mean section (earlier ++ c ∷ []) cs (evs ++ v ∷ []) vs values_at next to (values_push section earlier evs c v values_at from next prior spelled placed) valued (λ before k after values w more place e f. each before k after values w more place (sym (append_assoc earlier (c ∷ []) cs) ∙ e) (sym (append_assoc evs (v ∷ []) vs) ∙ f)) in
       ((c.name, y) ∷ ys, (record { name = refl; value = means }, zip))
 
--- each value means something
-abbrev pub ValuesMean : Reading → Type 0
-ValuesMean r = (u id number name : ℕ) (meaning : Meaning) (place : ℕ) → u < length r.units → HasValueAt (unit_at r u) id number name meaning place → (v : Resolved) × Resolves r u id name meaning v
+-- each value refers to something
+abbrev pub ValuesLink : Linkable → Type 0
+ValuesLink r = (u id number name : ℕ) (meaning : Meaning) (place : ℕ) → u < length r.units → HasValueAt (unit_at r u) id number name meaning place → (linked : Linked) × Links r u id name meaning linked
 
 -- each type unit has the entry of its type
-abbrev TypesStand : Reading → Type 0
+abbrev TypesStand : Linkable → Type 0
 TypesStand r = (u : ℕ) → u < length r.units → (unit_at r u).head.kind ≡ type_unit → (id : ℕ) × IsTypeEntry r u id
 
-module _ (file : List ℕ) (r : Reading) (read : IsReading file r) (value_means : ValuesMean r) (type_stands : TypesStand r) where
-  entry_means : (u : ℕ) → u < length r.units → (id : ℕ) → id < length (unit_at r u).forest.entries → (e : EntryMeaning) × MeansEntry r u id (described_by (unit_at r u).forest.section (declarations (unit_at r u)) (unit_at r u).forest.values (entry_of (unit_at r u) id)) e
+module _ (file : List ℕ) (r : Reading) (read : IsReading file r) (value_links : ValuesLink r.links) (type_stands : TypesStand r.links) where
+  -- so each means something
+  value_means : (u id number name : ℕ) (meaning : Meaning) (place : ℕ) → u < length r.links.units → HasValueAt (unit_at r.links u) id number name meaning place → (v : Resolved) × Resolves r u id name meaning v
+  value_means u id number name meaning place inside h =
+      let (linked, links) = value_links u id number name meaning place inside h in
+      links_mean r u id name meaning linked links
+
+  entry_means : (u : ℕ) → u < length r.links.units → (id : ℕ) → id < length (unit_at r.links u).forest.entries → (e : EntryMeaning) × MeansEntry r u id (described_by (unit_at r.links u).forest.section (declarations (unit_at r.links u)) (unit_at r.links u).forest.values (entry_of (unit_at r.links u) id)) e
   entry_means u inside id known =
-      let unit = unit_at r u in
-      let is : IsUnitRead (debug_info file) (debug_abbrev file) unit = All-get_or (IsUnitRead (debug_info file) (debug_abbrev file)) r.units u no_unit inside read.parts.units.each in
+      let unit = unit_at r.links u in
+      let is : IsUnitRead (debug_info file) (debug_abbrev file) unit = All-get_or (IsUnitRead (debug_info file) (debug_abbrev file)) r.links.units u no_unit inside read.links.units.each in
       let stands = entry_stands (debug_info file) unit.head (declarations unit) unit.forest is.section is.entries id known in
       let end : ℕ = (entry_of unit id).at + (entry_of unit id).len in
       let (attributes, zip) = columns_mean r u id unit.forest.section [] (declaration_of unit id).columns [] (values_of unit id) stands.values_at stands.values_at end refl stands.valued (λ before c after values v more place e f prior. value_means u id ((entry_of unit id).first + length values) c.name (meant_in unit.forest.section v) place inside (record {
@@ -100,15 +109,15 @@ module _ (file : List ℕ) (r : Reading) (read : IsReading file r) (value_means 
       })) in
       (record { depth = (entry_of unit id).depth; tag = (declaration_of unit id).tag; children = (declaration_of unit id).children; attributes = attributes }, record { depth = refl; tag = refl; children = refl; attributes = zip })
 
-  type_means : (u : ℕ) → u < length r.units → (entry : Option ℕ) × MeansType r u entry
-  type_means u inside = elim (cases_eq (unit_at r u).head.kind type_unit) [
+  type_means : (u : ℕ) → u < length r.links.units → (entry : Option ℕ) × MeansType r.links u entry
+  type_means u inside = elim (cases_eq (unit_at r.links u).head.kind type_unit) [
     | inr other ↦ (None, other)
     | inl is_type ↦ let (id, here) = type_stands u inside is_type in (Some id, (is_type, here))
   ]
 
-  unit_means : (u : ℕ) → u < length r.units → (m : UnitMeaning) × MeansUnit r u m
+  unit_means : (u : ℕ) → u < length r.links.units → (m : UnitMeaning) × MeansUnit r u m
   unit_means u inside =
-      let unit = unit_at r u in
+      let unit = unit_at r.links u in
       let no_entry : Entry = record { at = 0; len = 0; depth = 0; decl = 0; first = 0; count = 0 } in
       let say : Entry → Described = described_by unit.forest.section (declarations unit) unit.forest.values in
       let (forest, count, each) = list_from (λ id. MeansEntry r u id (say (entry_of unit id))) (length unit.forest.entries) (entry_means u inside) in
@@ -122,31 +131,31 @@ module _ (file : List ℕ) (r : Reading) (read : IsReading file r) (value_means 
 
   file_means : (debug : Debug) × MeansDebug file r debug
   file_means =
-      let (units, size, each) = list_from (MeansUnit r) (length r.units) unit_means in
-      let (programs, meant) = programs_mean (debug_line file) r.programs read.parts.programs.given in
+      let (units, size, each) = list_from (MeansUnit r) (length r.links.units) unit_means in
+      let (programs, meant) = programs_mean (debug_line file) r.links.programs read.links.programs.given in
       let debug : Debug = record { programs = programs; units = units; aranges = map set_meaning r.sets } in
       (debug, record { programs = meant; units = record { count = size; each = each }; aranges = refl })
 
 -- VALID FILES
 
-module _ (file : List ℕ) (reach : Reach) (r : Reading) (read : IsReading file r) (valid : IsValid file reach) where
+module _ (file : List ℕ) (reach : Reach) (r : Linkable) (read : IsReadToLinks file r) (valid : IsValid file reach) where
   no_link_fault : (kind : Kind) (place : ℕ) → FaultLinks file reach kind place → ⊥
   no_link_fault kind place f = valid OfLinks kind (offset_named file info_name + place) (inl (place, refl, f))
 
-  pub valid_values : ValuesMean r
-  valid_values u id number name meaning place inside h = elim (resolved_or_faulty r u id name meaning) [
-    | inl means ↦ means
-    | inr faulty ↦ absurd (no_link_fault faulty.0 place (record { r = r; read = read.parts; u = u; inside = inside; fault = inl (record { id = id; number = number; name = name; meaning = meaning; stands = h; fault = faulty.1 }) }))
+  pub valid_values : ValuesLink r
+  valid_values u id number name meaning place inside h = elim (linked_or_faulty r u id name meaning) [
+    | inl links ↦ links
+    | inr faulty ↦ absurd (no_link_fault faulty.0 place (record { r = r; read = read; u = u; inside = inside; fault = inl (record { id = id; number = number; name = name; meaning = meaning; stands = h; fault = faulty.1 }) }))
   ]
 
   valid_types : TypesStand r
   valid_types u inside is_type = elim (search_below (λ i. (entry_at (unit_at r u).forest.entries i).at ≡ (unit_at r u).head.at + (unit_at r u).head.type_at) (λ i. cases_eq (entry_at (unit_at r u).forest.entries i).at ((unit_at r u).head.at + (unit_at r u).head.type_at)) (length (unit_at r u).forest.entries)) [
     | inl found ↦ (found.0, (found.1, found.2))
-    | inr none ↦ absurd (no_link_fault NoTarget ((unit_at r u).head.at + 20) (record { r = r; read = read.parts; u = u; inside = inside; fault = inr (is_type, (λ (x : (id : ℕ) × IsTypeEntry r u id). none x.0 x.1.0 x.1.1), refl) }))
+    | inr none ↦ absurd (no_link_fault NoTarget ((unit_at r u).head.at + 20) (record { r = r; read = read; u = u; inside = inside; fault = inr (is_type, (λ (x : (id : ℕ) × IsTypeEntry r u id). none x.0 x.1.0 x.1.1), refl) }))
   ]
 
 pub valid_means : ValidFilesMean
-valid_means file reach r read valid = file_means file r read (valid_values file reach r read valid) (valid_types file reach r read valid)
+valid_means file reach r read valid = file_means file r read (valid_values file reach r.links read.links valid) (valid_types file reach r.links read.links valid)
 
 -- LINKED FILES
 

@@ -1,12 +1,12 @@
 -- What the value with a number refers to, in what is held of a valid file.
 use Rattle.std.proofs.Common.{◌≡◌, ◌≤◌, ◌<◌, ◌+◌, ◌-◌, ◌∙◌, ℕ, List, length, sym, ap, subst, arith}
+use Rattle.std.specs.Prelude.{Some}
 use Rattle.dw_base.specs.declared.fault.Reach.{Reach}
 use Rattle.form_codec.specs.declared.value.Value.{Value}
 use Rattle.form_codec.specs.Values.{meant_in}
 use Rattle.abbrev_tables.specs.Listings.{Listing, spec_at}
 use Rattle.entry_arena.specs.Arena.{Arena, entry_at, value_at}
 use Rattle.entry_arena.proofs.StepLaws.{values_front}
-use Rattle.entry_read.specs.Heads.{IsHead}
 use Rattle.entry_read.specs.Units.{HeadAndForest, declarations_of, IsTable}
 use Rattle.entry_read.specs.Places.{HaveOwners, StandsAtColumn}
 use Rattle.entry_read.proofs.PlaceLaws.{entry_stands}
@@ -14,15 +14,15 @@ use Rattle.value_links.specs.declared.link.Link.{Link}
 use Rattle.value_links.specs.declared.units.NamedTable.{NamedTable}
 use Rattle.value_links.specs.Sections.{debug_info, debug_abbrev}
 use Rattle.value_links.specs.Reading.{UnitRead, Reading, declarations, unit_at, unit_among, IsUnitRead}
-use Rattle.value_links.specs.Values.{entry_of, declaration_of, values_of, meaning_at, HasValueAt}
-use Rattle.value_links.specs.Resolved.{Resolved, Resolves}
-use Rattle.value_links.specs.Owners.{IsOwner, name_with}
-use Rattle.value_links.specs.Links.{resolved_by, held_at, HasLink}
-use Rattle.value_links.specs.Checks.{IsUnitWithTable}
-use Rattle.value_links.specs.World.{World, head_and_forest, own_table, Holds, IsWorldOf}
+use Rattle.value_links.specs.Values.{entry_of, declaration_of, values_of, HasValueAt}
+use Rattle.value_links.specs.inside.Values.{meaning_at}
+use Rattle.value_links.specs.Linked.{Linked, Links}
+use Rattle.value_links.specs.inside.Owners.{IsOwner, name_with}
+use Rattle.value_links.specs.Links.{held_at, HasLink, IsLinkFound}
+use Rattle.value_links.specs.World.{World, head_and_forest, Holds, IsWorldOf}
+use Rattle.value_links.specs.inside.World.{own_table}
 use Rattle.value_links.proofs.HeldUnits.{unit_is, unit_owners, held_count, held_is}
-use Rattle.value_links.proofs.TabledUnits.{follow_head, read_with_table}
-use Rattle.value_links.proofs.HeldLinks.{units_held_once}
+use Rattle.value_links.proofs.HeldLinks.{units_held}
 use Rattle.value_links.proofs.EntryValues.{stands_at}
 use Rattle.value_links.proofs.Meaningful.{valid_values}
 
@@ -40,79 +40,67 @@ module _ (info abbrevs : List ℕ) (unit : UnitRead) (is : IsUnitRead info abbre
       (front.0, subst (λ (z : ℕ). HasValueAt unit id z (spec_at (declaration_of unit id).columns k).name (meant_in unit.forest.section (value_at unit.forest.values z)) front.0) same (stands_at unit owned id owner.known k front.0 (omega arith) at))
 
 module _ (world : World) (reach : Reach) (is : IsWorldOf world.image reach world) (u : ℕ) (inside : u < length world.units) where
-  known : u < length is.r.units
-  known = subst (λ (n : ℕ). u < n) (held_count is.r.units world.units is.holds.units) inside
+  known : u < length is.r.links.units
+  known = subst (λ (n : ℕ). u < n) (held_count is.r.links.units world.units is.holds.units) inside
 
-  unit_held : held_at world.units u ≡ head_and_forest (unit_at is.r u)
-  unit_held = held_is is.r.units world.units is.holds.units u known
+  unit_held : held_at world.units u ≡ head_and_forest (unit_at is.r.links u)
+  unit_held = held_is is.r.links.units world.units is.holds.units u known
 
-  table_held : own_table world u ≡ (unit_at is.r u).table
+  table_held : own_table world u ≡ (unit_at is.r.links u).table
   table_held = ap (λ (t : NamedTable). t.table) (is.holds.tables.each u known)
 
-  unit_read : IsUnitRead (debug_info world.image) (debug_abbrev world.image) (unit_at is.r u)
-  unit_read = unit_is (debug_info world.image) (debug_abbrev world.image) is.r.units is.read.parts.units u known
+  unit_read : IsUnitRead (debug_info world.image) (debug_abbrev world.image) (unit_at is.r.links u)
+  unit_read = unit_is (debug_info world.image) (debug_abbrev world.image) is.r.links.units is.read.links.units u known
 
-  owned : HaveOwners (declarations (unit_at is.r u)) (unit_at is.r u).forest
-  owned = unit_owners (debug_info world.image) (debug_abbrev world.image) is.r.units is.read.parts.units u known
+  owned : HaveOwners (declarations (unit_at is.r.links u)) (unit_at is.r.links u).forest
+  owned = unit_owners (debug_info world.image) (debug_abbrev world.image) is.r.links.units is.read.links.units u known
 
   -- the table of the unit is one, and by it each value of the unit is that of an entry
   pub own_stands : IsTable (own_table world u)
-  own_stands = subst IsTable (sym table_held) (debug_abbrev world.image, (unit_at is.r u).head.table, unit_read.table)
+  own_stands = subst IsTable (sym table_held) (debug_abbrev world.image, (unit_at is.r.links u).head.table, unit_read.table)
 
   pub own_owners : HaveOwners (declarations_of (own_table world u)) (held_at world.units u).forest
   own_owners =
       subst (λ (t : Listing). HaveOwners (declarations_of t) (held_at world.units u).forest) (sym table_held)
-      (subst (λ (z : HeadAndForest). HaveOwners (declarations (unit_at is.r u)) z.forest) (sym unit_held) owned)
-
-  pub own_with_table : IsUnitWithTable (held_at world.units u) (own_table world u)
-  own_with_table =
-      let head : IsHead (debug_info world.image) (unit_at is.r u).head = follow_head (debug_info world.image) is.r.units 0 (length (debug_info world.image)) u is.read.parts.units.tiled known in
-      let there = read_with_table (debug_info world.image) (debug_abbrev world.image) (unit_at is.r u) head unit_read in
-      subst (λ (z : HeadAndForest). IsUnitWithTable z (own_table world u)) (sym unit_held)
-      (subst (λ (t : Listing). IsUnitWithTable (head_and_forest (unit_at is.r u)) t) (sym table_held) there)
+      (subst (λ (z : HeadAndForest). HaveOwners (declarations (unit_at is.r.links u)) z.forest) (sym unit_held) owned)
 
   -- an entry that has the value with a number, and the name of the attribute
   module _ (forest : Arena) (f : forest ≡ (held_at world.units u).forest) (table : Listing) (t : table ≡ own_table world u) (id number name : ℕ) (owner : IsOwner forest.entries id number) (n : name ≡ name_with (declarations_of table) (entry_at forest.entries id) number) (value : Value) (v : value ≡ value_at forest.values number) where
-    forest_same : forest ≡ (unit_at is.r u).forest
+    forest_same : forest ≡ (unit_at is.r.links u).forest
     forest_same = f ∙ ap (λ (z : HeadAndForest). z.forest) unit_held
 
-    name_same : name ≡ name_with (declarations (unit_at is.r u)) (entry_of (unit_at is.r u) id) number
+    name_same : name ≡ name_with (declarations (unit_at is.r.links u)) (entry_of (unit_at is.r.links u) id) number
     name_same =
         n
         ∙ ap (λ (z : Listing). name_with (declarations_of z) (entry_at forest.entries id) number) (t ∙ table_held)
-        ∙ ap (λ (z : Arena). name_with (declarations (unit_at is.r u)) (entry_at z.entries id) number) forest_same
+        ∙ ap (λ (z : Arena). name_with (declarations (unit_at is.r.links u)) (entry_at z.entries id) number) forest_same
 
-    stands_own : (place : ℕ) × HasValueAt (unit_at is.r u) id number name (meaning_at (unit_at is.r u) number) place
+    stands_own : (place : ℕ) × HasValueAt (unit_at is.r.links u) id number name (meaning_at (unit_at is.r.links u) number) place
     stands_own =
-        let there = owned_value (debug_info world.image) (debug_abbrev world.image) (unit_at is.r u) unit_read owned id number (subst (λ (z : Arena). IsOwner z.entries id number) forest_same owner) in
-        (there.0, subst (λ (z : ℕ). HasValueAt (unit_at is.r u) id number z (meaning_at (unit_at is.r u) number) there.0) (sym name_same) there.1)
+        let there = owned_value (debug_info world.image) (debug_abbrev world.image) (unit_at is.r.links u) unit_read owned id number (subst (λ (z : Arena). IsOwner z.entries id number) forest_same owner) in
+        (there.0, subst (λ (z : ℕ). HasValueAt (unit_at is.r.links u) id number z (meaning_at (unit_at is.r.links u) number) there.0) (sym name_same) there.1)
 
-    value_same : value_at (unit_at is.r u).forest.values number ≡ value
+    value_same : value_at (unit_at is.r.links u).forest.values number ≡ value
     value_same = sym (v ∙ ap (λ (z : Arena). value_at z.values number) forest_same)
 
-    -- the value means something
-    pub value_means : (w : Resolved) × Resolves is.r u id name (meant_in (unit_at is.r u).forest.section value) w
-    value_means =
-        let there = valid_values world.image reach is.r is.read is.valid u id number name (meaning_at (unit_at is.r u) number) stands_own.0 known stands_own.1 in
-        (there.0, subst (λ (z : Value). Resolves is.r u id name (meant_in (unit_at is.r u).forest.section z) there.0) value_same there.1)
+    -- the value refers to something
+    pub value_links : (linked : Linked) × Links is.r.links u id name (meant_in (unit_at is.r.links u).forest.section value) linked
+    value_links =
+        let there = valid_values world.image reach is.r.links is.read.links is.valid u id number name (meaning_at (unit_at is.r.links u) number) stands_own.0 known stands_own.1 in
+        (there.0, subst (λ (z : Value). Links is.r.links u id name (meant_in (unit_at is.r.links u).forest.section z) there.0) value_same there.1)
 
-    -- what it resolves to is its link, in each reading that is held so
+    -- what is found of it is its link, in each reading that is held so
     module _ (file : List ℕ) (r : Reading) (holds : Holds file world r) where
-      units_same : is.r.units ≡ r.units
-      units_same = units_held_once is.r.units r.units world.units world.tables world.table_of is.holds.units holds.units is.holds.tables holds.tables
+      units_same : is.r.links.units ≡ r.links.units
+      units_same = units_held world reach is file r holds
 
-      stands_there : (place : ℕ) × HasValueAt (unit_at r u) id number name (meaning_at (unit_at r u) number) place
+      stands_there : (place : ℕ) × HasValueAt (unit_at r.links u) id number name (meaning_at (unit_at r.links u) number) place
       stands_there = subst (λ (z : List UnitRead). (place : ℕ) × HasValueAt (unit_among z u) id number name (meaning_at (unit_among z u) number) place) units_same stands_own
 
-      value_there : value ≡ value_at (unit_at r u).forest.values number
+      value_there : value ≡ value_at (unit_at r.links u).forest.values number
       value_there = sym value_same ∙ ap (λ (z : List UnitRead). value_at (unit_among z u).forest.values number) units_same
 
-      pub value_linked : (link : Link) → Resolves r u id name (meant_in (unit_at r u).forest.section value) (resolved_by (meant_in (unit_at r u).forest.section value) link) → HasLink r u number link
-      value_linked link resolves = record {
-        id = id;
-        name = name;
-        meaning = meaning_at (unit_at r u) number;
-        place = stands_there.0;
-        stands = stands_there.1;
-        resolves = subst (λ (z : Value). Resolves r u id name (meant_in (unit_at r u).forest.section z) (resolved_by (meant_in (unit_at r u).forest.section z) link)) value_there resolves;
-      }
+      pub value_linked : (link : Link) → IsLinkFound r.links u id name (meant_in (unit_at r.links u).forest.section value) (Some link) → HasLink r.links u number link
+      value_linked link (linked, links, told) =
+          let own : Links r.links u id name (meaning_at (unit_at r.links u) number) linked = subst (λ (z : Value). Links r.links u id name (meant_in (unit_at r.links u).forest.section z) linked) value_there links in
+          (linked, record { id = id; name = name; meaning = meaning_at (unit_at r.links u) number; place = stands_there.0; stands = stands_there.1; links = own }, told)

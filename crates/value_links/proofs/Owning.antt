@@ -9,7 +9,7 @@ use Rattle.abbrev_tables.specs.Tables.{Declared}
 use Rattle.entry_arena.specs.declared.entry.Entry.{Entry}
 use Rattle.entry_arena.specs.Arena.{Arena, entry_at}
 use Rattle.entry_read.specs.Places.{HaveOwners}
-use Rattle.value_links.specs.Owners.{IsOwner}
+use Rattle.value_links.specs.inside.Owners.{IsOwner}
 
 module _ (ds : List Declared) (f : Arena) (owned : HaveOwners ds f) where
   -- where the values of entries begin never falls

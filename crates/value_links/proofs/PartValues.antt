@@ -3,7 +3,6 @@ use Rattle.std.proofs.Common.{◌≡◌, ◌<◌, ◌+◌, ◌∙◌, ℕ, List,
 use Rattle.std.specs.Prelude.{Option, Some, true, false}
 use Rattle.dw_base.specs.declared.fault.Kind.{Kind}
 use Rattle.dw_base.specs.declared.fault.Kind.TheVariants.{Target as NoTarget}
-use Rattle.line_machine.specs.declared.head.Head.{Head}
 use Rattle.form_codec.specs.declared.value.Value.{Value}
 use Rattle.form_codec.specs.Forms.{Meaning}
 use Rattle.form_codec.specs.Values.{meant_in}
@@ -13,47 +12,47 @@ use Rattle.entry_arena.specs.Arena.{entry_at, value_at}
 use Rattle.entry_arena.specs.Trees.{declared_at}
 use Rattle.entry_read.specs.Units.{HeadAndForest, declarations_of}
 use Rattle.entry_read.specs.Places.{HaveOwners, StandsAtColumn}
-use Rattle.value_links.specs.declared.units.Units.{Units}
+use Rattle.value_links.specs.declared.parts.Parts.{Parts}
 use Rattle.value_links.specs.Sections.{debug_info, debug_abbrev}
-use Rattle.value_links.specs.Reading.{Reading, unit_at, declarations}
+use Rattle.value_links.specs.Reading.{Linkable, unit_at, declarations}
 use Rattle.value_links.specs.Values.{entry_of, declaration_of, HasValueAt}
 use Rattle.value_links.specs.World.{head_and_forest}
-use Rattle.value_links.specs.Resolved.{Resolved, Resolves}
+use Rattle.value_links.specs.Linked.{Linked, Links}
 use Rattle.value_links.specs.Faults.{IsUnread, FaultValue, FaultAttribute, FaultType}
 use Rattle.value_links.specs.Links.{held_at}
-use Rattle.value_links.specs.Parts.{AreParts, AreLinked}
-use Rattle.value_links.specs.Checks.{table_held, root_attributes, IsCause, IsTyped, IsChecked, AreColumnsLinked, AreEntriesLinked, IsUnitLinked}
+use Rattle.value_links.specs.Parts.{HoldsParts, AreLinked}
+use Rattle.value_links.specs.inside.Checks.{table_held, root_attributes, IsCause, IsTyped, IsChecked, AreColumnsLinked, AreEntriesLinked, IsUnitLinked}
 use Rattle.value_links.proofs.HeldUnits.{unit_owners}
 use Rattle.value_links.proofs.LinkedValues.{parts_count, part_is}
 use Rattle.value_links.proofs.TabledUnits.{table_is}
 use Rattle.value_links.proofs.Causes.{cause_is}
 use Rattle.value_links.proofs.EntryValues.{stands_at, column_of}
 
-module _ (file : List ℕ) (r : Reading) (held : Units) (heads : List Head) (parts : AreParts file r held heads) where
-  module _ (u : ℕ) (inside : u < length held.units.items) where
+module _ (file : List ℕ) (r : Linkable) (parts : Parts) (holds : HoldsParts file r parts) where
+  module _ (u : ℕ) (inside : u < length parts.units.units.items) where
     pub known_unit : u < length r.units
-    known_unit = subst (λ (z : ℕ). u < z) (parts_count file r held heads parts) inside
+    known_unit = subst (λ (z : ℕ). u < z) (parts_count file r parts holds) inside
 
-    unit_same : held_at held.units.items u ≡ head_and_forest (unit_at r u)
-    unit_same = part_is file r held heads parts u inside
+    unit_same : held_at parts.units.units.items u ≡ head_and_forest (unit_at r u)
+    unit_same = part_is file r parts holds u inside
 
-    table_same : table_held held u ≡ (unit_at r u).table
-    table_same = table_is r.units held u parts.units known_unit
+    table_same : table_held parts.units u ≡ (unit_at r u).table
+    table_same = table_is r.units parts.units u holds.units known_unit
 
     owned : HaveOwners (declarations (unit_at r u)) (unit_at r u).forest
-    owned = unit_owners (debug_info file) (debug_abbrev file) r.units parts.read.units u known_unit
+    owned = unit_owners (debug_info file) (debug_abbrev file) r.units holds.read.units u known_unit
 
     -- VALUES
 
     -- a value that isn't waited for
-    pub not_unread : (unit : HeadAndForest) (v : Value) → unit ≡ held_at held.units.items u → (¬ IsUnread (meant_in unit.forest.section v)) → ¬ IsUnread (meant_in (unit_at r u).forest.section v)
+    pub not_unread : (unit : HeadAndForest) (v : Value) → unit ≡ held_at parts.units.units.items u → (¬ IsUnread (meant_in unit.forest.section v)) → ¬ IsUnread (meant_in (unit_at r u).forest.section v)
     not_unread unit v e none = subst (λ (z : HeadAndForest). ¬ IsUnread (meant_in z.forest.section v)) (e ∙ unit_same) none
 
-    pub is_unread_there : (unit : HeadAndForest) (v : Value) → unit ≡ held_at held.units.items u → IsUnread (meant_in unit.forest.section v) → IsUnread (meant_in (unit_at r u).forest.section v)
+    pub is_unread_there : (unit : HeadAndForest) (v : Value) → unit ≡ held_at parts.units.units.items u → IsUnread (meant_in unit.forest.section v) → IsUnread (meant_in (unit_at r u).forest.section v)
     is_unread_there unit v e is = subst (λ (z : HeadAndForest). IsUnread (meant_in z.forest.section v)) (e ∙ unit_same) is
 
-    -- a value that means nothing
-    pub cause_there : (id name : ℕ) (unit : HeadAndForest) (table : Listing) (v : Value) (kind : Kind) → unit ≡ held_at held.units.items u → table ≡ table_held held u → ((w : Resolved) → Resolves r u id name (meant_in (unit_at r u).forest.section v) w → ⊥) → IsCause (root_attributes unit.forest (declarations_of table)) v kind → FaultValue r u id name (meant_in (unit_at r u).forest.section v) kind
+    -- a value that refers to nothing
+    pub cause_there : (id name : ℕ) (unit : HeadAndForest) (table : Listing) (v : Value) (kind : Kind) → unit ≡ held_at parts.units.units.items u → table ≡ table_held parts.units u → ((w : Linked) → Links r u id name (meant_in (unit_at r u).forest.section v) w → ⊥) → IsCause (root_attributes unit.forest (declarations_of table)) v kind → FaultValue r u id name (meant_in (unit_at r u).forest.section v) kind
     cause_there id name unit table v kind e t none is =
         let by_unit : IsCause (root_attributes (unit_at r u).forest (declarations_of table)) v kind = subst (λ (z : HeadAndForest). IsCause (root_attributes z.forest (declarations_of table)) v kind) (e ∙ unit_same) is in
         let by_table : IsCause (root_attributes (unit_at r u).forest (declarations (unit_at r u))) v kind = subst (λ (z : Listing). IsCause (root_attributes (unit_at r u).forest (declarations_of z)) v kind) (t ∙ table_same) by_unit in
@@ -61,17 +60,17 @@ module _ (file : List ℕ) (r : Reading) (held : Units) (heads : List Head) (par
 
     -- ENTRIES
 
-    module _ (id : ℕ) (known : id < length (held_at held.units.items u).forest.entries) where
+    module _ (id : ℕ) (known : id < length (held_at parts.units.units.items u).forest.entries) where
       known_entry : id < length (unit_at r u).forest.entries
       known_entry = subst (λ (z : HeadAndForest). id < length z.forest.entries) unit_same known
 
-      entry_same : entry_at (held_at held.units.items u).forest.entries id ≡ entry_of (unit_at r u) id
+      entry_same : entry_at (held_at parts.units.units.items u).forest.entries id ≡ entry_of (unit_at r u) id
       entry_same = ap (λ (z : HeadAndForest). entry_at z.forest.entries id) unit_same
 
-      pub entry_linked : AreColumnsLinked r u id (entry_at (held_at held.units.items u).forest.entries id).count → AreColumnsLinked r u id (entry_of (unit_at r u) id).count
+      pub entry_linked : AreColumnsLinked r u id (entry_at (held_at parts.units.units.items u).forest.entries id).count → AreColumnsLinked r u id (entry_of (unit_at r u) id).count
       entry_linked linked = subst (λ (z : Entry). AreColumnsLinked r u id z.count) entry_same linked
 
-      module _ (table : Listing) (t : table ≡ table_held held u) (entry : Entry) (e : entry ≡ entry_at (held_at held.units.items u).forest.entries id) (values : List Value) (v : values ≡ (held_at held.units.items u).forest.values) (k : ℕ) where
+      module _ (table : Listing) (t : table ≡ table_held parts.units u) (entry : Entry) (e : entry ≡ entry_at (held_at parts.units.units.items u).forest.entries id) (values : List Value) (v : values ≡ (held_at parts.units.units.items u).forest.values) (k : ℕ) where
         name_same : (spec_at (declared_at (declarations_of table) entry.decl).columns k).name ≡ (spec_at (declaration_of (unit_at r u) id).columns k).name
         name_same =
             ap (λ (z : Listing). (spec_at (declared_at (declarations_of z) entry.decl).columns k).name) (t ∙ table_same)
@@ -87,7 +86,7 @@ module _ (file : List ℕ) (r : Reading) (held : Units) (heads : List Head) (par
             subst (λ (z : ℕ). IsChecked r u id z (meant_in (unit_at r u).forest.section (value_at (unit_at r u).forest.values ((entry_of (unit_at r u) id).first + k))) found) (n ∙ name_same)
             (subst (λ (z : Value). IsChecked r u id name (meant_in (unit_at r u).forest.section z) found) value_same is)
 
-        pub column_fault : (name : ℕ) (kind : Kind) (place : ℕ) → name ≡ (spec_at (declared_at (declarations_of table) entry.decl).columns k).name → k < entry.count → StandsAtColumn (held_at held.units.items u).forest.section (declarations_of table) (held_at held.units.items u).forest.values (entry_at (held_at held.units.items u).forest.entries id) k place → FaultValue r u id name (meant_in (unit_at r u).forest.section (value_at values (entry.first + k))) kind → FaultAttribute r u kind place
+        pub column_fault : (name : ℕ) (kind : Kind) (place : ℕ) → name ≡ (spec_at (declared_at (declarations_of table) entry.decl).columns k).name → k < entry.count → StandsAtColumn (held_at parts.units.units.items u).forest.section (declarations_of table) (held_at parts.units.units.items u).forest.values (entry_at (held_at parts.units.units.items u).forest.entries id) k place → FaultValue r u id name (meant_in (unit_at r u).forest.section (value_at values (entry.first + k))) kind → FaultAttribute r u kind place
         column_fault name kind place n k_in stands fault =
             let by_unit : StandsAtColumn (unit_at r u).forest.section (declarations_of table) (unit_at r u).forest.values (entry_of (unit_at r u) id) k place =
             subst (λ (z : HeadAndForest). StandsAtColumn z.forest.section (declarations_of table) z.forest.values (entry_at z.forest.entries id) k place) unit_same stands in
@@ -105,34 +104,34 @@ module _ (file : List ℕ) (r : Reading) (held : Units) (heads : List Head) (par
 
     -- UNITS
 
-    pub unit_linked : (n : ℕ) → n ≡ length (held_at held.units.items u).forest.entries → AreEntriesLinked r u n → IsTyped (held_at held.units.items u) true → IsUnitLinked r u
+    pub unit_linked : (n : ℕ) → n ≡ length (held_at parts.units.units.items u).forest.entries → AreEntriesLinked r u n → IsTyped (held_at parts.units.units.items u) true → IsUnitLinked r u
     unit_linked n all linked typed = record {
       entries = subst (AreEntriesLinked r u) (all ∙ ap (λ (z : HeadAndForest). length z.forest.entries) unit_same) linked;
       typed = subst (λ (z : HeadAndForest). IsTyped z true) unit_same typed;
     }
 
-    pub type_fault : IsTyped (held_at held.units.items u) false → FaultType r u NoTarget ((held_at held.units.items u).head.at + 20)
+    pub type_fault : IsTyped (held_at parts.units.units.items u) false → FaultType r u NoTarget ((held_at parts.units.units.items u).head.at + 20)
     type_fault typed =
         let there : IsTyped (head_and_forest (unit_at r u)) false = subst (λ (z : HeadAndForest). IsTyped z false) unit_same typed in
         (there.0, there.1, ap (λ (z : HeadAndForest). z.head.at + 20) unit_same)
 
     -- a value of a unit in which all is linked
-    pub value_checked : IsUnitLinked r u → (id number name : ℕ) (meaning : Meaning) (place : ℕ) → HasValueAt (unit_at r u) id number name meaning place → ((v : Resolved) × Resolves r u id name meaning v) × (¬ IsUnread meaning)
+    pub value_checked : IsUnitLinked r u → (id number name : ℕ) (meaning : Meaning) (place : ℕ) → HasValueAt (unit_at r u) id number name meaning place → ((v : Linked) × Links r u id name meaning v) × (¬ IsUnread meaning)
     value_checked linked id number name meaning place h =
         let section : List ℕ = (unit_at r u).forest.section in
         let column = column_of (unit_at r u) owned id h.known number name meaning place h in
         let k : ℕ = column.0 in
         let there : Meaning = meant_in section (value_at (unit_at r u).forest.values ((entry_of (unit_at r u) id).first + k)) in
         let is = linked.entries id h.known k column.1 in
-        let named : Resolves r u id name there is.0.0 = subst (λ (z : ℕ). Resolves r u id z there is.0.0) (sym column.2) is.0.1 in
-        ((is.0.0, subst (λ (z : Meaning). Resolves r u id name z is.0.0) (sym column.3) named), subst (λ (z : Meaning). ¬ IsUnread z) (sym column.3) is.1)
+        let named : Links r u id name there is.0.0 = subst (λ (z : ℕ). Links r u id z there is.0.0) (sym column.2) is.0.1 in
+        ((is.0.0, subst (λ (z : Meaning). Links r u id name z is.0.0) (sym column.3) named), subst (λ (z : Meaning). ¬ IsUnread z) (sym column.3) is.1)
 
-  held_inside : (u : ℕ) → u < length r.units → u < length held.units.items
-  held_inside u known = subst (λ (z : ℕ). u < z) (sym (parts_count file r held heads parts)) known
+  held_inside : (u : ℕ) → u < length r.units → u < length parts.units.units.items
+  held_inside u known = subst (λ (z : ℕ). u < z) (sym (parts_count file r parts holds)) known
 
   -- ALL
 
-  pub all_linked : (n : ℕ) → n ≡ length held.units.items → ((u : ℕ) → u < n → IsUnitLinked r u) → AreLinked r
+  pub all_linked : (n : ℕ) → n ≡ length parts.units.units.items → ((u : ℕ) → u < n → IsUnitLinked r u) → AreLinked r
   all_linked n all linked = record {
     values = λ u id number name meaning place known h. (value_checked u (held_inside u known) (linked u (subst (λ (z : ℕ). u < z) (sym all) (held_inside u known))) id number name meaning place h).0;
     read = λ u id number name meaning place known h. (value_checked u (held_inside u known) (linked u (subst (λ (z : ℕ). u < z) (sym all) (held_inside u known))) id number name meaning place h).1;

@@ -1,8 +1,9 @@
 -- A file is read in one way.
-use Rattle.std.proofs.Common.{◌≡◌, ◌≤◌, ◌<◌, ◌+◌, ◌∙◌, inl, ℕ, List, [], ◌∷◌, length, get_or, map, sym, ap, subst, refl, arith}
-use Rattle.std.specs.List.{All}
-use Rattle.std.proofs.lemmas.List.{ext_get_or, get_or-map, length-map}
-use Rattle.std.proofs.lemmas.List.Elements.{All-head, All-tail, All-get_or}
+use Rattle.std.proofs.Common.{◌≡◌, ◌≤◌, ◌<◌, ◌+◌, ◌∙◌, inl, ℕ, List, [], ◌∷◌, length, get_or, sym, ap, subst, refl, arith}
+use Rattle.std.specs.Prelude.{Option, Some, None}
+use Rattle.std.specs.List.{All, AllZip}
+use Rattle.std.proofs.lemmas.List.{get_or-map, length-map}
+use Rattle.std.proofs.lemmas.List.Elements.{All-head, All-tail}
 use Rattle.line_machine.specs.declared.head.Head.{Head}
 use Rattle.line_machine.specs.declared.registers.Row.{Row}
 use Rattle.line_machine.specs.Heads.{IsHead as IsLineHead, program_of}
@@ -12,29 +13,45 @@ use Rattle.line_write.specs.Programs.{Follow as ProgramsFollow}
 use Rattle.line_write.proofs.Tiling.{head_is as line_head_is}
 use Rattle.abbrev_tables.specs.Tables.{Declared}
 use Rattle.abbrev_tables.specs.Listings.{Listing, IsTableAt}
-use Rattle.abbrev_tables.specs.Parts.{IsPart}
-use Rattle.abbrev_tables.proofs.PartsOnce.{HasNumber, rising_once, part_once}
-use Rattle.entry_arena.specs.declared.entry.Entry.{Entry}
-use Rattle.entry_arena.specs.Arena.{Arena, entry_at}
+use Rattle.entry_arena.specs.Arena.{Arena}
 use Rattle.entry_arena.specs.Trees.{Listed, listed_to}
 use Rattle.entry_arena.specs.ForestLaws.{HaveCodes}
 use Rattle.entry_arena.proofs.WalkLaws.{table_codes}
 use Rattle.entry_read.specs.declared.head.UnitHead.{UnitHead}
 use Rattle.entry_read.specs.Heads.{Follow as UnitsFollow}
 use Rattle.entry_read.specs.Units.{declarations_of, IsUnitHeld}
-use Rattle.entry_read.proofs.Declarations.{have_codes}
-use Rattle.entry_read.proofs.Tiling.{one_tile}
+use Rattle.entry_read.proofs.Tiling.{one_head, end_apart}
 use Rattle.entry_read.proofs.Whole.{one_unit}
+use Rattle.form_codec.specs.Forms.{Meaning}
+use Rattle.list_model.specs.declared.context.Context.{Context}
+use Rattle.list_model.specs.declared.tables.AddrTable.{AddrTable}
+use Rattle.list_model.specs.Addresses.{HasBase}
+use Rattle.list_model.proofs.Walking.{one_table}
 use Rattle.companions.specs.declared.set.ArangeSet.{ArangeSet}
 use Rattle.companions.specs.Aranges.{AreRising, SetsTile}
 use Rattle.companions.proofs.Tiling.{one_tile as one_set_tile}
 use Rattle.value_links.specs.Sections.{debug_info, debug_abbrev, debug_line, debug_aranges}
-use Rattle.value_links.specs.Reading.{ProgramRead, UnitRead, line_heads, unit_heads, unit_starts, no_unit, unit_among, HasRows, declarations, IsUnitRead, IsUnitByTable, AreUnitsIn}
-use Rattle.value_links.specs.Laws.{OneReading}
+use Rattle.value_links.specs.Attributes.{addr_base}
+use Rattle.value_links.specs.Reading.{ProgramRead, UnitRead, Linkable, line_heads, unit_heads, unit_starts, no_unit, HasRows, declarations, IsUnitRead}
+use Rattle.value_links.specs.Values.{root_of}
+use Rattle.value_links.specs.Contexts.{low_pcs, first_base, IsTableOf, IsContext}
+use Rattle.value_links.specs.Whole.{AreContexts}
+use Rattle.value_links.specs.Laws.{OneLinkable, OneReading}
 use Rattle.abbrev_tables.proofs.ListingOnce.{listing_once}
 use Rattle.entry_read.proofs.Chained.{stand_apart, has_bytes}
 use Rattle.value_links.proofs.Tiles.{units_chained}
-use Rattle.value_links.proofs.WholeTables.{in_whole, whole_unit, entry_known, by_whole}
+use Rattle.value_links.proofs.Bases.{one_base}
+
+-- LISTS
+
+-- lists that stand beside the same items are one
+pub zip_once : {A B : Type 0} (R : A → B → Type 0) → ((a : A) (x y : B) → R a x → R a y → x ≡ y) → (items : List A) (xs ys : List B) → AllZip R items xs → AllZip R items ys → xs ≡ ys
+zip_once R one [] [] [] p q = refl
+zip_once R one [] [] (y ∷ ys) p q = absurd q
+zip_once R one [] (x ∷ xs) ys p q = absurd p
+zip_once R one (a ∷ items) [] ys p q = absurd p
+zip_once R one (a ∷ items) (x ∷ xs) [] p q = absurd q
+zip_once R one (a ∷ items) (x ∷ xs) (y ∷ ys) (p, ps) (q, qs) = ap (λ z. z ∷ xs) (one a x y p q) ∙ ap (λ z. y ∷ z) (zip_once R one items xs ys ps qs)
 
 -- LINE NUMBER PROGRAMS
 
@@ -66,86 +83,25 @@ forest_once info head ds f g codes f_in g_in (f_end, f_is) (g_end, g_is) =
     ap (λ (z : List ℕ). record { section = z; entries = f.entries; values = f.values; ends = f.ends }) (f_in ∙ sym g_in)
     ∙ ap (λ (z : Listed). record { section = g.section; entries = z.entries; values = z.values; ends = z.ends }) listed
 
--- units with the same header and declarations are the same
-parts_same : (info : List ℕ) (u v : UnitRead) → u.head ≡ v.head → u.table ≡ v.table → HaveCodes (declarations v) → u.forest.section ≡ info → v.forest.section ≡ info → IsUnitHeld info u.head (declarations u) u.forest → IsUnitHeld info v.head (declarations v) v.forest → u ≡ v
-parts_same info u v head table codes u_in v_in u_is v_is =
-    let held : IsUnitHeld info v.head (declarations v) u.forest = subst (λ (z : UnitHead). IsUnitHeld info z (declarations v) u.forest) head (subst (λ (z : Listing). IsUnitHeld info u.head (declarations_of z) u.forest) table u_is) in
-    let forest : u.forest ≡ v.forest = forest_once info v.head (declarations v) u.forest v.forest codes u_in v_in held v_is in
+pub unit_same : (info abbrevs : List ℕ) (u v : UnitRead) → u.head ≡ v.head → IsUnitRead info abbrevs u → IsUnitRead info abbrevs v → u ≡ v
+unit_same info abbrevs u v head p q =
+    let place : u.head.table ≡ v.head.table = ap (λ h. h.table) head in
+    let table : u.table ≡ v.table = listing_once abbrevs v.head.table u.table v.table (subst (λ (z : ℕ). IsTableAt abbrevs z u.table) place p.table) q.table in
+    let held : IsUnitHeld info v.head (declarations v) u.forest = subst (λ (z : UnitHead). IsUnitHeld info z (declarations v) u.forest) head (subst (λ (z : Listing). IsUnitHeld info u.head (declarations_of z) u.forest) table p.entries) in
+    let forest : u.forest ≡ v.forest = forest_once info v.head (declarations v) u.forest v.forest (table_codes (declarations v) _ q.table.table) p.section q.section held q.entries in
     ap (λ (z : UnitHead). record { head = z; table = u.table; forest = u.forest }) head
     ∙ ap (λ (z : Listing). record { head = v.head; table = z; forest = u.forest }) table
     ∙ ap (λ (z : Arena). record { head = v.head; table = v.table; forest = z }) forest
 
--- units by whole tables with the same header are the same
-pub unit_same : (info abbrevs : List ℕ) (u v : UnitRead) → u.head ≡ v.head → IsUnitByTable info abbrevs u → IsUnitByTable info abbrevs v → u ≡ v
-unit_same info abbrevs u v head p q =
-    let place : u.head.table ≡ v.head.table = ap (λ h. h.table) head in
-    let table : u.table ≡ v.table = listing_once abbrevs v.head.table u.table v.table (subst (λ (z : ℕ). IsTableAt abbrevs z u.table) place p.table) q.table in
-    parts_same info u v head table (table_codes (declarations v) _ q.table.table) p.section q.section p.entries q.entries
-
--- Two lists of units are the same section, and have the same headers.
-module _ (info abbrevs : List ℕ) (us vs : List UnitRead) (p : AreUnitsIn info abbrevs us) (q : AreUnitsIn info abbrevs vs) (heads : unit_heads us ≡ unit_heads vs) where
-  size : length us ≡ length vs
-  size = sym (length-map us (λ (u : UnitRead). u.head)) ∙ ap length heads ∙ length-map vs (λ (u : UnitRead). u.head)
-
-  there : (u : ℕ) → u < length us → u < length vs
-  there u inside = subst (λ (z : ℕ). u < z) size inside
-
-  head_same : (u : ℕ) → u < length us → (unit_among us u).head ≡ (unit_among vs u).head
-  head_same u inside =
-      sym (get_or-map (λ (x : UnitRead). x.head) us u no_unit no_unit.head inside) ∙ ap (λ z. get_or z u no_unit.head) heads ∙ get_or-map (λ (x : UnitRead). x.head) vs u no_unit no_unit.head (there u inside)
-
-  -- Each declaration of a part is that of an entry, and the entry has it among the units of the other list too.
-  pick_found : (u : ℕ) → u < length us → (whole : Listing) (picks others : List ℕ) → IsTableAt abbrevs (unit_among us u).head.table whole → IsPart whole picks (unit_among us u).table → IsPart whole others (unit_among vs u).table → (k : ℕ) → k < length picks → HasNumber others (get_or picks k 0)
-  pick_found u inside whole picks others stands part other k known =
-      let e = p.used.used u k inside (subst (λ (z : ℕ). k < z) (sym part.count) known) in
-      let x : UnitRead = unit_among us e.u in
-      let y : UnitRead = unit_among vs e.u in
-      let x_read : IsUnitRead info abbrevs x = All-get_or (IsUnitRead info abbrevs) us e.u no_unit e.inside p.each in
-      let y_read : IsUnitRead info abbrevs y = All-get_or (IsUnitRead info abbrevs) vs e.u no_unit (there e.u e.inside) q.each in
-      let head : x.head ≡ y.head = head_same e.u e.inside in
-      let place : x.head.table ≡ (unit_among us u).head.table = e.named in
-      let y_place : y.head.table ≡ (unit_among vs u).head.table = ap (λ (h : UnitHead). h.table) (sym head) ∙ place ∙ ap (λ (h : UnitHead). h.table) (head_same u inside) in
-      let x_table : x.table ≡ (unit_among us u).table = p.used.alike e.u u e.inside inside place in
-      let y_table : y.table ≡ (unit_among vs u).table = q.used.alike e.u u (there e.u e.inside) (there u inside) y_place in
-      let x_stands : IsTableAt abbrevs x.head.table whole = subst (λ (z : ℕ). IsTableAt abbrevs z whole) (sym place) stands in
-      let y_stands : IsTableAt abbrevs y.head.table whole = subst (λ (h : UnitHead). IsTableAt abbrevs h.table whole) head x_stands in
-      let x_part : IsPart whole picks x.table = subst (IsPart whole picks) (sym x_table) part in
-      let y_part : IsPart whole others y.table = subst (IsPart whole others) (sym y_table) other in
-      let same : whole_unit x whole picks ≡ whole_unit y whole others = unit_same info abbrevs (whole_unit x whole picks) (whole_unit y whole others) head (by_whole info abbrevs x x_read whole picks x_stands x_part) (by_whole info abbrevs y y_read whole others y_stands y_part) in
-      let entries : map (in_whole picks) x.forest.entries ≡ map (in_whole others) y.forest.entries = ap (λ (z : UnitRead). z.forest.entries) same in
-      let count : length x.forest.entries ≡ length y.forest.entries = sym (length-map x.forest.entries (in_whole picks)) ∙ ap length entries ∙ length-map y.forest.entries (in_whole others) in
-      let id_in : e.id < length y.forest.entries = subst (λ (z : ℕ). e.id < z) count e.there in
-      let no_entry : Entry = entry_at [] 0 in
-      let one : in_whole picks (entry_at x.forest.entries e.id) ≡ in_whole others (entry_at y.forest.entries e.id) =
-      sym (get_or-map (in_whole picks) x.forest.entries e.id no_entry no_entry e.there) ∙ ap (λ z. get_or z e.id no_entry) entries ∙ get_or-map (in_whole others) y.forest.entries e.id no_entry no_entry id_in in
-      let decl : get_or picks (entry_at x.forest.entries e.id).decl 0 ≡ get_or others (entry_at y.forest.entries e.id).decl 0 = ap (λ (z : Entry). z.decl) one in
-      let had : (entry_at y.forest.entries e.id).decl < length others = subst (λ (z : ℕ). (entry_at y.forest.entries e.id).decl < z) y_part.count (entry_known info abbrevs y y_read e.id id_in) in
-      ((entry_at y.forest.entries e.id).decl, had, sym decl ∙ ap (λ (z : ℕ). get_or picks z 0) e.is)
-
-module _ (info abbrevs : List ℕ) (us vs : List UnitRead) (p : AreUnitsIn info abbrevs us) (q : AreUnitsIn info abbrevs vs) where
-  heads_once : unit_heads us ≡ unit_heads vs
-  heads_once = one_tile info (unit_heads us) (unit_heads vs) 0 p.tiled q.tiled
-
-  -- so each unit has the same part of its table
-  unit_once : (u : ℕ) → u < length us → unit_among us u ≡ unit_among vs u
-  unit_once u inside =
-      let x : UnitRead = unit_among us u in
-      let y : UnitRead = unit_among vs u in
-      let u_in : u < length vs = there info abbrevs us vs p q heads_once u inside in
-      let x_read : IsUnitRead info abbrevs x = All-get_or (IsUnitRead info abbrevs) us u no_unit inside p.each in
-      let y_read : IsUnitRead info abbrevs y = All-get_or (IsUnitRead info abbrevs) vs u no_unit u_in q.each in
-      let head : x.head ≡ y.head = head_same info abbrevs us vs p q heads_once u inside in
-      let x_stands : IsTableAt abbrevs y.head.table x_read.table.whole = subst (λ (h : UnitHead). IsTableAt abbrevs h.table x_read.table.whole) head x_read.table.stands in
-      let whole : x_read.table.whole ≡ y_read.table.whole = listing_once abbrevs y.head.table x_read.table.whole y_read.table.whole x_stands y_read.table.stands in
-      let y_part : IsPart x_read.table.whole y_read.table.picks y.table = subst (λ (z : Listing). IsPart z y_read.table.picks y.table) (sym whole) y_read.table.is in
-      let onward = pick_found info abbrevs us vs p q heads_once u inside x_read.table.whole x_read.table.picks y_read.table.picks x_read.table.stands x_read.table.is y_part in
-      let back = pick_found info abbrevs vs us q p (sym heads_once) u u_in x_read.table.whole y_read.table.picks x_read.table.picks x_stands y_part x_read.table.is in
-      let picks : x_read.table.picks ≡ y_read.table.picks = rising_once x_read.table.picks y_read.table.picks x_read.table.is.rising y_read.table.is.rising onward back in
-      let table : x.table ≡ y.table = part_once x_read.table.whole y_read.table.picks x.table y.table (subst (λ (z : List ℕ). IsPart x_read.table.whole z x.table) picks x_read.table.is) y_part in
-      parts_same info x y head table (have_codes y.table (abbrevs, y.head.table, y_read.table)) x_read.section y_read.section x_read.entries y_read.entries
-
-  pub units_once : us ≡ vs
-  units_once = ext_get_or no_unit us vs (size info abbrevs us vs p q heads_once) unit_once
+pub units_once : (info abbrevs : List ℕ) (us vs : List UnitRead) (a : ℕ) → UnitsFollow info (unit_heads us) a (length info) → UnitsFollow info (unit_heads vs) a (length info) → All (IsUnitRead info abbrevs) us → All (IsUnitRead info abbrevs) vs → us ≡ vs
+units_once info abbrevs [] [] a f g p q = refl
+units_once info abbrevs [] (v ∷ vs) a f (here, stands, rest) p q = absurd (end_apart info v.head a stands here f)
+units_once info abbrevs (u ∷ us) [] a (here, stands, rest) g p q = absurd (end_apart info u.head a stands here g)
+units_once info abbrevs (u ∷ us) (v ∷ vs) a (u_at, u_is, f) (v_at, v_is, g) p q =
+    let head : u.head ≡ v.head = one_head info u.head v.head a u_is v_is u_at v_at in
+    let one : u ≡ v = unit_same info abbrevs u v head (All-head (IsUnitRead info abbrevs) u us p) (All-head (IsUnitRead info abbrevs) v vs q) in
+    let moved : UnitsFollow info (unit_heads us) (a + v.head.len) (length info) = subst (λ (z : UnitHead). UnitsFollow info (unit_heads us) (a + z.len) (length info)) head f in
+    ap (λ z. z ∷ us) one ∙ ap (λ z. v ∷ z) (units_once info abbrevs us vs (a + v.head.len) moved g (All-tail (IsUnitRead info abbrevs) u us p) (All-tail (IsUnitRead info abbrevs) v vs q))
 
 -- the places of units rise
 pub starts_rise : (info : List ℕ) (units : List UnitRead) → UnitsFollow info (unit_heads units) 0 (length info) → AreRising (unit_starts units)
@@ -162,13 +118,45 @@ starts_rise info units f i j less inside =
     let second : get_or (unit_starts units) j 0 ≡ at (get_or units j no_unit) = get_or-map at units j no_unit 0 j_in in
     omega arith
 
+-- CONTEXTS
+
+module _ (addr : List ℕ) (attributes : List (ℕ × Meaning)) where
+  table_once : (x y : Option AddrTable) → IsTableOf addr attributes x → IsTableOf addr attributes y → x ≡ y
+  table_once (Some t) (Some o) (base, first, has) (other, second, stands) =
+      let same : other ≡ base = one_base attributes addr_base other base second first in
+      ap (λ (z : AddrTable). Some z) (one_table addr base t o has (subst (λ (z : ℕ). HasBase addr z o) same stands))
+  table_once (Some t) None named none = absurd (none t named)
+  table_once None (Some o) none named = absurd (none o named)
+  table_once None None none other = refl
+
+  context_once : (c d : Context) → IsContext addr attributes c → IsContext addr attributes d → c ≡ d
+  context_once c d p q =
+      let table : c.table ≡ d.table = table_once c.table d.table p.table q.table in
+      let base : c.base ≡ d.base = p.base ∙ ap (λ (z : Option AddrTable). first_base addr z (low_pcs attributes)) table ∙ sym q.base in
+      ap (λ (z : ℕ). record { base = z; table = c.table }) base ∙ ap (λ (z : Option AddrTable). record { base = d.base; table = z }) table
+
+contexts_once : (addr : List ℕ) (units : List UnitRead) (cs ds : List Context) → AreContexts addr units cs → AreContexts addr units ds → cs ≡ ds
+contexts_once addr units cs ds p q = zip_once (λ (unit : UnitRead) (context : Context). IsContext addr (root_of unit).attributes context) (λ unit. context_once addr (root_of unit).attributes) units cs ds p q
+
+-- ALL OF THEM
+
+pub linkable_once : OneLinkable
+linkable_once file r s p q =
+    let programs : r.programs ≡ s.programs = programs_once (debug_line file) r.programs s.programs 0 p.programs.tiled q.programs.tiled p.programs.given q.programs.given in
+    let units : r.units ≡ s.units = units_once (debug_info file) (debug_abbrev file) r.units s.units 0 p.units.tiled q.units.tiled p.units.each q.units.each in
+    let addresses : r.addresses ≡ s.addresses = p.addresses ∙ sym q.addresses in
+    let by_units : AreContexts r.addresses s.units r.contexts = subst (λ (z : List UnitRead). AreContexts r.addresses z r.contexts) units p.contexts in
+    let by_addresses : AreContexts s.addresses s.units r.contexts = subst (λ (z : List ℕ). AreContexts z s.units r.contexts) addresses by_units in
+    let contexts : r.contexts ≡ s.contexts = contexts_once s.addresses s.units r.contexts s.contexts by_addresses q.contexts in
+    ap (λ (z : List ProgramRead). record { programs = z; units = r.units; addresses = r.addresses; contexts = r.contexts }) programs
+    ∙ ap (λ (z : List UnitRead). record { programs = s.programs; units = z; addresses = r.addresses; contexts = r.contexts }) units
+    ∙ ap (λ (z : List ℕ). record { programs = s.programs; units = s.units; addresses = z; contexts = r.contexts }) addresses
+    ∙ ap (λ (z : List Context). record { programs = s.programs; units = s.units; addresses = s.addresses; contexts = z }) contexts
+
 pub reading_once : OneReading
 reading_once file r s p q =
-    let programs : r.programs ≡ s.programs = programs_once (debug_line file) r.programs s.programs 0 p.parts.programs.tiled q.parts.programs.tiled p.parts.programs.given q.parts.programs.given in
-    let units : r.units ≡ s.units = units_once (debug_info file) (debug_abbrev file) r.units s.units p.parts.units q.parts.units in
-    let rising : AreRising (unit_starts s.units) = starts_rise (debug_info file) s.units q.parts.units.tiled in
-    let moved = subst (λ (z : List UnitRead). SetsTile (debug_aranges file) (unit_starts z) r.sets) units p.sets in
-    let sets : r.sets ≡ s.sets = one_set_tile (debug_aranges file) (unit_starts s.units) r.sets s.sets 0 rising moved q.sets in
-    ap (λ (z : List ProgramRead). record { programs = z; units = r.units; sets = r.sets }) programs
-    ∙ ap (λ (z : List UnitRead). record { programs = s.programs; units = z; sets = r.sets }) units
-    ∙ ap (λ (z : List ArangeSet). record { programs = s.programs; units = s.units; sets = z }) sets
+    let links : r.links ≡ s.links = linkable_once file r.links s.links p.links q.links in
+    let rising : AreRising (unit_starts s.links.units) = starts_rise (debug_info file) s.links.units q.links.units.tiled in
+    let moved : SetsTile (debug_aranges file) (unit_starts s.links.units) r.sets = subst (λ (z : Linkable). SetsTile (debug_aranges file) (unit_starts z.units) r.sets) links p.sets in
+    let sets : r.sets ≡ s.sets = one_set_tile (debug_aranges file) (unit_starts s.links.units) r.sets s.sets 0 rising moved q.sets in
+    ap (λ (z : Linkable). record { links = z; sets = r.sets }) links ∙ ap (λ (z : List ArangeSet). record { links = s.links; sets = z }) sets

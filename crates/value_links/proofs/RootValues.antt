@@ -1,8 +1,8 @@
 -- The attributes of the root of a unit, one by one, and the first of them that gives a base or an address.
-use Rattle.std.proofs.Common.{◌≡◌, ◌≢◌, ◌≤◌, ◌<◌, ◌+◌, ◌∙◌, ◌++◌, inl, inr, take, drop, ℕ, List, [], ◌∷◌, length, get_or, sym, ap, subst, arith}
+use Rattle.std.proofs.Common.{◌≡◌, ◌≢◌, ◌≤◌, ◌<◌, ◌+◌, ◌∙◌, inl, inr, take, drop, ℕ, List, [], ◌∷◌, length, get_or, sym, ap, subst, arith}
 use Rattle.std.specs.Prelude.{◌↔◌, Bool, true, false, filter, map, if◌then◌else◌}
 use Rattle.std.specs.List.{Contains}
-use Rattle.std.proofs.lemmas.List.{drop_more, at_drop_all, length-append}
+use Rattle.std.proofs.lemmas.List.{drop_more, at_drop_all}
 use Rattle.form_codec.specs.declared.value.Value.{Value}
 use Rattle.form_codec.specs.Forms.{Meaning}
 use Rattle.form_codec.specs.Forms.Meaning.{SectionPlace}
@@ -14,11 +14,11 @@ use Rattle.entry_arena.specs.Trees.{declared_at}
 use Rattle.entry_arena.proofs.SpellingLaws.{attributes_count, attribute_at}
 use Rattle.entry_read.specs.Units.{HeadAndForest, declarations_of}
 use Rattle.value_links.specs.Values.{IsFirstBase}
-use Rattle.value_links.specs.Checks.{IsUnitWithTable, root_attributes, IsAttributeAt, HasBase}
+use Rattle.value_links.specs.inside.Checks.{IsUnitWithTable, root_attributes, IsAttributeAt, HasBase}
 use Rattle.value_links.specs.Contexts.{is_low_pc, low_pcs}
 use Rattle.value_links.proofs.TabledUnits.{owners, has_root}
 use Rattle.value_links.proofs.Causes.{own_value, own_count}
-use Rattle.value_links.proofs.Resolving.{IsBase, is_base, split_first, behind}
+use Rattle.value_links.proofs.Bases.{IsBase, split_first, behind, none_first}
 
 -- ATTRIBUTES BY THEIR NUMBERS
 
@@ -56,35 +56,6 @@ module _ (unit : HeadAndForest) (table : Listing) (is : IsUnitWithTable unit tab
         drop_more attributes k (name, meant_in unit.forest.section v) inside ∙ ap (λ (z : ℕ × Meaning). z ∷ drop (k + 1) attributes) same
 
 -- THE FIRST BASE
-
-none_first : (name n : ℕ) → ¬ IsFirstBase [] name n
-none_first name n h =
-    let size : length (h.before ++ (name, SectionPlace n) ∷ h.after) ≡ length h.before + length ((name, SectionPlace n) ∷ h.after) = length-append h.before ((name, SectionPlace n) ∷ h.after) in
-    let none : 0 ≡ length (h.before ++ (name, SectionPlace n) ∷ h.after) = ap length h.parts in
-    absurd (omega arith)
-
-abbrev place_in : Meaning → ℕ
-place_in (SectionPlace n) = n
-place_in meaning = 0
-
--- the first base is the head where that is one
-first_is : (a : ℕ × Meaning) (attributes : List (ℕ × Meaning)) (name n k : ℕ) (before after : List (ℕ × Meaning)) → a ≡ (name, SectionPlace k) → a ∷ attributes ≡ before ++ (name, SectionPlace n) ∷ after → ((m : ℕ) → ¬ Contains before (name, SectionPlace m)) → n ≡ k
-first_is a attributes name n k [] after here parts first =
-    let same : a ≡ (name, SectionPlace n) = cc in
-    ap (λ (z : ℕ × Meaning). place_in z.1) (sym same ∙ here)
-first_is a attributes name n k (b ∷ before) after here parts first =
-    let same : b ≡ (name, SectionPlace k) = cc in
-    absurd (first k (0, omega arith, same))
-
-pub one_base : (attributes : List (ℕ × Meaning)) (name n m : ℕ) → IsFirstBase attributes name n → IsFirstBase attributes name m → n ≡ m
-one_base [] name n m f g = absurd (none_first name n f)
-one_base (a ∷ attributes) name n m f g = elim (is_base a name) [
-  | inl here ↦ first_is a attributes name n here.0 f.before f.after here.1 f.parts f.first ∙ sym (first_is a attributes name m here.0 g.before g.after here.1 g.parts g.first)
-  | inr other ↦ one_base attributes name n m (behind_it a attributes name n other f) (behind_it a attributes name m other g)
-]
-  where
-    behind_it : (a : ℕ × Meaning) (attributes : List (ℕ × Meaning)) (name n : ℕ) → (¬ IsBase a name) → IsFirstBase (a ∷ attributes) name n → IsFirstBase attributes name n
-    behind_it a attributes name n other f = elim (split_first a attributes name n f.before f.after f.parts f.first) [ inl here ↦ absurd (other here) | inr later ↦ later ]
 
 -- the first base stands at an attribute with this number or behind it
 abbrev pub IsBaseFrom : List (ℕ × Meaning) → ℕ → ℕ → Type 0

@@ -14,8 +14,9 @@ use Rattle.line_machine.specs.declared.head.Head.{Head}
 use Rattle.entry_read.specs.declared.head.UnitHead.{UnitHead}
 use Rattle.entry_read.specs.Units.{HeadAndForest}
 use Rattle.value_links.specs.declared.link.Link.TheVariants.{Place}
-use Rattle.value_links.specs.Resolved.{IsTargetAt}
-use Rattle.value_links.specs.Links.{held_at, program_among, IsLastFrom, IsTargetFound, IsSectionTargetFound, AreUnitsApart, AreProgramsApart}
+use Rattle.value_links.specs.Linked.{IsTargetAt}
+use Rattle.value_links.specs.Links.{held_at}
+use Rattle.value_links.specs.inside.Links.{program_among, IsLastFrom, IsTargetFound, IsSectionTargetFound, AreUnitsApart, AreProgramsApart}
 
 -- TARGETS
 

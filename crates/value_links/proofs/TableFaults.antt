@@ -1,8 +1,6 @@
 -- The faults of a table, where they stand: no further than the bytes go, and none of them is that a table can't be written yet.
-use Rattle.std.proofs.Common.{◌≡◌, ◌≤◌, ◌<◌, ◌+◌, ◌-◌, ◌^◌, ◌∙◌, ◌++◌, inl, inr, ℕ, List, length, get_or, drop, ap, arith}
-use Rattle.std.specs.List.{Contains}
+use Rattle.std.proofs.Common.{◌≡◌, ◌≤◌, ◌<◌, ◌+◌, ◌-◌, ◌^◌, ◌∙◌, ◌++◌, inl, inr, ℕ, List, length, drop, ap, arith}
 use Rattle.std.proofs.lemmas.List.{length-append, length-drop}
-use Rattle.std.proofs.lemmas.Grind.{get_or_default_zero}
 use Rattle.dw_base.specs.declared.fault.Kind.{Kind}
 use Rattle.dw_base.specs.declared.fault.Kind.TheVariants.{Limit, LebWide, Short, FormUnknown, CodeTwice, Unbuilt}
 use Rattle.dw_base.specs.declared.fault.Refusal.{Refusal}
@@ -13,7 +11,6 @@ use Rattle.leb_codec.specs.Leb.{Uleb}
 use Rattle.abbrev_tables.specs.Tables.{SpellsName, SpellsColumn, SpellsChildren, SpellsDeclared}
 use Rattle.abbrev_tables.specs.Faults.{FaultNumber, FaultName, FaultForm, FaultCode, FaultColumn, FaultColumns, FaultChildren, FaultFlagged, FaultTagged, FaultWithin, FaultDeclared, FaultTable}
 use Rattle.abbrev_tables.specs.Readings.{IsRefusal}
-use Rattle.abbrev_tables.specs.Shared.{IsRefusalAmong}
 use Rattle.value_links.specs.Faults.{FaultRest}
 
 -- each fault stands no further than the bytes go
@@ -111,11 +108,3 @@ table_refused abbrevs place origin (Refused fault) inside room f =
     let fits : origin + place + f.inner < 2 ^ 64 = omega arith in
     (f.inner, f.place fits, rest_of_table fault.kind f.inner (drop place abbrevs) f.fault)
 table_refused abbrevs place origin NoMemory inside room f = tt
-
--- a refusal of the reader of several tables names a fault of the bytes from one of them on
-pub tables_refused : (abbrevs places : List ℕ) (origin : ℕ) (refusal : Refusal) → ((place : ℕ) → Contains places place → place < length abbrevs) → origin + length abbrevs < 2 ^ 64 → IsRefusalAmong abbrevs places origin refusal → IsRefusedFor (λ fault. (place : ℕ) × Contains places place × IsFaultOf (FaultRest (drop place abbrevs)) (origin + place) fault) refusal
-tables_refused abbrevs places origin (Refused fault) inside room (i, here, f) =
-    let place : ℕ = get_or places i 0 in
-    let among : Contains places place = (i, here, get_or_default_zero places i place here) in
-    (place, among, table_refused abbrevs place origin (Refused fault) (inside place among) room f)
-tables_refused abbrevs places origin NoMemory inside room f = tt

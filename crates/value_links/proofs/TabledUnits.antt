@@ -9,7 +9,8 @@ use Rattle.entry_arena.specs.Trees.{declared_at, listed_to}
 use Rattle.entry_arena.proofs.TreeLaws.{trees_are_walks}
 use Rattle.form_codec.specs.Values.{LiesIn}
 use Rattle.abbrev_tables.specs.Listings.{Listing}
-use Rattle.entry_read.specs.Heads.{Follow, IsHead, type_unit, unit_type, unit_end, header_size}
+use Rattle.fixed_width.specs.InitialLengths.{unit_end}
+use Rattle.entry_read.specs.Heads.{Follow, IsHead, type_unit, unit_type, header_size}
 use Rattle.entry_read.specs.Units.{HeadAndForest, declarations_of, entries_at, IsUnit}
 use Rattle.entry_read.specs.Places.{HaveOwners}
 use Rattle.entry_read.proofs.OwnerLaws.{values_belong}
@@ -20,7 +21,7 @@ use Rattle.value_links.specs.Reading.{UnitRead, unit_heads, unit_among, IsUnitRe
 use Rattle.value_links.specs.World.{head_and_forest, table_at}
 use Rattle.value_links.specs.Links.{held_at}
 use Rattle.value_links.specs.Parts.{HoldUnits}
-use Rattle.value_links.specs.Checks.{AreSomeUnits, table_held, IsUnitWithTable}
+use Rattle.value_links.specs.inside.Checks.{AreSomeUnits, table_held, IsUnitWithTable}
 use Rattle.value_links.proofs.HeldUnits.{few_units, unit_is, held_count, held_is}
 
 pub follow_head : (section : List ℕ) (units : List UnitRead) (a e u : ℕ) → Follow section (unit_heads units) a e → u < length units → IsHead section (unit_among units u).head

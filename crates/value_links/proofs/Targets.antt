@@ -10,7 +10,7 @@ use Rattle.entry_read.specs.declared.head.UnitHead.{UnitHead}
 use Rattle.entry_read.specs.Units.{entries_at, end_of, IsUnitHeld}
 use Rattle.entry_read.specs.Places.{LiesInUnit}
 use Rattle.entry_read.proofs.PlaceLaws.{units_lie}
-use Rattle.value_links.specs.Resolved.{IsTargetAt}
+use Rattle.value_links.specs.Linked.{IsTargetAt}
 
 -- an entry of a forest in order has one place, and the place one entry
 pub entry_once : (f : Arena) → IsInOrder f → (i j place : ℕ) → IsEntryAt f i place → IsEntryAt f j place → i ≡ j

@@ -1,6 +1,6 @@
 -- Units, and line number programs, stand one after the other.
 use Rattle.std.proofs.Common.{◌≡◌, ◌<◌, ◌+◌, ◌-◌, ℕ, List, [], ◌∷◌, ap, arith}
-use Rattle.line_machine.specs.Heads.{unit_end as line_end}
+use Rattle.fixed_width.specs.InitialLengths.{unit_end as line_end}
 use Rattle.line_write.specs.Programs.{Follow as ProgramsFollow}
 use Rattle.entry_read.specs.Heads.{Follow as UnitsFollow}
 use Rattle.entry_read.proofs.Chained.{Chained}

@@ -6,8 +6,8 @@ use Rattle.entry_arena.specs.declared.entry.Target.TheVariants.{Entry as TheEntr
 use Rattle.entry_arena.specs.Order.{IsInOrder}
 use Rattle.entry_read.specs.declared.head.UnitHead.{UnitHead}
 use Rattle.entry_read.specs.Units.{HeadAndForest}
-use Rattle.value_links.specs.Links.{IsTargetFound}
-use Rattle.value_links.specs.Checks.{NamesType}
+use Rattle.value_links.specs.inside.Links.{IsTargetFound}
+use Rattle.value_links.specs.inside.Checks.{NamesType}
 use Rattle.value_links.proofs.Targets.{never_both}
 
 module _ (unit : HeadAndForest) where

@@ -1,4 +1,4 @@
--- Units that are read by whole tables have no fault, nor have their tables.
+-- Units that are read have no fault, nor have their tables.
 use Rattle.std.proofs.Common.{◌≡◌, ◌≢◌, ◌≤◌, ◌<◌, ◌+◌, ◌-◌, ◌∙◌, ◌++◌, inl, inr, ℕ, suc, List, [], ◌∷◌, Bool, true, false, true≢false, length, take, drop, sym, ap, subst, refl, arith}
 use Rattle.std.specs.List.{All, Contains, sum_by}
 use Rattle.std.proofs.lemmas.List.{take-append-drop, append_assoc, append_cancel_left}
@@ -24,12 +24,11 @@ use Rattle.entry_read.specs.Faults.{FaultUnit}
 use Rattle.entry_read.proofs.Tiling.{one_head, end_apart, heads_whole}
 use Rattle.entry_read.proofs.Whole.{unit_whole}
 use Rattle.entry_read.proofs.PlaceLaws.{only_limits_count}
-use Rattle.value_links.specs.Reading.{UnitRead, unit_heads, counts_of, AreWithin, declarations, IsUnitByTable, AreUnitsIn}
+use Rattle.value_links.specs.Reading.{UnitRead, unit_heads, counts_of, AreWithin, declarations, IsUnitRead}
 use Rattle.value_links.specs.Faults.{IsUnitOf, FaultOffset, FaultRest, FaultTables, FaultEntries, FaultUnits, InfoFault}
 use Rattle.value_links.specs.Laws.{IsBuilt, AreBuilt}
 use Rattle.abbrev_tables.proofs.ListingOnce.{listing_once}
 use Rattle.value_links.proofs.ReadingOnce.{unit_same}
-use Rattle.value_links.proofs.WholeTables.{AreByTables, by_tables}
 
 -- a unit is one of those that are read
 record IsOneOf (units : List UnitRead) (before : List UnitHead) (head : UnitHead) : Type 0 where
@@ -59,15 +58,15 @@ all_here P [] x after all = All-head P x after all
 all_here P (f ∷ front) x after all = all_here P front x after (All-tail P f (front ++ x ∷ after) all)
 
 -- units with the same heads are the same
-fronts_same : (info abbrevs : List ℕ) (us vs : List UnitRead) → unit_heads us ≡ unit_heads vs → All (IsUnitByTable info abbrevs) us → All (IsUnitByTable info abbrevs) vs → us ≡ vs
+fronts_same : (info abbrevs : List ℕ) (us vs : List UnitRead) → unit_heads us ≡ unit_heads vs → All (IsUnitRead info abbrevs) us → All (IsUnitRead info abbrevs) vs → us ≡ vs
 fronts_same info abbrevs [] [] e p q = refl
 fronts_same info abbrevs [] (v ∷ vs) e p q = absurd (cc)
 fronts_same info abbrevs (u ∷ us) [] e p q = absurd (cc)
 fronts_same info abbrevs (u ∷ us) (v ∷ vs) e p q =
     let head : u.head ≡ v.head = cc in
     let rest : unit_heads us ≡ unit_heads vs = cc in
-    ap (λ z. z ∷ us) (unit_same info abbrevs u v head (All-head (IsUnitByTable info abbrevs) u us p) (All-head (IsUnitByTable info abbrevs) v vs q))
-    ∙ ap (λ z. v ∷ z) (fronts_same info abbrevs us vs rest (All-tail (IsUnitByTable info abbrevs) u us p) (All-tail (IsUnitByTable info abbrevs) v vs q))
+    ap (λ z. z ∷ us) (unit_same info abbrevs u v head (All-head (IsUnitRead info abbrevs) u us p) (All-head (IsUnitRead info abbrevs) v vs q))
+    ∙ ap (λ z. v ∷ z) (fronts_same info abbrevs us vs rest (All-tail (IsUnitRead info abbrevs) u us p) (All-tail (IsUnitRead info abbrevs) v vs q))
 
 abbrev is_limit : Kind → Bool
 is_limit Limit = true
@@ -89,16 +88,12 @@ declared_in_table (e ∷ ds) (b ∷ before) d a end front body x y (first, rest,
     let (i, inside, is) = declared_in_table ds before d rest end left body x y joined ended prior here behind in
     (suc i, omega arith, is)
 
--- all declarations of the table that a unit names can be written
-abbrev HasBuilt : List ℕ → UnitRead → Type 0
-HasBuilt abbrevs u = (table : Listing) → IsTableAt abbrevs u.head.table table → All IsBuilt (declarations_of table)
-
-module _ (info abbrevs : List ℕ) (units : List UnitRead) (tiled : Tile info (unit_heads units)) (each : All (IsUnitByTable info abbrevs) units) (within : AreWithin units) where
+module _ (info abbrevs : List ℕ) (units : List UnitRead) (tiled : Tile info (unit_heads units)) (each : All (IsUnitRead info abbrevs) units) (within : AreWithin units) where
   named : (head : UnitHead) (before : List UnitHead) (e : ℕ) → Follow info (before ++ head ∷ []) 0 e → IsOneOf units before head
   named head before e f = one_of info units before head 0 e tiled f
 
-  is_read : (before : List UnitHead) (head : UnitHead) → (o : IsOneOf units before head) → IsUnitByTable info abbrevs o.unit
-  is_read before head o = all_here (IsUnitByTable info abbrevs) o.front o.unit o.after (subst (All (IsUnitByTable info abbrevs)) o.parts each)
+  is_read : (before : List UnitHead) (head : UnitHead) → (o : IsOneOf units before head) → IsUnitRead info abbrevs o.unit
+  is_read before head o = all_here (IsUnitRead info abbrevs) o.front o.unit o.after (subst (All (IsUnitRead info abbrevs)) o.parts each)
 
   -- the entries and values of a unit and of those before it keep the limits
   sums : (f : UnitRead → ℕ) (before : List UnitHead) (head : UnitHead) → (o : IsOneOf units before head) → sum_by f o.front + f o.unit ≤ sum_by f units
@@ -147,7 +142,7 @@ module _ (info abbrevs : List ℕ) (units : List UnitRead) (tiled : Tile info (u
   no_entry_fault : (kind : Kind) (place : ℕ) → FaultUnits info abbrevs kind place → ⊥
   no_entry_fault Limit place p =
       let o = named p.head (unit_heads p.before) p.end p.front in
-      let read = all_front (IsUnitByTable info abbrevs) o.front o.unit o.after (subst (All (IsUnitByTable info abbrevs)) o.parts each) in
+      let read = all_front (IsUnitRead info abbrevs) o.front o.unit o.after (subst (All (IsUnitRead info abbrevs)) o.parts each) in
       let same : o.front ≡ p.before = fronts_same info abbrevs o.front p.before o.heads read p.each in
       let few = subst (λ (z : List UnitRead). IsWithin (counts_of z) (length o.unit.forest.entries) (length o.unit.forest.values)) same (keeps (unit_heads p.before) p.head o) in
       unit_faultless (unit_heads p.before) p.head (counts_of p.before) Limit place o few p.passes
@@ -162,13 +157,13 @@ module _ (info abbrevs : List ℕ) (units : List UnitRead) (tiled : Tile info (u
       absurd (omega arith)
   no_offset_fault kind place f = f
 
-  info_faultless : (kind : Kind) (place : ℕ) → InfoFault info abbrevs kind place → ⊥
+  pub info_faultless : (kind : Kind) (place : ℕ) → InfoFault info abbrevs kind place → ⊥
   info_faultless kind place f = elim f [
     | inl head ↦ heads_whole info (unit_heads units) tiled (kind, place, head)
     | inr rest ↦ elim rest [ inl offset ↦ no_offset_fault kind place offset | inr entries ↦ no_entry_fault kind place entries ]
   ]
 
-  module _ (built : AreBuilt abbrevs units) where
+  module _ (built : AreBuilt units) where
     -- the bytes from a table on have no fault
     rest_faultless : (t : Listing) (at : ℕ) → IsTableAt abbrevs at t → All IsBuilt (declarations_of t) → (kind : Kind) (inner : ℕ) → FaultRest (drop at abbrevs) kind inner → ⊥
     rest_faultless t at stands can Unbuilt inner f =
@@ -181,38 +176,10 @@ module _ (info abbrevs : List ℕ) (units : List UnitRead) (tiled : Tile info (u
     rest_faultless t at stands can kind inner f =
         table_whole (declarations_of t) kind inner (take (t.end - at) (drop at abbrevs)) (drop (t.end - at) (drop at abbrevs)) stands.table (subst (λ (z : List ℕ). FaultTable kind inner z) (sym (take-append-drop (t.end - at) (drop at abbrevs))) f)
 
-    tables_faultless : (kind : Kind) (place : ℕ) → FaultTables info abbrevs kind place → ⊥
+    pub tables_faultless : (kind : Kind) (place : ℕ) → FaultTables info abbrevs kind place → ⊥
     tables_faultless kind place (at, inner, (head, (heads, e, follow), here, inside), sum, f) =
         let o = named head heads e follow in
         let read = is_read heads head o in
         let stands : IsTableAt abbrevs at o.unit.table = subst (λ (z : ℕ). IsTableAt abbrevs z o.unit.table) (ap (λ h. h.table) o.same ∙ here) read.table in
-        let can : (t : Listing) → IsTableAt abbrevs o.unit.head.table t → All IsBuilt (declarations_of t) = all_here (HasBuilt abbrevs) o.front o.unit o.after (subst (All (HasBuilt abbrevs)) o.parts built) in
-        rest_faultless o.unit.table at stands (can o.unit.table read.table) kind inner f
-
--- UNITS THAT HAVE PARTS
-
-built_by_heads : (abbrevs : List ℕ) (us vs : List UnitRead) → unit_heads us ≡ unit_heads vs → AreBuilt abbrevs vs → AreBuilt abbrevs us
-built_by_heads abbrevs [] vs heads built = All-nil (HasBuilt abbrevs)
-built_by_heads abbrevs (u ∷ us) [] heads built = absurd (cc)
-built_by_heads abbrevs (u ∷ us) (v ∷ vs) heads built =
-    let head : u.head ≡ v.head = cc in
-    let rest : unit_heads us ≡ unit_heads vs = cc in
-    let first : HasBuilt abbrevs u = λ t stands. All-head (HasBuilt abbrevs) v vs built t (subst (λ (h : UnitHead). IsTableAt abbrevs h.table t) head stands) in
-    All-cons (HasBuilt abbrevs) u us first (built_by_heads abbrevs us vs rest (All-tail (HasBuilt abbrevs) v vs built))
-
--- Units that have parts of their tables are the same by the whole tables, so they have no fault either.
-module _ (info abbrevs : List ℕ) (units : List UnitRead) (are : AreUnitsIn info abbrevs units) where
-  abbrev by : AreByTables info abbrevs units
-  by = by_tables info abbrevs units are.each
-
-  tiled_by : Tile info (unit_heads by.wholes)
-  tiled_by = subst (Tile info) (sym by.heads) are.tiled
-
-  within_by : AreWithin by.wholes
-  within_by = subst (λ (z : Counts). IsWithin (counts_of []) z.entries z.values) (sym by.counts) are.within
-
-  pub read_faultless : (kind : Kind) (place : ℕ) → InfoFault info abbrevs kind place → ⊥
-  read_faultless = info_faultless info abbrevs by.wholes tiled_by by.each within_by
-
-  pub named_faultless : AreBuilt abbrevs units → (kind : Kind) (place : ℕ) → FaultTables info abbrevs kind place → ⊥
-  named_faultless built = tables_faultless info abbrevs by.wholes tiled_by by.each within_by (built_by_heads abbrevs by.wholes units by.heads built)
+        let can : All IsBuilt (declarations o.unit) = all_here (λ (u : UnitRead). All IsBuilt (declarations u)) o.front o.unit o.after (subst (All (λ (u : UnitRead). All IsBuilt (declarations u))) o.parts built) in
+        rest_faultless o.unit.table at stands can kind inner f

@@ -11,11 +11,11 @@ use Rattle.elf_sections.proofs.Faultless.{images_whole}
 use Rattle.line_machine.specs.Faults.{row_limit}
 use Rattle.line_write.proofs.Tiling.{AreGiven, lines_whole}
 use Rattle.value_links.specs.Sections.{debug_info, debug_abbrev, debug_line}
-use Rattle.value_links.specs.Reading.{ProgramRead, Reading, line_heads, HasRows}
+use Rattle.value_links.specs.Reading.{ProgramRead, Linkable, line_heads, HasRows}
 use Rattle.value_links.specs.Faults.{FaultOfFile, FaultOfNames, FaultOfPrograms, FaultOfUnits, Pass, order_of, FaultOfPass}
 use Rattle.value_links.specs.Faults.Pass.{OfFile, OfNames, OfPrograms, OfUnits, OfLinks, OfLists}
 use Rattle.value_links.specs.Laws.{IsImageInOrder, AreProgramsInOrder, AreUnitsInOrder, FirstFaultsDecide, MeaningFilesAreValid}
-use Rattle.value_links.proofs.ValidUnits.{read_faultless, named_faultless}
+use Rattle.value_links.proofs.ValidUnits.{info_faultless, tables_faultless}
 use Rattle.value_links.proofs.ValidLinks.{links_whole}
 
 file_faultless : (file : List ℕ) (reach : Reach) → IsRead file reach → (kind : Kind) (place : ℕ) → FaultOfFile file reach kind place → ⊥
@@ -34,17 +34,17 @@ given section [] rows few = refl
 given section (p ∷ programs) rows few =
     (p.rows, sum_by row_count programs, All-head (HasRows section) p programs rows, All-head (λ (q : ProgramRead). length q.rows ≤ row_limit) p programs few, given section programs (All-tail (HasRows section) p programs rows) (All-tail (λ (q : ProgramRead). length q.rows ≤ row_limit) p programs few), sum_by-cons row_count p programs)
 
-programs_faultless : (file : List ℕ) (reach : Reach) (r : Reading) → AreProgramsInOrder file reach r → (kind : Kind) (place : ℕ) → FaultOfPrograms file kind place → ⊥
+programs_faultless : (file : List ℕ) (reach : Reach) (r : Linkable) → AreProgramsInOrder file reach r → (kind : Kind) (place : ℕ) → FaultOfPrograms file kind place → ⊥
 programs_faultless file reach r order kind place (inner, here, f) =
     let programs = order.programs in
     lines_whole (debug_line file) (line_heads r.programs) (sum_by row_count r.programs) programs.tiled (given (debug_line file) r.programs programs.given order.few.each) order.few.all (kind, inner, f)
 
-units_faultless : (file : List ℕ) (reach : Reach) (r : Reading) → AreUnitsInOrder file reach r → (kind : Kind) (place : ℕ) → FaultOfUnits file kind place → ⊥
+units_faultless : (file : List ℕ) (reach : Reach) (r : Linkable) → AreUnitsInOrder file reach r → (kind : Kind) (place : ℕ) → FaultOfUnits file kind place → ⊥
 units_faultless file reach r order kind place f =
     let units = order.units in
     elim f [
-      | inl entries ↦ read_faultless (debug_info file) (debug_abbrev file) r.units units kind entries.0 entries.2
-      | inr tables ↦ named_faultless (debug_info file) (debug_abbrev file) r.units units order.built kind tables.0 tables.2
+      | inl entries ↦ info_faultless (debug_info file) (debug_abbrev file) r.units units.tiled units.each units.within kind entries.0 entries.2
+      | inr tables ↦ tables_faultless (debug_info file) (debug_abbrev file) r.units units.tiled units.each units.within order.built kind tables.0 tables.2
     ]
 
 -- the passes before one have no fault
@@ -64,13 +64,13 @@ before_programs file reach order OfFile kind place less f = file_faultless file 
 before_programs file reach order OfNames kind place less f = names_faultless file reach order kind place f
 before_programs file reach order pass kind place less f = absurd (omega arith)
 
-before_units : (file : List ℕ) (reach : Reach) (r : Reading) → AreProgramsInOrder file reach r → HaveNone 4 file reach
+before_units : (file : List ℕ) (reach : Reach) (r : Linkable) → AreProgramsInOrder file reach r → HaveNone 4 file reach
 before_units file reach r order OfFile kind place less f = before_programs file reach order.before OfFile kind place (omega arith) f
 before_units file reach r order OfNames kind place less f = before_programs file reach order.before OfNames kind place (omega arith) f
 before_units file reach r order OfPrograms kind place less f = programs_faultless file reach r order kind place f
 before_units file reach r order pass kind place less f = absurd (omega arith)
 
-before_links : (file : List ℕ) (reach : Reach) (r : Reading) → AreUnitsInOrder file reach r → HaveNone 5 file reach
+before_links : (file : List ℕ) (reach : Reach) (r : Linkable) → AreUnitsInOrder file reach r → HaveNone 5 file reach
 before_links file reach r order OfFile kind place less f = before_units file reach r order.before OfFile kind place (omega arith) f
 before_links file reach r order OfNames kind place less f = before_units file reach r order.before OfNames kind place (omega arith) f
 before_links file reach r order OfPrograms kind place less f = before_units file reach r order.before OfPrograms kind place (omega arith) f
@@ -89,7 +89,7 @@ first_faults = record {
 pub valid_meaning : MeaningFilesAreValid
 valid_meaning file reach r debug order read means no_unread OfFile kind place f = file_faultless file reach order.before.before.image kind place f
 valid_meaning file reach r debug order read means no_unread OfNames kind place f = names_faultless file reach order.before.before kind place f
-valid_meaning file reach r debug order read means no_unread OfPrograms kind place f = programs_faultless file reach r order.before kind place f
-valid_meaning file reach r debug order read means no_unread OfUnits kind place f = units_faultless file reach r order kind place f
+valid_meaning file reach r debug order read means no_unread OfPrograms kind place f = programs_faultless file reach r.links order.before kind place f
+valid_meaning file reach r debug order read means no_unread OfUnits kind place f = units_faultless file reach r.links order kind place f
 valid_meaning file reach r debug order read means no_unread OfLinks kind place f = links_whole file r debug read means no_unread reach kind place f
 valid_meaning file reach r debug order read means no_unread OfLists kind place f = f

@@ -5,7 +5,8 @@ use Rattle.dw_base.specs.declared.fault.Kind.TheVariants.{UnitHead as AHead}
 use Rattle.leb_codec.specs.Leb.{Uleb}
 use Rattle.entry_read.specs.Faults.{FaultHead}
 use Rattle.fixed_width.specs.Numbers.{number}
-use Rattle.entry_read.specs.Heads.{unit_end, version, HasHead}
+use Rattle.fixed_width.specs.InitialLengths.{unit_end, version}
+use Rattle.entry_read.specs.Heads.{HasHead}
 use Rattle.value_links.specs.Values.{HasValueAt}
 use Rattle.form_codec.specs.declared.value.Value.TheVariants.{LocalRef}
 use Rattle.form_codec.specs.Forms.Meaning.{InUnit, Expression}
@@ -13,9 +14,9 @@ use Rattle.entry_arena.specs.declared.entry.ChainEnd.{ChainEnd}
 use Rattle.entry_arena.specs.declared.entry.Target.TheVariants.{Entry as TheEntry, ChainEnd as TheEnd}
 use Rattle.value_links.specs.Attributes.{offset_class}
 use Rattle.value_links.specs.Attributes.OffsetClass.{LinePtr, RngList, LocList, RngListsPtr, LocListsPtr, AddrPtr, StrOffsetsPtr, MacPtr, Views, NoOffset}
-use Rattle.value_links.specs.Reading.{UnitRead, Reading}
-use Rattle.value_links.specs.Resolved.{Resolves}
-use Rattle.value_links.specs.Resolved.Resolved.{Refers}
+use Rattle.value_links.specs.Reading.{UnitRead, Linkable}
+use Rattle.value_links.specs.Linked.{Links}
+use Rattle.value_links.specs.Linked.Linked.{Refers}
 use Rattle.value_links.specs.Faults.{IsTargetless, IsUnread}
 
 -- the classes of attributes by their numbers; DW_AT_name has none
@@ -63,17 +64,17 @@ unit = record {
   };
 }
 
-abbrev reading : Reading
+abbrev linkable : Linkable
 unfolding unit
-reading = record { programs = []; units = unit ∷ unit ∷ []; sets = [] }
+linkable = record { programs = []; units = unit ∷ unit ∷ []; addresses = []; contexts = [] }
 
 -- the end of a chain is a target, which counts from the first byte of the unit
-chain_end_is : Resolves reading 1 1 0x01 (InUnit 18) (Refers 1 (TheEnd 0))
+chain_end_is : Links linkable 1 1 0x01 (InUnit 18) (Refers 1 (TheEnd 0))
 unfolding unit
 chain_end_is = (TheEnd 0, (0, omega arith, refl), refl)
 
 -- and so is an entry
-entry_is : Resolves reading 1 1 0x49 (InUnit 13) (Refers 1 (TheEntry 1))
+entry_is : Links linkable 1 1 0x49 (InUnit 13) (Refers 1 (TheEntry 1))
 unfolding unit
 entry_is = (TheEntry 1, (omega arith, refl), refl)
 
@@ -81,7 +82,7 @@ differ : (a b : ChainEnd) → a.at ≡ 37 → b.at ≡ 38 → a ≡ b → ⊥
 differ a b x y same = let place : a.at ≡ b.at = ap (λ (e : ChainEnd). e.at) same in absurd (omega arith)
 
 -- one byte further no entry and no code 0 stands: the next unit begins there
-nothing_is : IsTargetless reading 1 (InUnit 19)
+nothing_is : IsTargetless linkable 1 (InUnit 19)
 unfolding unit
 nothing_is (TheEntry zero, (inside, here)) = absurd (omega arith)
 nothing_is (TheEntry (suc zero), (inside, here)) = absurd (omega arith)
@@ -155,4 +156,4 @@ version_is = refl
 
 -- a header of version 4 is UnitHead at its unit's first byte
 version_4 : FaultHead of_version_4 0 AHead 0
-version_4 = (refl, omega arith, inr (let end : unit_end of_version_4 0 ≡ 12 = end_is in omega arith, λ (h : HasHead of_version_4 0). let five : version of_version_4 0 ≡ 5 = h.of_version in let four : version of_version_4 0 ≡ 4 = version_is in absurd (omega arith)))
+version_4 = (refl, inr (let end : unit_end of_version_4 0 ≡ 12 = end_is in record { usual = omega arith; inside = omega arith }, λ (h : HasHead of_version_4 0). let five : version of_version_4 0 ≡ 5 = h.of_version in let four : version of_version_4 0 ≡ 4 = version_is in absurd (omega arith)))

@@ -1,9 +1,9 @@
 -- What is held of a file whose passes find nothing is the file's world, and what a pass refuses is a fault of the file.
-use Rattle.std.proofs.Common.{◌≡◌, ◌≤◌, ◌<◌, ◌+◌, ◌-◌, ◌^◌, ◌∙◌, inl, inr, ℕ, List, [], ◌∷◌, length, drop, get_or, Bool, true, false, sym, ap, subst, refl, arith}
+use Rattle.std.proofs.Common.{◌≡◌, ◌≤◌, ◌<◌, ◌+◌, ◌-◌, ◌^◌, ◌∙◌, inl, inr, ℕ, List, [], ◌∷◌, length, drop, Bool, true, false, sym, ap, subst, refl, arith}
 use Rattle.std.specs.Prelude.{map, Option, Some, None, nat_lt, ◌&&◌}
 use Rattle.std.specs.List.{All, AllZip, sum_by}
 use Rattle.std.proofs.lemmas.Bool.{ltb-false, cases_lt, true≢false}
-use Rattle.std.proofs.lemmas.List.{get_or-map, length-map, length-take}
+use Rattle.std.proofs.lemmas.List.{length-map, length-take}
 use Rattle.std.proofs.lemmas.List.Elements.{All-nil, All-cons, All-head, All-tail}
 use Rattle.std.proofs.lemmas.List.Sums.{sum_by-cons}
 use Rattle.dw_base.specs.declared.fault.Fault.{Fault}
@@ -26,25 +26,29 @@ use Rattle.line_machine.specs.Faults.{row_limit}
 use Rattle.line_write.specs.Faults.{LinesFault}
 use Rattle.line_write.specs.Programs.{Tile}
 use Rattle.line_write.specs.Readings.{AreRead}
-use Rattle.entry_read.specs.declared.head.UnitHead.{UnitHead}
-use Rattle.entry_read.proofs.Chained.{Chained, stand_apart, has_bytes}
+use Rattle.entry_read.proofs.Chained.{Chained}
 use Rattle.companions.specs.declared.set.ArangeSet.{ArangeSet}
 use Rattle.companions.specs.Aranges.{AreRising, SetsTile}
 use Rattle.companions.specs.Faults.{FaultSets}
-use Rattle.value_links.specs.declared.units.Units.{Units}
-use Rattle.value_links.specs.Sections.{section_named, body_or_none, body_named, offset_named, debug_info, debug_abbrev, debug_line, debug_aranges, info_name, abbrev_name, line_name, aranges_name}
-use Rattle.value_links.specs.Reading.{ProgramRead, UnitRead, Reading, line_heads, HasRows, AreProgramsIn, unit_heads, unit_starts, no_unit, unit_among, IsReading}
+use Rattle.value_links.specs.declared.parts.Parts.{Parts}
+use Rattle.value_links.specs.Sections.{section_named, body_or_none, body_named, offset_named, debug_info, debug_abbrev, debug_line, debug_aranges, debug_addr, info_name, abbrev_name, line_name, aranges_name}
+use Rattle.value_links.specs.Reading.{ProgramRead, UnitRead, Linkable, Reading, line_heads, HasRows, AreProgramsIn, unit_heads, unit_starts}
+use Rattle.value_links.specs.Whole.{IsReading}
 use Rattle.value_links.specs.Faults.{FaultOfNames, is_list_section, IsValid, NamesFault}
 use Rattle.value_links.specs.Faults.Pass.{OfFile}
-use Rattle.value_links.specs.Laws.{HaveFewRows, IsImageInOrder, AreProgramsInOrder, AreUnitsInOrder}
-use Rattle.value_links.specs.Parts.{AreUnitsHeld, AreParts, AreLinked, LinkFault, IsUnitsFault}
-use Rattle.value_links.specs.Passes.{starts_of, ArePartsInOrder, NamesLaterFault}
-use Rattle.value_links.specs.World.{head_and_forest, IsWorldOf}
+use Rattle.value_links.specs.Laws.{HaveFewRows, AreBuilt, IsImageInOrder, AreUnitsInOrder}
+use Rattle.value_links.specs.Parts.{AreUnitsHeld, HoldsParts, AreLinked, LinkFault, IsUnitsFault}
+use Rattle.value_links.specs.inside.Checks.{AreContextsHeld}
+use Rattle.value_links.specs.inside.Passes.{starts_of, ArePartsInOrder, NamesLaterFault}
+use Rattle.value_links.specs.World.{World, head_and_forest, IsWorldOf}
 use Rattle.value_links.proofs.SectionLaws.{sections_are_found}
-use Rattle.value_links.proofs.Tiles.{units_chained, programs_chained}
+use Rattle.value_links.proofs.Tiles.{programs_chained}
+use Rattle.value_links.proofs.ReadingOnce.{starts_rise}
+use Rattle.value_links.proofs.ValidLinks.{heads_begin}
 use Rattle.value_links.proofs.Validity.{first_faults, valid_meaning}
 use Rattle.value_links.proofs.HeldUnits.{few_units}
 use Rattle.value_links.proofs.Meaningful.{linked_means}
+use Rattle.value_links.proofs.ContextLaws.{contexts_read}
 
 -- SECTIONS BY THEIR NAMES
 
@@ -122,7 +126,7 @@ programs_read section heads read =
       few = record { each = z.each; all = subst (λ (n : ℕ). n ≤ 2 ^ 25) (sym z.all) read.all };
     }
 
-pub programs_refused : (file : List ℕ) (refusal : Refusal) → IsRefusedFor (IsFaultOf (LinesFault (debug_line file)) (offset_named file line_name)) refusal → NamesLaterFault file refusal
+pub programs_refused : (file : List ℕ) (refusal : Refusal) → IsRefusedFor (IsFaultOf (LinesFault (debug_line file)) (offset_named file line_name)) refusal → (reach : Reach) → NamesLaterFault file reach refusal
 programs_refused file (Refused fault) f reach order = first_faults.programs file reach fault.kind fault.place order f
 programs_refused file NoMemory f reach order = tt
 
@@ -183,120 +187,120 @@ few_of_valid file reach programs valid are = few_programs file reach programs (v
 -- UNITS
 
 module _ (file : List ℕ) (reach : Reach) (order : IsImageInOrder file reach) (heads : List Head) (read : AreRead (debug_line file) heads) where
-  programs_in_order : (p : ReadPrograms (debug_line file) heads) (units : List UnitRead) (sets : List ArangeSet) → AreProgramsInOrder file reach (record { programs = p.programs; units = units; sets = sets })
-  programs_in_order p units sets = record { before = order; programs = p.read; few = p.few }
-
   units_fault : (fault : Fault) → IsUnitsFault (debug_info file) (debug_abbrev file) (offset_named file info_name) (offset_named file abbrev_name) fault → NamesFault file reach (Refused fault)
   units_fault fault f =
       let p = programs_read (debug_line file) heads read in
-      first_faults.units file reach (record { programs = p.programs; units = []; sets = [] }) fault.kind fault.place (programs_in_order p [] []) f
+      let r : Linkable = record { programs = p.programs; units = []; addresses = []; contexts = [] } in
+      first_faults.units file reach r fault.kind fault.place (record { before = order; programs = p.read; few = p.few }) f
 
-  module _ (held : Units) (units : AreUnitsHeld (debug_info file) (debug_abbrev file) held) where
-    parts_held : (p : ReadPrograms (debug_line file) heads) (sets : List ArangeSet) → AreParts file (record { programs = p.programs; units = units.read; sets = sets }) held heads
-    parts_held p sets =
-        let few : length p.programs < 2 ^ 32 = few_programs file reach p.programs (λ i inside. (order.image.sound.sections i inside).short) p.read in
-        let count : length heads ≡ length p.programs = ap length p.held ∙ length-map p.programs (λ (x : ProgramRead). x.head) in
-        record {
-          read = record { programs = p.read; units = units.units };
-          units = units.holds;
+-- parts that were read, before the values are looked up
+pub record PartsRead (file : List ℕ) (parts : Parts) : Type 0 where
+  pub programs : AreRead (debug_line file) parts.programs.items
+  pub units : AreUnitsHeld (debug_info file) (debug_abbrev file) parts.units
+  pub contexts : AreContextsHeld (debug_addr file) parts.units parts.contexts.items
+
+module _ (file : List ℕ) (reach : Reach) (order : IsImageInOrder file reach) (parts : Parts) (read : PartsRead file parts) where
+  -- what values refer to, of which these are the parts
+  record LinkableRead : Type 0 where
+    r : Linkable
+    holds : HoldsParts file r parts
+    few : HaveFewRows r.programs
+    built : AreBuilt r.units
+
+  linkable_read : LinkableRead
+  linkable_read =
+      let p = programs_read (debug_line file) parts.programs.items read.programs in
+      let few : length p.programs < 2 ^ 32 = few_programs file reach p.programs (λ i inside. (order.image.sound.sections i inside).short) p.read in
+      let count : length parts.programs.items ≡ length p.programs = ap length p.held ∙ length-map p.programs (λ (x : ProgramRead). x.head) in
+      record {
+        r = record { programs = p.programs; units = read.units.read; addresses = debug_addr file; contexts = parts.contexts.items };
+        holds = record {
+          read = record { programs = p.read; units = read.units.units; addresses = refl; contexts = contexts_read (debug_addr file) read.units.read parts.units parts.contexts.items read.units.holds read.contexts };
           programs = p.held;
+          units = read.units.holds;
+          contexts = refl;
           few = subst (λ (n : ℕ). n < 2 ^ 32) (sym count) few;
-        }
+        };
+        few = p.few;
+        built = read.units.built;
+      }
 
-    pub parts_in_order : ((f : List ℕ) (r : Reading) → AreParts f r held heads → AreLinked r) → ArePartsInOrder file heads held
-    parts_in_order linked =
-        let p = programs_read (debug_line file) heads read in
-        record {
-          programs = p.programs;
-          units = units.read;
-          read_programs = p.read;
-          few = p.few;
-          programs_held = p.held;
-          read_units = units.units;
-          holds = units.holds;
-          built = units.built;
-          linked = λ sets. linked file (record { programs = p.programs; units = units.read; sets = sets }) (parts_held p sets);
-        }
+  pub parts_in_order : ((f : List ℕ) (r : Linkable) → HoldsParts f r parts → AreLinked r) → ArePartsInOrder file parts
+  parts_in_order linked = let l = linkable_read in record { r = l.r; holds = l.holds; few = l.few; built = l.built; linked = linked file l.r l.holds }
 
-    pub links_refused : (fault : Fault) → ((f : List ℕ) (r : Reading) → AreParts f r held heads → IsFaultOf (LinkFault r) (offset_named file info_name) fault) → NamesFault file reach (Refused fault)
-    links_refused fault refused =
-        let p = programs_read (debug_line file) heads read in
-        let r : Reading = record { programs = p.programs; units = units.read; sets = [] } in
-        let parts : AreParts file r held heads = parts_held p [] in
-        let (inner, here, (u, inside, f)) = refused file r parts in
-        first_faults.links file reach r fault.kind fault.place (record { before = programs_in_order p units.read []; units = units.units; built = units.built }) (inl (inner, here, record { r = r; read = parts.read; u = u; inside = inside; fault = f }))
+  pub links_refused : (fault : Fault) → ((f : List ℕ) (r : Linkable) (reach : Reach) → HoldsParts f r parts → IsFaultOf (LinkFault r reach) (offset_named file info_name) fault) → NamesFault file reach (Refused fault)
+  links_refused fault refused =
+      let l = linkable_read in
+      let (inner, here, (u, inside, f)) = refused file l.r reach l.holds in
+      let in_order : AreUnitsInOrder file reach l.r = record { before = record { before = order; programs = l.holds.read.programs; few = l.few }; units = l.holds.read.units; built = l.built } in
+      first_faults.links file reach l.r fault.kind fault.place in_order (inl (inner, here, record { r = l.r; read = l.holds.read; u = u; inside = inside; fault = f }))
 
-pub units_refused : (file : List ℕ) (heads : List Head) (refusal : Refusal) → AreRead (debug_line file) heads → IsRefusedFor (IsUnitsFault (debug_info file) (debug_abbrev file) (offset_named file info_name) (offset_named file abbrev_name)) refusal → NamesLaterFault file refusal
+pub units_refused : (file : List ℕ) (heads : List Head) (refusal : Refusal) → AreRead (debug_line file) heads → IsRefusedFor (IsUnitsFault (debug_info file) (debug_abbrev file) (offset_named file info_name) (offset_named file abbrev_name)) refusal → (reach : Reach) → NamesLaterFault file reach refusal
 units_refused file heads (Refused fault) read f reach order = units_fault file reach order heads read fault f
 units_refused file heads NoMemory read f reach order = tt
 
 -- likewise of sections that were looked up
-pub units_refused_in : (file : List ℕ) (heads : List Head) (refusal : Refusal) (info abbrevs : List ℕ) (info_origin abbrev_origin : ℕ) → info ≡ debug_info file → abbrevs ≡ debug_abbrev file → info_origin ≡ offset_named file info_name → abbrev_origin ≡ offset_named file abbrev_name → AreRead (debug_line file) heads → IsRefusedFor (IsUnitsFault info abbrevs info_origin abbrev_origin) refusal → NamesLaterFault file refusal
+pub units_refused_in : (file : List ℕ) (heads : List Head) (refusal : Refusal) (info abbrevs : List ℕ) (info_origin abbrev_origin : ℕ) → info ≡ debug_info file → abbrevs ≡ debug_abbrev file → info_origin ≡ offset_named file info_name → abbrev_origin ≡ offset_named file abbrev_name → AreRead (debug_line file) heads → IsRefusedFor (IsUnitsFault info abbrevs info_origin abbrev_origin) refusal → (reach : Reach) → NamesLaterFault file reach refusal
 units_refused_in file heads refusal info abbrevs info_origin abbrev_origin i a io ao read f =
     units_refused file heads refusal read (subst (λ (z : List ℕ). IsRefusedFor (IsUnitsFault z (debug_abbrev file) (offset_named file info_name) (offset_named file abbrev_name)) refusal) i (subst (λ (z : List ℕ). IsRefusedFor (IsUnitsFault info z (offset_named file info_name) (offset_named file abbrev_name)) refusal) a (subst (λ (o : ℕ). IsRefusedFor (IsUnitsFault info abbrevs o (offset_named file abbrev_name)) refusal) io (subst (λ (o : ℕ). IsRefusedFor (IsUnitsFault info abbrevs info_origin o) refusal) ao f))))
 
-pub units_held_in : (file info abbrevs : List ℕ) (held : Units) → info ≡ debug_info file → abbrevs ≡ debug_abbrev file → AreUnitsHeld info abbrevs held → AreUnitsHeld (debug_info file) (debug_abbrev file) held
-units_held_in file info abbrevs held i a h = subst (λ (z : List ℕ). AreUnitsHeld z (debug_abbrev file) held) i (subst (λ (z : List ℕ). AreUnitsHeld info z held) a h)
+pub parts_read_in : (file info abbrevs addr : List ℕ) (parts : Parts) → info ≡ debug_info file → abbrevs ≡ debug_abbrev file → addr ≡ debug_addr file → AreRead (debug_line file) parts.programs.items → AreUnitsHeld info abbrevs parts.units → AreContextsHeld addr parts.units parts.contexts.items → PartsRead file parts
+parts_read_in file info abbrevs addr parts i a d programs units contexts = record {
+  programs = programs;
+  units = subst (λ (z : List ℕ). AreUnitsHeld z (debug_abbrev file) parts.units) i (subst (λ (z : List ℕ). AreUnitsHeld info z parts.units) a units);
+  contexts = subst (λ (z : List ℕ). AreContextsHeld z parts.units parts.contexts.items) d contexts;
+}
 
 -- SETS OF ADDRESS RANGES
+
+-- a world by its parts
+abbrev pub world_by : List ℕ → Parts → List ArangeSet → World
+world_by image parts sets = record { image = image; programs = parts.programs.items; units = parts.units.units.items; tables = parts.units.tables.items; table_of = parts.units.table_of.items; contexts = parts.contexts.items; sets = sets }
 
 starts_held : (units : List UnitRead) → starts_of (map head_and_forest units) ≡ unit_starts units
 starts_held [] = refl
 starts_held (u ∷ units) = ap (λ (z : List ℕ). u.head.at ∷ z) (starts_held units)
 
-heads_begin : (units : List UnitRead) → map (λ (h : UnitHead). h.at) (unit_heads units) ≡ unit_starts units
-heads_begin [] = refl
-heads_begin (u ∷ units) = ap (λ (z : List ℕ). u.head.at ∷ z) (heads_begin units)
+module _ (file : List ℕ) (parts : Parts) (order : ArePartsInOrder file parts) where
+  pub starts_are : starts_of parts.units.units.items ≡ unit_starts order.r.units
+  starts_are = ap starts_of order.holds.units.units ∙ starts_held order.r.units
 
-module _ (file : List ℕ) (heads : List Head) (held : Units) (parts : ArePartsInOrder file heads held) where
-  pub starts_are : starts_of held.units.items ≡ unit_starts parts.units
-  starts_are = ap starts_of parts.holds.units ∙ starts_held parts.units
-
-  pub few_starts : length (starts_of held.units.items) < 2 ^ 32
+  pub few_starts : length (starts_of parts.units.units.items) < 2 ^ 32
   few_starts =
-      let count : length (starts_of held.units.items) ≡ length parts.units = ap length starts_are ∙ length-map parts.units (λ (u : UnitRead). u.head.at) in
-      subst (λ (n : ℕ). n < 2 ^ 32) (sym count) (few_units (debug_info file) (debug_abbrev file) parts.units parts.read_units)
+      let count : length (starts_of parts.units.units.items) ≡ length order.r.units = ap length starts_are ∙ length-map order.r.units (λ (u : UnitRead). u.head.at) in
+      subst (λ (n : ℕ). n < 2 ^ 32) (sym count) (few_units (debug_info file) (debug_abbrev file) order.r.units order.holds.read.units)
 
-  starts_rising : AreRising (unit_starts parts.units)
-  starts_rising i j less inside =
-      let count : length (unit_starts parts.units) ≡ length parts.units = length-map parts.units (λ (u : UnitRead). u.head.at) in
-      let chained = units_chained (debug_info file) parts.units 0 (length (debug_info file)) parts.read_units.tiled in
-      let apart : (unit_among parts.units i).head.at + (unit_among parts.units i).head.len ≤ (unit_among parts.units j).head.at = stand_apart (λ (u : UnitRead). u.head.at) (λ (u : UnitRead). u.head.len) parts.units 0 (length (debug_info file)) i j no_unit chained less (omega arith) in
-      let some : 0 < (unit_among parts.units i).head.len = has_bytes (λ (u : UnitRead). u.head.at) (λ (u : UnitRead). u.head.len) parts.units 0 (length (debug_info file)) i no_unit chained (omega arith) in
-      let first : get_or (unit_starts parts.units) i 0 ≡ (unit_among parts.units i).head.at = get_or-map (λ (u : UnitRead). u.head.at) parts.units i no_unit 0 (omega arith) in
-      let second : get_or (unit_starts parts.units) j 0 ≡ (unit_among parts.units j).head.at = get_or-map (λ (u : UnitRead). u.head.at) parts.units j no_unit 0 (omega arith) in
-      omega arith
+  pub starts_rising : AreRising (starts_of parts.units.units.items)
+  starts_rising = subst AreRising (sym starts_are) (starts_rise (debug_info file) order.r.units order.holds.read.units.tiled)
 
-  pub starts_rise : AreRising (starts_of held.units.items)
-  starts_rise = subst AreRising (sym starts_are) starts_rising
+  in_order : (reach : Reach) → IsImageInOrder file reach → AreUnitsInOrder file reach order.r
+  in_order reach image = record { before = record { before = image; programs = order.holds.read.programs; few = order.few }; units = order.holds.read.units; built = order.built }
 
-  pub sets_refused : (refusal : Refusal) → IsRefusedFor (IsFaultOf (FaultSets (debug_aranges file) (starts_of held.units.items)) (offset_named file aranges_name)) refusal → NamesLaterFault file refusal
-  sets_refused (Refused fault) (inner, here, f) reach order =
-      let r : Reading = record { programs = parts.programs; units = parts.units; sets = [] } in
-      let same = starts_are ∙ sym (heads_begin parts.units) in
-      first_faults.links file reach r fault.kind fault.place (record { before = record { before = order; programs = parts.read_programs; few = parts.few }; units = parts.read_units; built = parts.built }) (inr (inner, here, (unit_heads parts.units, parts.read_units.tiled, subst (λ (z : List ℕ). FaultSets (debug_aranges file) z fault.kind inner) same f)))
-  sets_refused NoMemory f reach order = tt
+  pub sets_refused : (refusal : Refusal) → IsRefusedFor (IsFaultOf (FaultSets (debug_aranges file) (starts_of parts.units.units.items)) (offset_named file aranges_name)) refusal → (reach : Reach) → NamesLaterFault file reach refusal
+  sets_refused (Refused fault) (inner, here, f) reach image =
+      let same = starts_are ∙ sym (heads_begin order.r.units) in
+      first_faults.links file reach order.r fault.kind fault.place (in_order reach image) (inr (inner, here, (unit_heads order.r.units, order.holds.read.units.tiled, subst (λ (z : List ℕ). FaultSets (debug_aranges file) z fault.kind inner) same f)))
+  sets_refused NoMemory f reach image = tt
 
   -- THE FILE
 
-  pub world_of : (reach : Reach) (sets : List ArangeSet) → IsImageInOrder file reach → SetsTile (debug_aranges file) (starts_of held.units.items) sets → IsWorldOf file reach (record { image = file; programs = heads; units = held.units.items; tables = held.tables.items; table_of = held.table_of.items; sets = sets })
-  world_of reach sets order tiled =
-      let r : Reading = record { programs = parts.programs; units = parts.units; sets = sets } in
-      let whole : IsReading file r = record { parts = record { programs = parts.read_programs; units = parts.read_units }; sets = subst (λ (z : List ℕ). SetsTile (debug_aranges file) z sets) starts_are tiled } in
-      let (meaning, read) = linked_means file r whole (parts.linked sets) in
-      let in_order : AreUnitsInOrder file reach r = record { before = record { before = order; programs = parts.read_programs; few = parts.few }; units = parts.read_units; built = parts.built } in
+  world_of : (reach : Reach) (sets : List ArangeSet) → IsImageInOrder file reach → SetsTile (debug_aranges file) (starts_of parts.units.units.items) sets → IsWorldOf file reach (world_by file parts sets)
+  world_of reach sets image tiled =
+      let r : Reading = record { links = order.r; sets = sets } in
+      let whole : IsReading file r = record { links = order.holds.read; sets = subst (λ (z : List ℕ). SetsTile (debug_aranges file) z sets) starts_are tiled } in
+      let (meaning, read) = linked_means file r whole order.linked in
       record {
         r = r;
         read = whole;
-        holds = record { image = refl; programs = parts.programs_held; units = parts.holds.units; tables = parts.holds.tables; sets = refl };
+        holds = record { image = refl; programs = order.holds.programs; units = order.holds.units.units; tables = order.holds.units.tables; contexts = order.holds.contexts; sets = refl };
         debug = meaning.0;
         means = meaning.1;
-        valid = valid_meaning file reach r meaning.0 in_order whole meaning.1 read;
+        valid = valid_meaning file reach r meaning.0 (in_order reach image) whole meaning.1 read;
       }
 
   -- likewise where the image that was read is the file
-  pub world_read : (image : List ℕ) (reach : Reach) (sets : List ArangeSet) → image ≡ file → IsImageInOrder file reach → SetsTile (debug_aranges file) (starts_of held.units.items) sets → IsWorldOf file reach (record { image = image; programs = heads; units = held.units.items; tables = held.tables.items; table_of = held.table_of.items; sets = sets })
-  world_read image reach sets same order tiled = subst (λ (z : List ℕ). IsWorldOf file reach (record { image = z; programs = heads; units = held.units.items; tables = held.tables.items; table_of = held.table_of.items; sets = sets })) (sym same) (world_of reach sets order tiled)
+  pub world_read : (image : List ℕ) (reach : Reach) (sets : List ArangeSet) → image ≡ file → IsImageInOrder file reach → SetsTile (debug_aranges file) (starts_of parts.units.units.items) sets → IsWorldOf file reach (world_by image parts sets)
+  world_read image reach sets same found tiled = subst (λ (z : List ℕ). IsWorldOf file reach (world_by z parts sets)) (sym same) (world_of reach sets found tiled)
 
-  pub world_held : (image : List ℕ) (reach : Reach) (sets : List ArangeSet) → image ≡ file → IsImageInOrder file reach → SetsTile (debug_aranges file) (starts_of held.units.items) sets → IsWorldOf image reach (record { image = image; programs = heads; units = held.units.items; tables = held.tables.items; table_of = held.table_of.items; sets = sets })
-  world_held image reach sets same order tiled = subst (λ (z : List ℕ). IsWorldOf z reach (record { image = z; programs = heads; units = held.units.items; tables = held.tables.items; table_of = held.table_of.items; sets = sets })) (sym same) (world_of reach sets order tiled)
+  pub world_held : (image : List ℕ) (reach : Reach) (sets : List ArangeSet) → image ≡ file → IsImageInOrder file reach → SetsTile (debug_aranges file) (starts_of parts.units.units.items) sets → IsWorldOf image reach (world_by image parts sets)
+  world_held image reach sets same found tiled = subst (λ (z : List ℕ). IsWorldOf z reach (world_by z parts sets)) (sym same) (world_of reach sets found tiled)

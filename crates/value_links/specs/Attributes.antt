@@ -2,6 +2,7 @@
 -- of its attribute.
 use Rattle.std.specs.Prelude.{ℕ, List, [], ◌∷◌, Bool, nat_eq, if◌then◌else◌}
 use Rattle.std.specs.List.{list_any}
+use Rattle.dw_base.specs.declared.constants.TheConstants.{DW_AT_LOCATION, DW_AT_STMT_LIST, DW_AT_STRING_LENGTH, DW_AT_RETURN_ADDR, DW_AT_START_SCOPE, DW_AT_DATA_MEMBER_LOCATION, DW_AT_FRAME_BASE, DW_AT_SEGMENT, DW_AT_STATIC_LINK, DW_AT_USE_LOCATION, DW_AT_VTABLE_ELEM_LOCATION, DW_AT_RANGES, DW_AT_STR_OFFSETS_BASE, DW_AT_ADDR_BASE, DW_AT_RNGLISTS_BASE, DW_AT_MACROS, DW_AT_LOCLISTS_BASE, DW_AT_GNU_LOCVIEWS}
 
 -- the classes of a section offset, as the standard calls them, and that of an attribute that has none
 pub data OffsetClass : Type 0 where
@@ -18,37 +19,36 @@ pub data OffsetClass : Type 0 where
 
 -- DW_AT_stmt_list: the line number program of a unit
 abbrev pub stmt_list : ℕ
-stmt_list = 0x10
+stmt_list = DW_AT_STMT_LIST
 
 -- DW_AT_rnglists_base, DW_AT_loclists_base, DW_AT_addr_base, DW_AT_str_offsets_base
 abbrev pub rnglists_base : ℕ
-rnglists_base = 0x74
+rnglists_base = DW_AT_RNGLISTS_BASE
 
 abbrev pub loclists_base : ℕ
-loclists_base = 0x8c
+loclists_base = DW_AT_LOCLISTS_BASE
 
 abbrev pub addr_base : ℕ
-addr_base = 0x73
+addr_base = DW_AT_ADDR_BASE
 
 abbrev pub str_offsets_base : ℕ
-str_offsets_base = 0x72
+str_offsets_base = DW_AT_STR_OFFSETS_BASE
 
 -- DW_AT_macros
 abbrev pub macros : ℕ
-macros = 0x79
+macros = DW_AT_MACROS
 
 -- DW_AT_GNU_locviews, an extension: view numbers for the entries of a location list
 abbrev pub gnu_locviews : ℕ
-gnu_locviews = 0x2137
+gnu_locviews = DW_AT_GNU_LOCVIEWS
 
--- DW_AT_ranges and DW_AT_start_scope
+-- the attributes whose section offsets are those of range lists
 abbrev pub of_range_lists : List ℕ
-of_range_lists = 0x55 ∷ 0x2c ∷ []
+of_range_lists = DW_AT_RANGES ∷ DW_AT_START_SCOPE ∷ []
 
--- DW_AT_location, DW_AT_string_length, DW_AT_return_addr, DW_AT_data_member_location, DW_AT_frame_base, DW_AT_segment,
--- DW_AT_static_link, DW_AT_use_location and DW_AT_vtable_elem_location
+-- the attributes whose section offsets are those of location lists
 abbrev pub of_location_lists : List ℕ
-of_location_lists = 0x02 ∷ 0x19 ∷ 0x2a ∷ 0x38 ∷ 0x40 ∷ 0x46 ∷ 0x48 ∷ 0x4a ∷ 0x4d ∷ []
+of_location_lists = DW_AT_LOCATION ∷ DW_AT_STRING_LENGTH ∷ DW_AT_RETURN_ADDR ∷ DW_AT_DATA_MEMBER_LOCATION ∷ DW_AT_FRAME_BASE ∷ DW_AT_SEGMENT ∷ DW_AT_STATIC_LINK ∷ DW_AT_USE_LOCATION ∷ DW_AT_VTABLE_ELEM_LOCATION ∷ []
 
 abbrev pub is_among : List ℕ → ℕ → Bool
 is_among names name = list_any (nat_eq name) names

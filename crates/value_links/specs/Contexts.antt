@@ -2,6 +2,7 @@
 -- from which offsets count until a list gives another base, and the address table in which indexes are looked up. Both are what
 -- the root of the unit gives.
 use Rattle.std.specs.Prelude.{◌≡◌, ℕ, List, [], ◌∷◌, Option, Some, None, Bool, false, nat_eq, nat_lt, if◌then◌else◌, map, filter}
+use Rattle.dw_base.specs.declared.constants.TheConstants.{DW_AT_LOW_PC}
 use Rattle.form_codec.specs.Forms.{Meaning}
 use Rattle.form_codec.specs.Forms.Meaning.{Address, AddressNumber}
 use Rattle.list_model.specs.declared.context.Context.{Context}
@@ -12,7 +13,7 @@ use Rattle.value_links.specs.Values.{IsFirstBase}
 
 -- DW_AT_low_pc
 abbrev pub low_pc : ℕ
-low_pc = 0x11
+low_pc = DW_AT_LOW_PC
 
 -- whether an attribute is a DW_AT_low_pc whose value is an address, or the number of one
 abbrev pub is_low_pc : ℕ × Meaning → Bool

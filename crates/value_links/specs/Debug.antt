@@ -7,8 +7,10 @@ use Rattle.entry_arena.specs.Forests.{Described, described_by}
 use Rattle.entry_read.specs.Heads.{type_unit}
 use Rattle.companions.specs.declared.set.ArangeSet.{ArangeSet}
 use Rattle.value_links.specs.Sections.{debug_line}
-use Rattle.value_links.specs.Reading.{UnitRead, Reading, line_heads, IsReading, declarations, unit_at}
-use Rattle.value_links.specs.Resolved.{Resolved, Resolves, IsTypeEntry}
+use Rattle.value_links.specs.Reading.{UnitRead, Linkable, Reading, line_heads, declarations, unit_at}
+use Rattle.value_links.specs.Whole.{IsReading}
+use Rattle.value_links.specs.Linked.{IsTypeEntry}
+use Rattle.value_links.specs.Resolved.{Resolved, Resolves}
 
 -- an entry: how many it stands below, its tag, whether it has children, and its attributes, each a name and a value
 -- (DWARF 5 sections 2.1 to 2.3)
@@ -54,25 +56,25 @@ pub record MeansEntry (r : Reading) (u id : ℕ) (stands : Described) (entry : E
   pub attributes : AllZip (MeansAttribute r u id) stands.attributes entry.attributes
 
 -- a type unit has the entry of its type, and no other unit has one
-abbrev pub MeansType : Reading → ℕ → Option ℕ → Type 0
+abbrev pub MeansType : Linkable → ℕ → Option ℕ → Type 0
 MeansType r u (Some id) = ((unit_at r u).head.kind ≡ type_unit) × IsTypeEntry r u id
 MeansType r u None = (unit_at r u).head.kind ≢ type_unit
 
 -- there are as many entries, and each means the one with its number
 pub record MeanEntries (r : Reading) (u : ℕ) (entries : List EntryMeaning) : Type 0 where
-  pub count : length entries ≡ length (described (unit_at r u))
-  pub each : (id : ℕ) (d : Described) (e : EntryMeaning) → id < length entries → MeansEntry r u id (slice_index_or (described (unit_at r u)) id d) (slice_index_or entries id e)
+  pub count : length entries ≡ length (described (unit_at r.links u))
+  pub each : (id : ℕ) (d : Described) (e : EntryMeaning) → id < length entries → MeansEntry r u id (slice_index_or (described (unit_at r.links u)) id d) (slice_index_or entries id e)
 
 -- the unit with a number means this
 pub record MeansUnit (r : Reading) (u : ℕ) (unit : UnitMeaning) : Type 0 where
-  pub unit_type : unit.unit_type ≡ (unit_at r u).head.kind
-  pub signature : unit.signature ≡ (unit_at r u).head.extra
-  pub type_entry : MeansType r u unit.type_entry
+  pub unit_type : unit.unit_type ≡ (unit_at r.links u).head.kind
+  pub signature : unit.signature ≡ (unit_at r.links u).head.extra
+  pub type_entry : MeansType r.links u unit.type_entry
   pub forest : MeanEntries r u unit.forest
 
 -- there are as many units, and each means the one with its number
 pub record MeanUnits (r : Reading) (units : List UnitMeaning) : Type 0 where
-  pub count : length units ≡ length r.units
+  pub count : length units ≡ length r.links.units
   pub each : (u : ℕ) (d : UnitMeaning) → u < length units → MeansUnit r u (slice_index_or units u d)
 
 abbrev pub set_meaning : ArangeSet → SetMeaning
@@ -80,7 +82,7 @@ set_meaning set = record { unit = set.unit }
 
 -- what is read means this
 pub record MeansDebug (file : List ℕ) (r : Reading) (debug : Debug) : Type 0 where
-  pub programs : HaveMeanings (debug_line file) (line_heads r.programs) debug.programs
+  pub programs : HaveMeanings (debug_line file) (line_heads r.links.programs) debug.programs
   pub units : MeanUnits r debug.units
   pub aranges : debug.aranges ≡ map set_meaning r.sets
 

@@ -2,6 +2,7 @@
 -- first that has a fault refuses it. The place of a fault is an offset in the file.
 use Rattle.std.specs.Prelude.{◌≡◌, ◌≤◌, ◌<◌, ◌+◌, ◌⊎◌, ℕ, List, [], ◌∷◌, ◌++◌, length, drop, map, Bool, ◌||◌, bytes_eq}
 use Rattle.std.specs.List.{All, Contains}
+use Rattle.dw_base.specs.declared.constants.TheConstants.{DW_OP_CALL2, DW_OP_CALL4, DW_OP_CALL_REF, DW_OP_IMPLICIT_POINTER, DW_OP_CONST_TYPE, DW_OP_REGVAL_TYPE, DW_OP_DEREF_TYPE, DW_OP_XDEREF_TYPE, DW_OP_CONVERT, DW_OP_REINTERPRET, DW_OP_GNU_PARAMETER_REF, DW_OP_GNU_VARIABLE_VALUE}
 use Rattle.dw_base.specs.declared.fault.Kind.{Kind}
 use Rattle.dw_base.specs.declared.fault.Kind.TheVariants.{Companion, Limit, Target as NoTarget, Pointer, NoBase, Unbuilt}
 use Rattle.dw_base.specs.declared.fault.Reach.{Reach}
@@ -29,8 +30,9 @@ use Rattle.companions.specs.Faults.{FaultSets}
 use Rattle.value_links.specs.Sections.{offset_named, debug_info, debug_abbrev, debug_line, debug_aranges, info_name, abbrev_name, line_name, aranges_name, rnglists_name, loclists_name}
 use Rattle.value_links.specs.Attributes.{OffsetClass, offset_class, rnglists_base, loclists_base}
 use Rattle.value_links.specs.Attributes.OffsetClass.{LinePtr, RngList, LocList, RngListsPtr, LocListsPtr, AddrPtr, StrOffsetsPtr, MacPtr, Views, NoOffset}
-use Rattle.value_links.specs.Reading.{UnitRead, Reading, unit_heads, unit_at, counts_of, AreWithin, IsUnitByTable, IsReadToLinks}
-use Rattle.value_links.specs.Resolved.{IsLocalTarget, IsSectionTarget, IsTypeEntry, IsProgramAt}
+use Rattle.value_links.specs.Reading.{UnitRead, Linkable, unit_heads, unit_at, counts_of, AreWithin, IsUnitRead}
+use Rattle.value_links.specs.Whole.{IsReadToLinks}
+use Rattle.value_links.specs.Linked.{IsLocalTarget, IsSectionTarget, IsTypeEntry, IsProgramAt}
 use Rattle.value_links.specs.Values.{HasValueAt, GivesBase}
 
 -- a fault of a section, which counts from the section's first byte, stands at a place of the file
@@ -106,7 +108,7 @@ pub record PassesUnitTotal (info abbrevs : List ℕ) (place : ℕ) : Type 0 wher
   pub head : UnitHead
   pub end : ℕ
   pub front : Follow info (unit_heads before ++ head ∷ []) 0 end
-  pub each : All (IsUnitByTable info abbrevs) before
+  pub each : All (IsUnitRead info abbrevs) before
   pub within : AreWithin before
   pub passes : FaultEntries info abbrevs (counts_of before) head Limit place
 
@@ -127,7 +129,7 @@ FaultOfUnits file kind place =
 -- FIFTH PASS: what values refer to (DWARF 5 section 7.5.5), expressions, and sets of address ranges
 
 -- a reference that no entry and no end of a chain is the target of
-abbrev pub IsTargetless : Reading → ℕ → Meaning → Type 0
+abbrev pub IsTargetless : Linkable → ℕ → Meaning → Type 0
 IsTargetless r u (InUnit n) = ¬ ((target : Target) × IsLocalTarget r u n target)
 IsTargetless r u (InSection n) = ¬ ((unit : ℕ) × (target : Target) × IsSectionTarget r n unit target)
 IsTargetless r u meaning = ⊥
@@ -135,7 +137,7 @@ IsTargetless r u meaning = ⊥
 -- A section offset names nothing that its class allows: no line number program; no list, no view numbers and no offsets of
 -- lists, since no section has them yet; or its attribute has no class. The offsets that are kept as numbers name nothing
 -- that is looked up.
-abbrev pub NamesNothing : Reading → ℕ → ℕ → OffsetClass → ℕ → Type 0
+abbrev pub NamesNothing : Linkable → ℕ → ℕ → OffsetClass → ℕ → Type 0
 NamesNothing r u id LinePtr n = ¬ ((p : ℕ) × IsProgramAt r n p)
 NamesNothing r u id RngList n = Unit {0}
 NamesNothing r u id LocList n = Unit {0}
@@ -148,24 +150,22 @@ NamesNothing r u id Views n = Unit {0}
 NamesNothing r u id NoOffset n = Unit {0}
 
 -- A section offset names nothing, or an index counts the lists of a base that names nothing.
-abbrev pub IsDangling : Reading → ℕ → ℕ → ℕ → Meaning → Type 0
+abbrev pub IsDangling : Linkable → ℕ → ℕ → ℕ → Meaning → Type 0
 IsDangling r u id name (SectionPlace n) = NamesNothing r u id (offset_class name) n
 IsDangling r u id name (LocationList i) = GivesBase (unit_at r u) loclists_base
 IsDangling r u id name (RangeList i) = GivesBase (unit_at r u) rnglists_base
 IsDangling r u id name meaning = ⊥
 
 -- an index needs a base that the root doesn't give
-abbrev pub IsBaseless : Reading → ℕ → Meaning → Type 0
+abbrev pub IsBaseless : Linkable → ℕ → Meaning → Type 0
 IsBaseless r u (LocationList i) = ¬ GivesBase (unit_at r u) loclists_base
 IsBaseless r u (RangeList i) = ¬ GivesBase (unit_at r u) rnglists_base
 IsBaseless r u meaning = ⊥
 
--- The opcodes of the operations that name an entry: DW_OP_call2, DW_OP_call4, DW_OP_call_ref, DW_OP_implicit_pointer,
--- DW_OP_const_type, DW_OP_regval_type, DW_OP_deref_type, DW_OP_xderef_type, DW_OP_convert, DW_OP_reinterpret (DWARF 5
--- section 7.7.1), DW_OP_GNU_parameter_ref and DW_OP_GNU_variable_value. Operations aren't read yet. So an expression in
--- which one of these bytes stands anywhere, be it an operand, isn't rewritten.
+-- The opcodes of the operations that name an entry (DWARF 5 section 7.7.1), and of two extensions that do. Operations aren't
+-- read yet. So an expression in which one of these bytes stands anywhere, be it an operand, isn't rewritten.
 abbrev pub unread_opcodes : List ℕ
-unread_opcodes = 0x98 ∷ 0x99 ∷ 0x9a ∷ 0xa0 ∷ 0xa4 ∷ 0xa5 ∷ 0xa6 ∷ 0xa7 ∷ 0xa8 ∷ 0xa9 ∷ 0xfa ∷ 0xfd ∷ []
+unread_opcodes = DW_OP_CALL2 ∷ DW_OP_CALL4 ∷ DW_OP_CALL_REF ∷ DW_OP_IMPLICIT_POINTER ∷ DW_OP_CONST_TYPE ∷ DW_OP_REGVAL_TYPE ∷ DW_OP_DEREF_TYPE ∷ DW_OP_XDEREF_TYPE ∷ DW_OP_CONVERT ∷ DW_OP_REINTERPRET ∷ DW_OP_GNU_PARAMETER_REF ∷ DW_OP_GNU_VARIABLE_VALUE ∷ []
 
 -- an expression has one of these bytes
 abbrev pub IsUnread : Meaning → Type 0
@@ -173,7 +173,7 @@ IsUnread (Expression bytes) = (byte : ℕ) × Contains bytes byte × Contains un
 IsUnread meaning = ⊥
 
 -- the fault of the value of an attribute with a name, in an entry `id` of the unit `u`, both by their numbers
-abbrev pub FaultValue : Reading → ℕ → ℕ → ℕ → Meaning → Kind → Type 0
+abbrev pub FaultValue : Linkable → ℕ → ℕ → ℕ → Meaning → Kind → Type 0
 FaultValue r u id name meaning NoTarget = IsTargetless r u meaning
 FaultValue r u id name meaning Pointer = IsDangling r u id name meaning
 FaultValue r u id name meaning NoBase = IsBaseless r u meaning
@@ -181,7 +181,7 @@ FaultValue r u id name meaning Unbuilt = IsUnread meaning
 FaultValue r u id name meaning kind = ⊥
 
 -- A value of the unit with a number has a fault. The place is the value's first byte.
-pub record FaultAttribute (r : Reading) (u : ℕ) (kind : Kind) (place : ℕ) : Type 0 where
+pub record FaultAttribute (r : Linkable) (u : ℕ) (kind : Kind) (place : ℕ) : Type 0 where
   pub id : ℕ
   pub number : ℕ
   pub name : ℕ
@@ -190,17 +190,21 @@ pub record FaultAttribute (r : Reading) (u : ℕ) (kind : Kind) (place : ℕ) : 
   pub fault : FaultValue r u id name meaning kind
 
 -- The type_offset of a type unit names no entry of the unit. The place is that of the field.
-abbrev pub FaultType : Reading → ℕ → Kind → ℕ → Type 0
+abbrev pub FaultType : Linkable → ℕ → Kind → ℕ → Type 0
 FaultType r u NoTarget place = ((unit_at r u).head.kind ≡ type_unit) × (¬ ((id : ℕ) × IsTypeEntry r u id)) × (place ≡ type_offset_at (unit_at r u).head)
 FaultType r u kind place = ⊥
 
--- Something in a unit refers to what isn't there, or isn't read yet.
+-- Something in a unit refers to what isn't there, or isn't read yet. Each fault has a place of its own: that of a value, or of a
+-- field. No limit is asked for here yet.
+abbrev pub FaultInUnit : Linkable → Reach → ℕ → Kind → ℕ → Type 0
+FaultInUnit r reach u kind place = FaultAttribute r u kind place ⊎ FaultType r u kind place
+
 pub record FaultLinks (file : List ℕ) (reach : Reach) (kind : Kind) (place : ℕ) : Type 0 where
-  pub r : Reading
+  pub r : Linkable
   pub read : IsReadToLinks file r
   pub u : ℕ
   pub inside : u < length r.units
-  pub fault : FaultAttribute r u kind place ⊎ FaultType r u kind place
+  pub fault : FaultInUnit r reach u kind place
 
 -- A set of address ranges has a fault, where the units of .debug_info are known.
 abbrev pub FaultAranges : List ℕ → Kind → ℕ → Type 0

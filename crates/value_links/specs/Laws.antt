@@ -10,12 +10,11 @@ use Rattle.line_machine.specs.Faults.{row_limit}
 use Rattle.line_write.specs.Faults.{total_limit}
 use Rattle.form_codec.specs.Forms.{Meaning}
 use Rattle.abbrev_tables.specs.Tables.{Declared}
-use Rattle.abbrev_tables.specs.Listings.{Listing, IsTableAt}
-use Rattle.entry_read.specs.Units.{declarations_of}
-use Rattle.value_links.specs.Sections.{debug_abbrev}
-use Rattle.value_links.specs.Reading.{ProgramRead, UnitRead, Reading, unit_at, AreProgramsOf, AreUnitsOf, IsReadToLinks, IsReading}
+use Rattle.value_links.specs.Reading.{ProgramRead, UnitRead, Linkable, Reading, declarations, unit_at, AreProgramsOf, AreUnitsOf}
+use Rattle.value_links.specs.Whole.{IsReadToLinks, IsReading}
 use Rattle.value_links.specs.Values.{HasValueAt}
-use Rattle.value_links.specs.Resolved.{Resolved, Resolves, IsLinked}
+use Rattle.value_links.specs.Linked.{Linked, Links, IsLinked}
+use Rattle.value_links.specs.Resolved.{Resolved, Resolves}
 use Rattle.value_links.specs.declared.link.Link.{Link}
 use Rattle.value_links.specs.Links.{HasLink}
 use Rattle.value_links.specs.Debug.{Debug, MeansDebug, Means}
@@ -25,31 +24,44 @@ use Rattle.value_links.specs.Faults.{is_list_section, HasShortReference, FaultVa
 abbrev pub OneReading : Type 0
 OneReading = (file : List ℕ) (r s : Reading) → IsReading file r → IsReading file s → r ≡ s
 
+-- What values refer to is read in one way.
+abbrev pub OneLinkable : Type 0
+OneLinkable = (file : List ℕ) (r s : Linkable) → IsReadToLinks file r → IsReadToLinks file s → r ≡ s
+
+-- The value of an attribute refers to one thing.
+abbrev pub OneLinked : Type 0
+OneLinked =
+    (file : List ℕ) (r : Linkable) (u id name : ℕ) (meaning : Meaning) (v w : Linked) → IsReadToLinks file r → u < length r.units → Links r u id name meaning v → Links r u id name meaning w → v ≡ w
+
+-- So does the value with a number among those of a unit's entries, which has one link.
+abbrev pub OneLinkedValue : Type 0
+OneLinkedValue = (file : List ℕ) (r : Linkable) (u number : ℕ) (v w : Linked) → IsReadToLinks file r → IsLinked r u number v → IsLinked r u number w → v ≡ w
+
+abbrev pub OneLink : Type 0
+OneLink = (file : List ℕ) (r : Linkable) (u number : ℕ) (a b : Link) → IsReadToLinks file r → HasLink r u number a → HasLink r u number b → a ≡ b
+
 -- The value of an attribute means one thing.
 abbrev pub OneMeaning : Type 0
 OneMeaning =
-    (file : List ℕ) (r : Reading) (u id name : ℕ) (meaning : Meaning) (v w : Resolved) → IsReadToLinks file r → u < length r.units → Resolves r u id name meaning v → Resolves r u id name meaning w → v ≡ w
+    (file : List ℕ) (r : Reading) (u id name : ℕ) (meaning : Meaning) (v w : Resolved) → IsReading file r → u < length r.links.units → Resolves r u id name meaning v → Resolves r u id name meaning w → v ≡ w
 
--- The value with a number among those of a unit's entries means one thing, and so it has one link.
-abbrev pub OneResolved : Type 0
-OneResolved = (file : List ℕ) (r : Reading) (u number : ℕ) (v w : Resolved) → IsReadToLinks file r → IsLinked r u number v → IsLinked r u number w → v ≡ w
-
-abbrev pub OneLink : Type 0
-OneLink = (file : List ℕ) (r : Reading) (u number : ℕ) (a b : Link) → IsReadToLinks file r → HasLink r u number a → HasLink r u number b → a ≡ b
+-- A value that is linked means something.
+abbrev pub LinkedMean : Type 0
+LinkedMean = (r : Reading) (u id name : ℕ) (meaning : Meaning) (linked : Linked) → Links r.links u id name meaning linked → (v : Resolved) × Resolves r u id name meaning v
 
 -- A file means one thing.
 abbrev pub OneDebug : Type 0
 OneDebug = (file : List ℕ) (a b : Debug) → Means file a → Means file b → a ≡ b
 
--- Never both: what means something has no fault but that it can't be written yet.
-abbrev pub ResolvedHaveNoFault : Type 0
-ResolvedHaveNoFault =
-    (r : Reading) (u id name : ℕ) (meaning : Meaning) (v : Resolved) (kind : Kind) → kind ≢ Unbuilt → Resolves r u id name meaning v → FaultValue r u id name meaning kind → ⊥
+-- Never both: a value that is linked has no fault but that it can't be written yet.
+abbrev pub LinkedHaveNoFault : Type 0
+LinkedHaveNoFault =
+    (r : Linkable) (u id name : ℕ) (meaning : Meaning) (linked : Linked) (kind : Kind) → kind ≢ Unbuilt → Links r u id name meaning linked → FaultValue r u id name meaning kind → ⊥
 
--- What means nothing has a fault.
-abbrev pub ResolvedOrFaulty : Type 0
-ResolvedOrFaulty =
-    (r : Reading) (u id name : ℕ) (meaning : Meaning) → ((v : Resolved) × Resolves r u id name meaning v) ⊎ ((kind : Kind) × FaultValue r u id name meaning kind)
+-- A value that isn't linked, since it names nothing that it may name, has a fault.
+abbrev pub LinkedOrFaulty : Type 0
+LinkedOrFaulty =
+    (r : Linkable) (u id name : ℕ) (meaning : Meaning) → ((linked : Linked) × Links r u id name meaning linked) ⊎ ((kind : Kind) × FaultValue r u id name meaning kind)
 
 -- A valid file that is read means something.
 abbrev pub ValidFilesMean : Type 0
@@ -68,12 +80,12 @@ pub record HaveFewRows (programs : List ProgramRead) : Type 0 where
 abbrev pub IsBuilt : Declared → Type 0
 IsBuilt d = ¬ HasShortReference d
 
--- all declarations of the tables that units name can be written, those that no entry has too
-abbrev pub AreBuilt : List ℕ → List UnitRead → Type 0
-AreBuilt abbrevs units = All (λ (u : UnitRead). (table : Listing) → IsTableAt abbrevs u.head.table table → All IsBuilt (declarations_of table)) units
+-- all declarations that units name can be written
+abbrev pub AreBuilt : List UnitRead → Type 0
+AreBuilt units = All (λ (u : UnitRead). All IsBuilt (declarations u)) units
 
 -- no value of what is read waits for a later version of this program
-abbrev pub HasNoUnread : Reading → Type 0
+abbrev pub HasNoUnread : Linkable → Type 0
 HasNoUnread r = (u id number name : ℕ) (meaning : Meaning) (place : ℕ) → u < length r.units → HasValueAt (unit_at r u) id number name meaning place → FaultValue r u id name meaning Unbuilt → ⊥
 
 -- the first two passes find the image of a file in order, the third its programs too, and the fourth its units
@@ -81,25 +93,25 @@ pub record IsImageInOrder (file : List ℕ) (reach : Reach) : Type 0 where
   pub image : IsRead file reach
   pub names : HasNoLists file
 
-pub record AreProgramsInOrder (file : List ℕ) (reach : Reach) (r : Reading) : Type 0 where
+pub record AreProgramsInOrder (file : List ℕ) (reach : Reach) (r : Linkable) : Type 0 where
   pub before : IsImageInOrder file reach
   pub programs : AreProgramsOf file r.programs
   pub few : HaveFewRows r.programs
 
-pub record AreUnitsInOrder (file : List ℕ) (reach : Reach) (r : Reading) : Type 0 where
+pub record AreUnitsInOrder (file : List ℕ) (reach : Reach) (r : Linkable) : Type 0 where
   pub before : AreProgramsInOrder file reach r
   pub units : AreUnitsOf file r.units
-  pub built : AreBuilt (debug_abbrev file) r.units
+  pub built : AreBuilt r.units
 
 -- A fault of a pass is one of the file, where the passes before it find all in order.
 pub record FirstFaultsDecide : Type 0 where
   pub file : (file : List ℕ) (reach : Reach) (kind : Kind) (place : ℕ) → FaultOfFile file reach kind place → Faulty file reach kind place
   pub names : (file : List ℕ) (reach : Reach) (kind : Kind) (place : ℕ) → ((k : Kind) (p : ℕ) → FaultOfFile file reach k p → ⊥) → FaultOfNames file reach kind place → Faulty file reach kind place
   pub programs : (file : List ℕ) (reach : Reach) (kind : Kind) (place : ℕ) → IsImageInOrder file reach → FaultOfPrograms file kind place → Faulty file reach kind place
-  pub units : (file : List ℕ) (reach : Reach) (r : Reading) (kind : Kind) (place : ℕ) → AreProgramsInOrder file reach r → FaultOfUnits file kind place → Faulty file reach kind place
-  pub links : (file : List ℕ) (reach : Reach) (r : Reading) (kind : Kind) (place : ℕ) → AreUnitsInOrder file reach r → FaultOfLinks file reach kind place → Faulty file reach kind place
+  pub units : (file : List ℕ) (reach : Reach) (r : Linkable) (kind : Kind) (place : ℕ) → AreProgramsInOrder file reach r → FaultOfUnits file kind place → Faulty file reach kind place
+  pub links : (file : List ℕ) (reach : Reach) (r : Linkable) (kind : Kind) (place : ℕ) → AreUnitsInOrder file reach r → FaultOfLinks file reach kind place → Faulty file reach kind place
 
 -- A file of which all is read, that means something and waits for nothing is valid.
 abbrev pub MeaningFilesAreValid : Type 0
 MeaningFilesAreValid =
-    (file : List ℕ) (reach : Reach) (r : Reading) (debug : Debug) → AreUnitsInOrder file reach r → IsReading file r → MeansDebug file r debug → HasNoUnread r → IsValid file reach
+    (file : List ℕ) (reach : Reach) (r : Reading) (debug : Debug) → AreUnitsInOrder file reach r.links → IsReading file r → MeansDebug file r debug → HasNoUnread r.links → IsValid file reach

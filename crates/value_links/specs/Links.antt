@@ -1,31 +1,24 @@
 -- What a link says of a value, and where it is looked up in what is held.
-use Rattle.std.specs.Prelude.{◌≡◌, ◌≢◌, ◌≤◌, ◌<◌, ◌+◌, ◌^◌, ℕ, List, length, slice_index_or, Option, Some, None}
-use Rattle.line_machine.specs.declared.head.Head.{Head}
+use Rattle.std.specs.Prelude.{◌≡◌, ℕ, List, slice_index_or, Option, Some, None}
 use Rattle.form_codec.specs.Forms.{Meaning}
-use Rattle.entry_arena.specs.declared.entry.Target.{Target}
-use Rattle.entry_arena.specs.Arena.{Arena}
-use Rattle.entry_arena.specs.Order.{IsInOrder}
 use Rattle.entry_read.specs.Units.{HeadAndForest}
 use Rattle.value_links.specs.declared.link.Link.{Link}
 use Rattle.value_links.specs.declared.link.Link.TheVariants.{Plain, Place, Lines, Kept as KeptPlace}
-use Rattle.value_links.specs.Attributes.{OffsetClass}
-use Rattle.value_links.specs.Attributes.OffsetClass.{LinePtr, AddrPtr, StrOffsetsPtr, MacPtr}
-use Rattle.value_links.specs.Reading.{Reading, no_program, no_unit, unit_at}
-use Rattle.value_links.specs.Values.{meaning_at}
+use Rattle.value_links.specs.Reading.{Linkable, no_unit}
 use Rattle.value_links.specs.World.{head_and_forest}
-use Rattle.value_links.specs.Resolved.{Resolved, IsTargetAt, IsLinked}
-use Rattle.value_links.specs.Resolved.Resolved.{Itself, Refers, Program, Kept}
+use Rattle.value_links.specs.Linked.{Linked, Links, IsLinked}
+use Rattle.value_links.specs.Linked.Linked.{Itself, Refers, Program, Kept}
 
--- what a value with this meaning means by its link
-abbrev pub resolved_by : Meaning → Link → Resolved
-resolved_by meaning Plain = Itself meaning
-resolved_by meaning (Place unit target) = Refers unit target
-resolved_by meaning (Lines program) = Program program
-resolved_by meaning (KeptPlace place) = Kept place
+-- the link tells what a value refers to
+abbrev pub IsLinkOf : Linked → Link → Type 0
+IsLinkOf (Itself meaning) link = link ≡ Plain
+IsLinkOf (Refers unit target) link = link ≡ Place unit target
+IsLinkOf (Program program) link = link ≡ Lines program
+IsLinkOf (Kept place) link = link ≡ KeptPlace place
 
--- the value with a number among those of a unit's entries has this link: by it, it means what it means in the reading
-abbrev pub HasLink : Reading → ℕ → ℕ → Link → Type 0
-HasLink r u number link = IsLinked r u number (resolved_by (meaning_at (unit_at r u) number) link)
+-- the value with a number among those of a unit's entries has this link: it tells what the value refers to
+abbrev pub HasLink : Linkable → ℕ → ℕ → Link → Type 0
+HasLink r u number link = (linked : Linked) × IsLinked r u number linked × IsLinkOf linked link
 
 -- WHAT IS HELD
 
@@ -33,47 +26,10 @@ HasLink r u number link = IsLinked r u number (resolved_by (meaning_at (unit_at 
 abbrev pub held_at : List HeadAndForest → ℕ → HeadAndForest
 held_at units u = slice_index_or units u (head_and_forest no_unit)
 
--- likewise the header of a line number program
-abbrev pub program_among : List Head → ℕ → Head
-program_among programs p = slice_index_or programs p no_program.head
-
--- Units that numbers of 32 bits name, each of which ends no later than a later one begins, and holds its targets in order.
-pub record AreUnitsApart (units : List HeadAndForest) : Type 0 where
-  pub few : length units < 2 ^ 32
-  pub rising : (i j : ℕ) → i < j → j < length units → (held_at units i).head.at + (held_at units i).head.len ≤ (held_at units j).head.at
-  pub order : (i : ℕ) → i < length units → IsInOrder (held_at units i).forest
-  pub from : (i : ℕ) (target : Target) (place : ℕ) → i < length units → IsTargetAt (held_at units i).forest target place → (held_at units i).head.at ≤ place
-  pub to : (i : ℕ) (target : Target) (place : ℕ) → i < length units → IsTargetAt (held_at units i).forest target place → place < (held_at units i).head.at + (held_at units i).head.len
-
--- Line number programs that numbers of 32 bits name, each of which begins before a later one.
-pub record AreProgramsApart (programs : List Head) : Type 0 where
-  pub few : length programs < 2 ^ 32
-  pub rising : (i j : ℕ) → i < j → j < length programs → (program_among programs i).at < (program_among programs j).at
-
 -- WHAT IS FOUND
 
--- the last unit that begins at a place or before it
-abbrev pub IsLastFrom : List HeadAndForest → ℕ → Option ℕ → Type 0
-IsLastFrom units place (Some i) = (i < length units) × ((held_at units i).head.at ≤ place) × ((j : ℕ) → i < j → j < length units → place < (held_at units j).head.at)
-IsLastFrom units place None = (j : ℕ) → j < length units → place < (held_at units j).head.at
-
--- what stands at a place of a unit
-abbrev pub IsTargetFound : Arena → ℕ → Option Target → Type 0
-IsTargetFound forest place (Some target) = IsTargetAt forest target place
-IsTargetFound forest place None = (target : Target) → IsTargetAt forest target place → ⊥
-
--- what stands at a place of some unit
-abbrev pub IsSectionTargetFound : List HeadAndForest → ℕ → Option Link → Type 0
-IsSectionTargetFound units place (Some (Place unit target)) = (unit < length units) × IsTargetAt (held_at units unit).forest target place
-IsSectionTargetFound units place (Some link) = ⊥
-IsSectionTargetFound units place None = (unit : ℕ) (target : Target) → unit < length units → IsTargetAt (held_at units unit).forest target place → ⊥
-
--- what a section offset of a class names
-abbrev pub IsOffsetFound : List Head → OffsetClass → ℕ → Option Link → Type 0
-IsOffsetFound programs LinePtr n (Some (Lines p)) = (p < length programs) × ((program_among programs p).at ≡ n)
-IsOffsetFound programs LinePtr n (Some link) = ⊥
-IsOffsetFound programs LinePtr n None = (p : ℕ) → p < length programs → (program_among programs p).at ≢ n
-IsOffsetFound programs AddrPtr n found = found ≡ Some (KeptPlace n)
-IsOffsetFound programs StrOffsetsPtr n found = found ≡ Some (KeptPlace n)
-IsOffsetFound programs MacPtr n found = found ≡ Some (KeptPlace n)
-IsOffsetFound programs class n found = found ≡ None
+-- What is answered of the value of an attribute with a name, in an entry `id` of a unit: the link that tells what it refers to, or
+-- none exactly where it isn't linked.
+abbrev pub IsLinkFound : Linkable → ℕ → ℕ → ℕ → Meaning → Option Link → Type 0
+IsLinkFound r u id name meaning (Some link) = (linked : Linked) × Links r u id name meaning linked × IsLinkOf linked link
+IsLinkFound r u id name meaning None = (linked : Linked) → Links r u id name meaning linked → ⊥

@@ -1,5 +1,5 @@
 -- What is read of the debug sections of a file. Places count from the first byte of the section in which they stand.
-use Rattle.std.specs.Prelude.{◌≡◌, ◌<◌, ℕ, List, [], length, map, slice_index_or, false, pos}
+use Rattle.std.specs.Prelude.{◌≡◌, ◌<◌, ℕ, List, [], length, map, slice_index_or, None, false, pos}
 use Rattle.std.specs.List.{All, sum_by}
 use Rattle.line_machine.specs.declared.head.Head.{Head}
 use Rattle.line_machine.specs.declared.registers.Row.{Row}
@@ -8,33 +8,37 @@ use Rattle.line_machine.specs.Rows.{GivesRows}
 use Rattle.line_write.specs.Programs.{Tile as ProgramsTile}
 use Rattle.abbrev_tables.specs.Tables.{Declared}
 use Rattle.abbrev_tables.specs.Listings.{Listing, IsTableAt}
-use Rattle.abbrev_tables.specs.Parts.{IsPartAt}
-use Rattle.entry_arena.specs.Arena.{Arena, nothing_of, entry_at}
+use Rattle.entry_arena.specs.Arena.{Arena, nothing_of}
 use Rattle.entry_read.specs.declared.head.UnitHead.{UnitHead}
 use Rattle.entry_read.specs.declared.unit.Counts.{Counts}
 use Rattle.entry_read.specs.Heads.{no_head, Tile as UnitsTile}
 use Rattle.entry_read.specs.Units.{declarations_of, IsUnitHeld, IsWithin}
+use Rattle.list_model.specs.declared.context.Context.{Context}
 use Rattle.companions.specs.declared.set.ArangeSet.{ArangeSet}
-use Rattle.companions.specs.Aranges.{SetsTile}
-use Rattle.value_links.specs.Sections.{debug_info, debug_abbrev, debug_line, debug_aranges}
+use Rattle.value_links.specs.Sections.{debug_info, debug_abbrev, debug_line}
 
 -- a line number program: its header and its rows
 pub record ProgramRead : Type 0 where
   pub head : Head
   pub rows : List Row
 
--- a unit: its header, the declarations of the abbreviation table that the header names, as far as entries of this unit or of another
--- that names the table have them, and its entries
+-- a unit: its header, the abbreviation table that the header names, and its entries
 pub record UnitRead : Type 0 where
   pub head : UnitHead
   pub table : Listing
   pub forest : Arena
 
--- Line number programs, units, and sets of address ranges, each in the order in which they stand. What is read of further
--- sections is a field more, and so is the length of a section into which attributes only point.
-pub record Reading : Type 0 where
+-- What values refer to: line number programs and units, each in the order in which they stand, the bytes of .debug_addr, and of
+-- each unit the context of its lists. What is read of a section of lists, up to the places of its lists, is a field more.
+pub record Linkable : Type 0 where
   pub programs : List ProgramRead
   pub units : List UnitRead
+  pub addresses : List ℕ
+  pub contexts : List Context
+
+-- Then the sets of address ranges.
+pub record Reading : Type 0 where
+  pub links : Linkable
   pub sets : List ArangeSet
 
 -- LINE NUMBER PROGRAMS
@@ -62,7 +66,7 @@ no_program = record {
   rows = [];
 }
 
-abbrev pub program_at : Reading → ℕ → ProgramRead
+abbrev pub program_at : Linkable → ℕ → ProgramRead
 program_at r p = slice_index_or r.programs p no_program
 
 -- UNITS
@@ -89,20 +93,23 @@ AreWithin units = IsWithin (counts_of []) (counts_of units).entries (counts_of u
 abbrev pub declarations : UnitRead → List Declared
 declarations u = declarations_of u.table
 
--- The header names a place in .debug_abbrev where a table stands (DWARF 5 section 7.5.3), the unit has this table or a part of
--- it, and the entries are the unit's, by the declarations that it has.
+-- The header names a place in .debug_abbrev where the table stands (DWARF 5 section 7.5.3), and the entries are the
+-- unit's, by the declarations of the table.
 pub record IsUnitRead (info abbrevs : List ℕ) (u : UnitRead) : Type 0 where
-  pub named : u.head.table < length abbrevs
-  pub table : IsPartAt abbrevs u.head.table u.table
-  pub section : u.forest.section ≡ info
-  pub entries : IsUnitHeld info u.head (declarations u) u.forest
-
--- the same of a unit that has the whole table
-pub record IsUnitByTable (info abbrevs : List ℕ) (u : UnitRead) : Type 0 where
   pub named : u.head.table < length abbrevs
   pub table : IsTableAt abbrevs u.head.table u.table
   pub section : u.forest.section ≡ info
   pub entries : IsUnitHeld info u.head (declarations u) u.forest
+
+-- the units are the whole section, one after the other, by the tables of another, and keep the limits
+pub record AreUnitsIn (info abbrevs : List ℕ) (units : List UnitRead) : Type 0 where
+  pub tiled : UnitsTile info (unit_heads units)
+  pub each : All (IsUnitRead info abbrevs) units
+  pub within : AreWithin units
+
+-- the units of .debug_info, by the tables of .debug_abbrev
+abbrev pub AreUnitsOf : List ℕ → List UnitRead → Type 0
+AreUnitsOf file units = AreUnitsIn (debug_info file) (debug_abbrev file) units
 
 -- the unit with a number; past the end there is none, and an empty one stands for it
 abbrev pub no_unit : UnitRead
@@ -115,44 +122,12 @@ no_unit = record {
 abbrev pub unit_among : List UnitRead → ℕ → UnitRead
 unit_among units u = slice_index_or units u no_unit
 
--- an entry of a unit that names a place has the declaration with a number
-pub record HasEntryWith (units : List UnitRead) (place number : ℕ) : Type 0 where
-  pub u : ℕ
-  pub inside : u < length units
-  pub named : (unit_among units u).head.table ≡ place
-  pub id : ℕ
-  pub there : id < length (unit_among units u).forest.entries
-  pub is : (entry_at (unit_among units u).forest.entries id).decl ≡ number
-
--- Units that name one place have the same declarations, and each of these is that of an entry. So declarations that no entry has
--- are left out: they carry no meaning.
-pub record HaveUsedTables (units : List UnitRead) : Type 0 where
-  pub alike : (u v : ℕ) → u < length units → v < length units → (unit_among units u).head.table ≡ (unit_among units v).head.table → (unit_among units u).table ≡ (unit_among units v).table
-  pub used : (u number : ℕ) → u < length units → number < length (unit_among units u).table.decls → HasEntryWith units (unit_among units u).head.table number
-
--- the units are the whole section, one after the other, by the tables of another, and keep the limits
-pub record AreUnitsIn (info abbrevs : List ℕ) (units : List UnitRead) : Type 0 where
-  pub tiled : UnitsTile info (unit_heads units)
-  pub each : All (IsUnitRead info abbrevs) units
-  pub used : HaveUsedTables units
-  pub within : AreWithin units
-
--- the units of .debug_info, by the tables of .debug_abbrev
-abbrev pub AreUnitsOf : List ℕ → List UnitRead → Type 0
-AreUnitsOf file units = AreUnitsIn (debug_info file) (debug_abbrev file) units
-
--- the unit with a number
-abbrev pub unit_at : Reading → ℕ → UnitRead
+-- the unit with a number, and the context of its lists; past the end there is none, and an empty one stands for it
+abbrev pub unit_at : Linkable → ℕ → UnitRead
 unit_at r u = unit_among r.units u
 
--- THE FILE
+abbrev pub no_context : Context
+no_context = record { base = 0; table = None }
 
--- all is read that attributes refer to
-pub record IsReadToLinks (file : List ℕ) (r : Reading) : Type 0 where
-  pub programs : AreProgramsOf file r.programs
-  pub units : AreUnitsOf file r.units
-
--- all is read: also the sets of .debug_aranges, each of which names a unit by where it begins
-pub record IsReading (file : List ℕ) (r : Reading) : Type 0 where
-  pub parts : IsReadToLinks file r
-  pub sets : SetsTile (debug_aranges file) (unit_starts r.units) r.sets
+abbrev pub context_at : Linkable → ℕ → Context
+context_at r u = slice_index_or r.contexts u no_context

@@ -4,7 +4,8 @@ use Rattle.elf_sections.specs.Names.{name_of, is_written}
 use Rattle.elf_place.specs.Same.{SameImage}
 use Rattle.companions.specs.Aranges.{IsOutside}
 use Rattle.value_links.specs.Sections.{debug_aranges}
-use Rattle.value_links.specs.Reading.{Reading, IsReading}
+use Rattle.value_links.specs.Reading.{Reading}
+use Rattle.value_links.specs.Whole.{IsReading}
 use Rattle.value_links.specs.Debug.{Debug, Means}
 
 -- both files have the same debug meaning

@@ -9,7 +9,7 @@ use Rattle.form_codec.specs.Values.{meant_in}
 use Rattle.abbrev_tables.specs.declared.decl.Spec.{Spec}
 use Rattle.abbrev_tables.specs.Tables.{Declared}
 use Rattle.entry_arena.specs.declared.entry.Entry.{Entry}
-use Rattle.entry_arena.specs.Arena.{entry_at, value_at}
+use Rattle.entry_arena.specs.Arena.{entry_at}
 use Rattle.entry_arena.specs.Forests.{Described, described_by}
 use Rattle.entry_arena.specs.Trees.{SpellsBetween, ValuesBetween, declared_at}
 use Rattle.value_links.specs.Reading.{UnitRead, declarations}
@@ -23,10 +23,6 @@ declaration_of unit id = declared_at (declarations unit) ((entry_of unit id).dec
 
 abbrev pub values_of : UnitRead → ℕ → List Value
 values_of unit id = take (entry_of unit id).count (drop (entry_of unit id).first unit.forest.values)
-
--- what the value with a number means, counted over the values of all entries
-abbrev pub meaning_at : UnitRead → ℕ → Meaning
-meaning_at unit number = meant_in unit.forest.section (value_at unit.forest.values number)
 
 -- The entry of the unit with the number `id` has an attribute of this name whose value is this. The value has a number among
 -- the values of all entries of the unit, and its first byte, or the place where it would be, is this one of .debug_info.

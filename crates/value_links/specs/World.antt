@@ -2,22 +2,24 @@
 use Rattle.std.specs.Prelude.{◌≡◌, ◌<◌, ℕ, List, [], length, map, slice_index, slice_index_or}
 use Rattle.dw_base.specs.declared.fault.Reach.{Reach}
 use Rattle.line_machine.specs.declared.head.Head.{Head}
-use Rattle.abbrev_tables.specs.Listings.{Listing}
 use Rattle.entry_read.specs.Units.{HeadAndForest}
+use Rattle.list_model.specs.declared.context.Context.{Context}
 use Rattle.companions.specs.declared.set.ArangeSet.{ArangeSet}
 use Rattle.value_links.specs.declared.units.NamedTable.{NamedTable}
-use Rattle.value_links.specs.Reading.{UnitRead, Reading, line_heads, unit_among, IsReading}
+use Rattle.value_links.specs.Reading.{UnitRead, Reading, line_heads, unit_among}
+use Rattle.value_links.specs.Whole.{IsReading}
 use Rattle.value_links.specs.Debug.{Debug, MeansDebug}
 use Rattle.value_links.specs.Faults.{IsValid}
 
--- the bytes of the file, the headers of its line number programs, its units, of the abbreviation tables that these name the
--- declarations that entries have, of each unit the number of its table, and the sets of address ranges
+-- the bytes of the file, the headers of its line number programs, its units, the abbreviation tables that these name, of each unit
+-- the number of its table and the context of its lists, and the sets of address ranges
 pub record World : Type 0 where
   pub image : List ℕ
   pub programs : List Head
   pub units : List HeadAndForest
   pub tables : List NamedTable
   pub table_of : List ℕ
+  pub contexts : List Context
   pub sets : List ArangeSet
 
 abbrev pub head_and_forest : UnitRead → HeadAndForest
@@ -27,16 +29,11 @@ head_and_forest unit = record { head = unit.head; forest = unit.forest }
 abbrev pub table_at : List NamedTable → ℕ → NamedTable
 table_at tables i = slice_index_or tables i (record { place = 0; table = record { decls = []; specs = []; end = 0 } })
 
--- the table of the unit with a number
-abbrev pub own_table : World → ℕ → Listing
-own_table world u = (table_at world.tables (slice_index world.table_of u)).table
-
--- what a unit has of the table that its header names, with the table's place
+-- the table that the header of a unit names, with its place
 abbrev pub named_by : UnitRead → NamedTable
 named_by unit = record { place = unit.head.table; table = unit.table }
 
--- What units have of the tables that they name: each table once, by rising place, and of each unit the number of the one that its
--- header names.
+-- The tables that units name: each once, by rising place, and of each unit the number of the one that its header names.
 pub record AreTablesOf (units : List UnitRead) (tables : List NamedTable) (table_of : List ℕ) : Type 0 where
   pub count : length table_of ≡ length units
   pub inside : (u : ℕ) → u < length units → slice_index table_of u < length tables
@@ -47,9 +44,10 @@ pub record AreTablesOf (units : List UnitRead) (tables : List NamedTable) (table
 -- what is held is the file, and what is read of it. The rows of programs aren't held.
 pub record Holds (file : List ℕ) (world : World) (r : Reading) : Type 0 where
   pub image : world.image ≡ file
-  pub programs : world.programs ≡ line_heads r.programs
-  pub units : world.units ≡ map head_and_forest r.units
-  pub tables : AreTablesOf r.units world.tables world.table_of
+  pub programs : world.programs ≡ line_heads r.links.programs
+  pub units : world.units ≡ map head_and_forest r.links.units
+  pub tables : AreTablesOf r.links.units world.tables world.table_of
+  pub contexts : world.contexts ≡ r.links.contexts
   pub sets : world.sets ≡ r.sets
 
 -- The world is that of a valid file: all is read, what is read means something, and the world holds it.

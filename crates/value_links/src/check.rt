@@ -2,6 +2,7 @@
 ghost use Rattle.std.specs.Prelude.{◌≡◌, ◌≤◌, ◌<◌, ◌+◌, ◌^◌, ◌↔◌, ℕ, List, OnOk, IfErr, IsTrue, true, length};
 ghost use Rattle.std.specs.List.{list_any};
 ghost use Rattle.dw_base.specs.Refusals.{IsFaultOf};
+ghost use Rattle.dw_base.specs.declared.fault.Reach.{Reach};
 ghost use Rattle.form_codec.specs.Values.{meant_in, LiesIn};
 ghost use Rattle.abbrev_tables.specs.Listings.{Listing, spec_at};
 ghost use Rattle.entry_arena.specs.Arena.{entry_at};
@@ -9,34 +10,26 @@ ghost use Rattle.entry_arena.specs.Order.{IsInOrder};
 ghost use Rattle.entry_arena.specs.Trees.{declared_at};
 ghost use Rattle.entry_read.specs.Units.{declarations_of, IsTable};
 ghost use Rattle.value_links.specs.Attributes.{is_among};
-ghost use Rattle.value_links.specs.Reading.{Reading, unit_at};
+ghost use Rattle.value_links.specs.Reading.{Linkable, unit_at};
 ghost use Rattle.value_links.specs.Faults.{unread_opcodes, IsUnread, FaultAttribute};
 ghost use Rattle.value_links.specs.Links.{held_at};
-ghost use Rattle.value_links.specs.Checks.{AreSomeUnits, table_held, IsUnitWithTable, root_attributes, IsAttributeAt, IsBaseIn, IsBaseFound, HasBase, IsBaseCause, IsCause, NamesType, IsTyped, IsChecked, AreColumnsLinked, IsUnitLinked, InEach, IsUnitFault};
-ghost use Rattle.value_links.specs.Parts.{AreUnitsHeld, AreParts, AreLinked, LinkFault};
+ghost use Rattle.value_links.specs.inside.Checks.{AreSomeUnits, table_held, IsUnitWithTable, root_attributes, IsAttributeAt, IsBaseIn, IsBaseFound, HasBase, IsBaseCause, IsCause, NamesType, IsTyped, IsChecked, AreColumnsLinked, IsUnitLinked, InEach, IsUnitFault};
+ghost use Rattle.value_links.specs.Parts.{AreUnitsHeld, HoldsParts, AreLinked, LinkFault};
 
 use crate::link::{local_target, resolve, unit_of};
+use crate::parts::Parts;
 use crate::units::Units;
 use abbrev_tables::Table;
-use dw_base::{Fault, Kind};
+use dw_base::{Fault, Kind, constants};
 use entry_arena::Target;
 use entry_read::{Unit, place_of_value};
 use form_codec::Value;
-use line_machine::Head;
-
-// The attributes that give the base of location lists and of range lists.
-const LOCLISTS_BASE: u64 = 0x8c;
-
-const RNGLISTS_BASE: u64 = 0x74;
-
-// DW_UT_type.
-const TYPE_UNIT: u8 = 2;
 
 // Where type_offset stands in a type unit (DWARF 5 section 7.5.1.3).
 const TYPE_OFFSET_AT: u64 = 20;
 
 // The table by which a unit was read.
-fn table_of<'a>(held: &'a Units<'_>, number: u32) -> &'a Table
+pub(crate) fn table_of<'a>(held: &'a Units<'_>, number: u32) -> &'a Table
     requires held { AreSomeUnits held.now }
     requires number { number < length held.now.units.items }
     ensures table { result.now ≡ table_held held.now number }
@@ -52,7 +45,7 @@ pub(crate) fn column_name(table: &Table, number: u32, column: u32) -> u64
     requires column { column < length (declared_at (declarations_of table.now) number).columns }
     ensures { result ≡ (spec_at (declared_at (declarations_of table.now) number).columns column).name }
 {
-    table.columns(number).column(column as usize).name
+    table.columns(number)[column as usize].name
 }
 
 // Whether an opcode is that of an operation that names an entry, which isn't read yet.
@@ -60,7 +53,18 @@ fn is_unread_opcode(byte: u8) -> bool
     ensures { result ≡ is_among unread_opcodes byte }
 {
     match byte {
-        0x98 | 0x99 | 0x9a | 0xa0 | 0xa4 | 0xa5 | 0xa6 | 0xa7 | 0xa8 | 0xa9 | 0xfa | 0xfd => true,
+        constants::DW_OP_CALL2
+        | constants::DW_OP_CALL4
+        | constants::DW_OP_CALL_REF
+        | constants::DW_OP_IMPLICIT_POINTER
+        | constants::DW_OP_CONST_TYPE
+        | constants::DW_OP_REGVAL_TYPE
+        | constants::DW_OP_DEREF_TYPE
+        | constants::DW_OP_XDEREF_TYPE
+        | constants::DW_OP_CONVERT
+        | constants::DW_OP_REINTERPRET
+        | constants::DW_OP_GNU_PARAMETER_REF
+        | constants::DW_OP_GNU_VARIABLE_VALUE => true,
         _ => false,
     }
 }
@@ -155,53 +159,47 @@ fn cause_of(unit: &Unit<'_>, table: &Table, value: &Value) -> Kind
 {
     match *value {
         Value::LocalRef(_) | Value::SectionRef(_) => Kind::Target,
-        Value::LocIndex(_) => base_cause(unit, table, LOCLISTS_BASE),
-        Value::RangeIndex(_) => base_cause(unit, table, RNGLISTS_BASE),
+        Value::LocIndex(_) => base_cause(unit, table, constants::DW_AT_LOCLISTS_BASE),
+        Value::RangeIndex(_) => base_cause(unit, table, constants::DW_AT_RNGLISTS_BASE),
         _ => Kind::Pointer,
     }
 }
 
 // The fault of a value of the unit with a number, as that of an attribute with a name.
-fn fault_of(
-    held: &Units<'_>,
-    programs: &Vec<Head>,
-    number: u32,
-    name: u64,
-    value: &Value,
-) -> Option<Kind>
-    requires held { AreSomeUnits held.now }
-    requires number { number < length held.now.units.items }
-    requires lies { LiesIn (length (held_at held.now.units.items number).forest.section) value.now }
-    ensures { (id : ℕ) → InEach held.now programs.now.items (λ r. IsChecked r number id name (meant_in (unit_at r number).forest.section value.now) result) }
+fn fault_of(parts: &Parts<'_>, number: u32, name: u64, value: &Value) -> Option<Kind>
+    requires held { AreSomeUnits parts.now.units }
+    requires number { number < length parts.now.units.units.items }
+    requires lies { LiesIn (length (held_at parts.now.units.units.items number).forest.section) value.now }
+    ensures { (id : ℕ) → InEach parts.now (λ r. IsChecked r number id name (meant_in (unit_at r number).forest.section value.now) result) }
 {
-    let unit = unit_of(held, number);
+    let unit = unit_of(&parts.units, number);
     if is_unread(unit, value) {
         return Some(Kind::Unbuilt);
     }
-    match resolve(held, programs, number, name, value) {
+    match resolve(parts, number, name, value) {
         Some(_) => None,
-        None => Some(cause_of(unit, table_of(held, number), value)),
+        None => Some(cause_of(unit, table_of(&parts.units, number), value)),
     }
 }
 
 // Checks the values of the entry with number `id` of a unit. The place of a fault counts from the section's first byte.
-fn check_entry(held: &Units<'_>, programs: &Vec<Head>, number: u32, id: u32) -> Result<(), Fault>
-    requires held { AreSomeUnits held.now }
-    requires number { number < length held.now.units.items }
-    requires id { id < length (held_at held.now.units.items number).forest.entries }
-    ensures linked { OnOk result (InEach held.now programs.now.items (λ r. AreColumnsLinked r number id (entry_at (held_at held.now.units.items number).forest.entries id).count)) }
-    ensures fault { IfErr result (λ fault. InEach held.now programs.now.items (λ r. FaultAttribute r number fault.kind fault.place)) }
-    ensures inside { IfErr result (λ fault. fault.place ≤ length (held_at held.now.units.items number).forest.section) }
+fn check_entry(parts: &Parts<'_>, number: u32, id: u32) -> Result<(), Fault>
+    requires held { AreSomeUnits parts.now.units }
+    requires number { number < length parts.now.units.units.items }
+    requires id { id < length (held_at parts.now.units.units.items number).forest.entries }
+    ensures linked { OnOk result (InEach parts.now (λ r. AreColumnsLinked r number id (entry_at (held_at parts.now.units.units.items number).forest.entries id).count)) }
+    ensures fault { IfErr result (λ fault. InEach parts.now (λ r. FaultAttribute r number fault.kind fault.place)) }
+    ensures inside { IfErr result (λ fault. fault.place ≤ length (held_at parts.now.units.units.items number).forest.section) }
 {
-    let unit = unit_of(held, number);
-    let table = table_of(held, number);
+    let unit = unit_of(&parts.units, number);
+    let table = table_of(&parts.units, number);
     let forest = unit.forest();
     let entry = forest.entry(id);
     let values = forest.values();
     for column in 0..entry.count {
         let name = column_name(table, entry.decl, column);
         let value = values[entry.first as usize + column as usize];
-        if let Some(kind) = fault_of(held, programs, number, name, &value) {
+        if let Some(kind) = fault_of(parts, number, name, &value) {
             let place = place_of_value(unit, table, id, column);
             return Err(Fault { kind, place });
         }
@@ -226,21 +224,21 @@ fn names_type(unit: &Unit<'_>) -> bool
 fn is_typed(unit: &Unit<'_>) -> bool
     ensures { IsInOrder unit.now.forest → IsTyped unit.now result }
 {
-    unit.head().kind != TYPE_UNIT || names_type(unit)
+    unit.head().kind != constants::DW_UT_TYPE || names_type(unit)
 }
 
 // Checks the values of a unit, and the type of a type unit. The place of a fault counts from the section's first byte.
-fn check_unit(held: &Units<'_>, programs: &Vec<Head>, number: u32) -> Result<(), Fault>
-    requires held { AreSomeUnits held.now }
-    requires number { number < length held.now.units.items }
-    requires room { length (held_at held.now.units.items number).forest.section < 2 ^ 64 }
-    ensures linked { OnOk result (InEach held.now programs.now.items (λ r. IsUnitLinked r number)) }
-    ensures fault { IfErr result (λ fault. InEach held.now programs.now.items (IsUnitFault number fault)) }
-    ensures inside { IfErr result (λ fault. fault.place ≤ length (held_at held.now.units.items number).forest.section) }
+fn check_unit(parts: &Parts<'_>, number: u32) -> Result<(), Fault>
+    requires held { AreSomeUnits parts.now.units }
+    requires number { number < length parts.now.units.units.items }
+    requires room { length (held_at parts.now.units.units.items number).forest.section < 2 ^ 64 }
+    ensures linked { OnOk result (InEach parts.now (λ r. IsUnitLinked r number)) }
+    ensures fault { IfErr result (λ fault. InEach parts.now (IsUnitFault number fault)) }
+    ensures inside { IfErr result (λ fault. fault.place ≤ length (held_at parts.now.units.units.items number).forest.section) }
 {
-    let unit = unit_of(held, number);
+    let unit = unit_of(&parts.units, number);
     for id in 0..unit.forest().len() {
-        check_entry(held, programs, number, id)?;
+        check_entry(parts, number, id)?;
     }
     if !is_typed(unit) {
         return Err(Fault {
@@ -257,20 +255,14 @@ fn check_unit(held: &Units<'_>, programs: &Vec<Head>, number: u32) -> Result<(),
 /// A fault stands at the first byte of a value: Target where a reference has no target, Pointer where a section offset names
 /// nothing that its attribute's class allows, or an index counts from such a base, NoBase where an index has no base, and
 /// Unbuilt where an expression isn't read yet. Target stands at the field type_offset that names no entry.
-pub fn check_links(
-    held: &Units<'_>,
-    programs: &Vec<Head>,
-    info: &[u8],
-    abbrevs: &[u8],
-    origin: u64,
-) -> Result<(), Fault>
-    requires held { AreUnitsHeld info.now abbrevs.now held.now }
+pub fn check_links(parts: &Parts<'_>, info: &[u8], abbrevs: &[u8], origin: u64) -> Result<(), Fault>
+    requires held { AreUnitsHeld info.now abbrevs.now parts.now.units }
     requires room { origin + length info.now < 2 ^ 64 }
-    ensures linked { OnOk result ((file : List ℕ) (r : Reading) → AreParts file r held.now programs.now.items → AreLinked r) }
-    ensures fault { IfErr result (λ fault. (file : List ℕ) (r : Reading) → AreParts file r held.now programs.now.items → IsFaultOf (LinkFault r) origin fault) }
+    ensures linked { OnOk result ((file : List ℕ) (r : Linkable) → HoldsParts file r parts.now → AreLinked r) }
+    ensures fault { IfErr result (λ fault. (file : List ℕ) (r : Linkable) (reach : Reach) → HoldsParts file r parts.now → IsFaultOf (LinkFault r reach) origin fault) }
 {
-    for number in 0..held.units.len() as u32 {
-        match check_unit(held, programs, number) {
+    for number in 0..parts.units.units.len() as u32 {
+        match check_unit(parts, number) {
             Ok(()) => {}
             Err(fault) => {
                 return Err(Fault {

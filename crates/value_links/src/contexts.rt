@@ -1,29 +1,30 @@
 // The context in which the lists of a unit are read: what its root gives (DWARF 5 sections 2.17.3, 3.1.1 and 7.27).
-ghost use Rattle.std.specs.Prelude.{◌≡◌, ◌<◌, ◌^◌, ◌∷◌, ℕ, List, [], length, IfSome, MatchOption};
+ghost use Rattle.std.specs.Prelude.{◌≡◌, ◌<◌, ◌^◌, ◌∷◌, ℕ, List, [], length, IfOk, IfSome, MatchOption};
 ghost use Rattle.form_codec.specs.Forms.{Meaning};
 ghost use Rattle.form_codec.specs.Forms.Meaning.{AddressNumber};
 ghost use Rattle.form_codec.specs.Values.{meant_in};
 ghost use Rattle.entry_read.specs.Units.{declarations_of};
-ghost use Rattle.list_model.specs.Addresses.{IsAddrTable};
-ghost use Rattle.value_links.specs.Checks.{IsUnitWithTable, root_attributes};
+ghost use Rattle.list_model.specs.Addresses.{IsAddrTable, AreAllTables};
+ghost use Rattle.value_links.specs.inside.Checks.{AreSomeUnits, IsUnitWithTable, root_attributes, AreContextsHeld};
 ghost use Rattle.value_links.specs.Contexts.{is_low_pc, low_pcs, address_by, IsTableOf, IsContext};
 
-use crate::check::{base_of, root_attribute, root_count};
-use crate::link::ADDR_BASE;
+use crate::check::{base_of, root_attribute, root_count, table_of};
+use crate::link::unit_of;
+use crate::units::Units;
 use abbrev_tables::Table;
+use dw_base::NoMemory;
+use dw_base::constants::{DW_AT_ADDR_BASE, DW_AT_LOW_PC};
 use entry_read::Unit;
 use form_codec::Value;
-use list_model::{AddrTable, Context, addr_table, address, addresses_have_one_table};
-
-// DW_AT_low_pc.
-const LOW_PC: u64 = 0x11;
+use list_model::{AddrTable, Context, addr_tables, address, table_with_base};
+use std::alloc::Global;
 
 // Whether an attribute is a DW_AT_low_pc whose value is an address, or the number of one.
 fn gives_address(named: u64, value: &Value) -> bool
     ensures { (section : List ℕ) → result ≡ is_low_pc (named, meant_in section value.now) }
 {
     match *value {
-        Value::Addr(_) | Value::AddrIndex(_) => named == LOW_PC,
+        Value::Addr(_) | Value::AddrIndex(_) => named == DW_AT_LOW_PC,
         _ => false,
     }
 }
@@ -68,28 +69,22 @@ fn address_for(addr: &[u8], addresses: &Option<AddrTable>, value: &Value) -> u64
     }
 }
 
-// The address table that the root of a unit names.
-fn addresses_of(addr: &[u8], unit: &Unit<'_>, table: &Table) -> Option<AddrTable>
-    requires unit { IsUnitWithTable unit.now table.now }
-    requires room { length addr.now < 2 ^ 64 }
-    ensures { IsTableOf addr.now (root_attributes unit.now.forest (declarations_of table.now)) result }
+// The address table that the root of a unit names. `tables` are those of .debug_addr.
+fn addresses_of(tables: &[AddrTable], unit: &Unit<'_>, table: &Table) -> Option<AddrTable>
+    requires { IsUnitWithTable unit.now table.now }
+    ensures { (addr : List ℕ) → AreAllTables addr tables.now → IsTableOf addr (root_attributes unit.now.forest (declarations_of table.now)) result }
 {
-    // A law, which costs nothing: no table up to one that has a base has a fault.
-    addresses_have_one_table();
-    let base = base_of(unit, table, ADDR_BASE)?;
-    match addr_table(addr, base, 0) {
-        Ok(found) => found,
-        Err(_) => None,
-    }
+    let base = base_of(unit, table, DW_AT_ADDR_BASE)?;
+    table_with_base(tables, base)
 }
 
-/// The context of the lists of a unit that was read by a table. `addr` is the body of .debug_addr.
-pub(crate) fn context_of(addr: &[u8], unit: &Unit<'_>, table: &Table) -> Context
+// The context of the lists of a unit that was read by a table. `tables` are those of .debug_addr.
+fn context_of(addr: &[u8], tables: &[AddrTable], unit: &Unit<'_>, table: &Table) -> Context
+    requires tables { AreAllTables addr.now tables.now }
     requires unit { IsUnitWithTable unit.now table.now }
-    requires room { length addr.now < 2 ^ 64 }
     ensures { IsContext addr.now (root_attributes unit.now.forest (declarations_of table.now)) result }
 {
-    let addresses = addresses_of(addr, unit, table);
+    let addresses = addresses_of(tables, unit, table);
     let base = match first_low_pc(unit, table) {
         Some(value) => address_for(addr, &addresses, &value),
         None => 0,
@@ -98,4 +93,24 @@ pub(crate) fn context_of(addr: &[u8], unit: &Unit<'_>, table: &Table) -> Context
         base,
         table: addresses,
     }
+}
+
+/// Of each unit the context of its lists. `addr` is the body of .debug_addr, whose tables are walked over once. The only error is
+/// want of memory.
+pub(crate) fn contexts_of(
+    alloc: Global,
+    addr: &[u8],
+    held: &Units<'_>,
+) -> Result<Vec<Context>, NoMemory>
+    requires held { AreSomeUnits held.now }
+    requires room { length addr.now < 2 ^ 64 }
+    ensures { IfOk result (λ contexts. AreContextsHeld addr.now held.now contexts.items) }
+{
+    let tables = addr_tables(alloc, addr)?;
+    let mut contexts = Vec::new(alloc);
+    for number in 0..held.units.len() as u32 {
+        let unit = unit_of(held, number);
+        contexts.push(context_of(addr, &tables, unit, table_of(held, number)))?;
+    }
+    Ok(contexts)
 }

@@ -1,29 +1,33 @@
 // Laws of the definitions.
 ghost use Rattle.value_links.specs.Sections.{FindsSections};
 ghost use Rattle.value_links.specs.Parts.{LinkedFilesMean};
-ghost use Rattle.value_links.specs.Laws.{OneReading, OneMeaning, OneResolved, OneLink, OneDebug, ResolvedHaveNoFault, ResolvedOrFaulty, FirstFaultsDecide, MeaningFilesAreValid, ValidFilesMean};
+ghost use Rattle.value_links.specs.Laws.{OneLinkable, OneReading, OneLinked, OneLinkedValue, OneLink, OneMeaning, LinkedMean, OneDebug, LinkedHaveNoFault, LinkedOrFaulty, FirstFaultsDecide, MeaningFilesAreValid, ValidFilesMean};
 
 /// A law: the section of a name is found exactly where one has it, and is the first that does.
 pub fn sections_found()
     ensures { FindsSections }
 {}
 
-/// A law: a file is read in one way: its line number programs and their rows, its units with their tables, entries and
-/// values, and its sets of address ranges.
+/// Laws: a file is read in one way: what its values refer to, which is its line number programs and their rows, its units with
+/// their tables, entries and values, and the contexts of their lists; and its sets of address ranges.
 pub fn one_reading()
-    ensures { OneReading }
+    ensures links { OneLinkable }
+    ensures reading { OneReading }
 {}
 
-/// A law: the value of an attribute means one thing. A place in .debug_info is that of one entry, or of one code 0 that ends
-/// the children of an entry, of one unit; and a place in .debug_line that of one program.
+/// Laws: the value of an attribute refers to one thing and means one thing. A place in .debug_info is that of one entry, or of one
+/// code 0 that ends the children of an entry, of one unit; and a place in .debug_line that of one program. A value
+/// that is linked means something.
 pub fn one_meaning()
-    ensures { OneMeaning }
+    ensures linked { OneLinked }
+    ensures meaning { OneMeaning }
+    ensures means { LinkedMean }
 {}
 
-/// Laws: the value with a number among those of a unit's entries means one thing, and so it has one link: its number tells the
+/// Laws: the value with a number among those of a unit's entries refers to one thing, and so it has one link: its number tells the
 /// entry that has it, and the name of the attribute.
 pub fn one_link()
-    ensures value { OneResolved }
+    ensures value { OneLinkedValue }
     ensures link { OneLink }
 {}
 
@@ -32,11 +36,11 @@ pub fn one_debug()
     ensures { OneDebug }
 {}
 
-/// Laws: the value of an attribute means something or has a fault, and never both, but that it may be an expression that
-/// isn't rewritten yet.
-pub fn resolved_whole()
-    ensures some { ResolvedOrFaulty }
-    ensures whole { ResolvedHaveNoFault }
+/// Laws: the value of an attribute is linked or has a fault, and never both, but that it may be an expression that isn't
+/// rewritten yet.
+pub fn linked_whole()
+    ensures some { LinkedOrFaulty }
+    ensures whole { LinkedHaveNoFault }
 {}
 
 /// A law: a fault of a pass is one of the file, where the passes before it find all in order.

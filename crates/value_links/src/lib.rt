@@ -6,27 +6,27 @@ mod check;
 #[cfg(test)]
 mod context_tests;
 mod contexts;
-mod kept;
 mod laws;
 mod link;
 #[cfg(test)]
 mod link_tests;
 mod owners;
+mod parts;
 mod sections;
 mod tables;
 #[cfg(test)]
 mod tests;
 mod units;
-mod used;
 mod world;
 #[cfg(test)]
 mod world_tests;
 
 pub use check::check_links;
 pub use laws::{
-    first_faults_decide, linked_files_mean, one_debug, one_link, one_meaning, one_reading,
-    resolved_whole, sections_found, valid_files,
+    first_faults_decide, linked_files_mean, linked_whole, one_debug, one_link, one_meaning,
+    one_reading, sections_found, valid_files,
 };
 pub use link::{Link, resolve};
+pub use parts::Parts;
 pub use units::{NamedTable, Units, read_units};
 pub use world::World;

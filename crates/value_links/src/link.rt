@@ -3,12 +3,14 @@ ghost use Rattle.std.specs.Prelude.{◌≡◌, ◌≢◌, ◌≤◌, ◌<◌, �
 ghost use Rattle.form_codec.specs.Values.{meant_in};
 ghost use Rattle.entry_arena.specs.Order.{IsInOrder};
 ghost use Rattle.value_links.specs.Attributes.{offset_class};
-ghost use Rattle.value_links.specs.Reading.{Reading, unit_at};
-ghost use Rattle.value_links.specs.Resolved.{Resolved, Resolves};
-ghost use Rattle.value_links.specs.Links.{resolved_by, program_among, held_at, IsLastFrom, IsTargetFound, IsSectionTargetFound, IsOffsetFound, AreProgramsApart, AreUnitsApart};
-ghost use Rattle.value_links.specs.Parts.{AreParts};
+ghost use Rattle.value_links.specs.Reading.{Linkable, unit_at};
+ghost use Rattle.value_links.specs.Links.{held_at, IsLinkFound};
+ghost use Rattle.value_links.specs.inside.Links.{program_among, IsLastFrom, IsTargetFound, IsSectionTargetFound, IsOffsetFound, AreProgramsApart, AreUnitsApart};
+ghost use Rattle.value_links.specs.Parts.{HoldsParts};
 
+use crate::parts::Parts;
 use crate::units::Units;
+use dw_base::constants::{DW_AT_ADDR_BASE, DW_AT_MACROS, DW_AT_STMT_LIST, DW_AT_STR_OFFSETS_BASE};
 use entry_arena::Target;
 use entry_read::Unit;
 use form_codec::Value;
@@ -17,7 +19,7 @@ use line_machine::Head;
 /// What the value of an attribute refers to. Units, entries and line number programs are numbered from 0 in their order.
 #[derive(Clone, Copy, Debug, PartialEq, Eq)]
 pub enum Link {
-    /// Nothing: the value is what it says.
+    /// No other thing: the value is what it says.
     Plain,
     /// An entry, or the end of the children of an entry, of the unit with a number.
     Place(u32, Target),
@@ -26,16 +28,6 @@ pub enum Link {
     /// A place of a section into which it isn't followed.
     Kept(u64),
 }
-
-// DW_AT_stmt_list, whose section offset is that of a line number program.
-const STMT_LIST: u64 = 0x10;
-
-// DW_AT_addr_base, DW_AT_str_offsets_base and DW_AT_macros, whose section offsets are kept.
-pub(crate) const ADDR_BASE: u64 = 0x73;
-
-const STR_OFFSETS_BASE: u64 = 0x72;
-
-const MACROS: u64 = 0x79;
 
 // The unit with a number.
 pub(crate) fn unit_of<'a, 'b>(held: &'a Units<'b>, number: u32) -> &'a Unit<'b>
@@ -100,31 +92,25 @@ fn section_place(programs: &[Head], name: u64, place: u64) -> Option<Link>
     ensures { AreProgramsApart programs.now → IsOffsetFound programs.now (offset_class name) place result }
 {
     match name {
-        STMT_LIST => Some(Link::Lines(program_from(programs, place)?)),
-        ADDR_BASE | STR_OFFSETS_BASE | MACROS => Some(Link::Kept(place)),
+        DW_AT_STMT_LIST => Some(Link::Lines(program_from(programs, place)?)),
+        DW_AT_ADDR_BASE | DW_AT_STR_OFFSETS_BASE | DW_AT_MACROS => Some(Link::Kept(place)),
         _ => None,
     }
 }
 
 /// What a value refers to that stands in the unit with this number, counted from 0, as the value of an attribute of this name
 /// (DWARF 5 sections 7.5.4 and 7.5.5), or None exactly where it names nothing that it may name. It takes no memory.
-pub fn resolve(
-    held: &Units<'_>,
-    programs: &Vec<Head>,
-    unit: u32,
-    name: u64,
-    value: &Value,
-) -> Option<Link>
-    requires { unit < length held.now.units.items }
-    ensures { (file : List ℕ) (r : Reading) (id : ℕ) → AreParts file r held.now programs.now.items → MatchOption result ((v : Resolved) → Resolves r unit id name (meant_in (unit_at r unit).forest.section value.now) v → ⊥) (λ link. Resolves r unit id name (meant_in (unit_at r unit).forest.section value.now) (resolved_by (meant_in (unit_at r unit).forest.section value.now) link)) }
+pub fn resolve(parts: &Parts<'_>, unit: u32, name: u64, value: &Value) -> Option<Link>
+    requires { unit < length parts.now.units.units.items }
+    ensures { (file : List ℕ) (r : Linkable) (id : ℕ) → HoldsParts file r parts.now → IsLinkFound r unit id name (meant_in (unit_at r unit).forest.section value.now) result }
 {
     match *value {
         Value::LocalRef(offset) => {
-            let target = local_target(unit_of(held, unit), offset)?;
+            let target = local_target(unit_of(&parts.units, unit), offset)?;
             Some(Link::Place(unit, target))
         }
-        Value::SectionRef(place) => section_target(&held.units, place),
-        Value::Offset(place) => section_place(programs, name, place),
+        Value::SectionRef(place) => section_target(&parts.units.units, place),
+        Value::Offset(place) => section_place(&parts.programs, name, place),
         Value::LocIndex(_) | Value::RangeIndex(_) => None,
         _ => Some(Link::Plain),
     }

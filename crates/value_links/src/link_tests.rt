@@ -1,5 +1,5 @@
 // What values refer to, by hand, and values that refer to nothing.
-use crate::{Link, Units, check_links, read_units, resolve};
+use crate::{Link, Parts, check_links, read_units, resolve};
 use dw_base::{Fault, Kind, Span};
 use entry_arena::Target;
 use form_codec::{Value, Whole};
@@ -27,13 +27,6 @@ const UNITS: [u8; 38] = [
     0, 0, 1, 3, 12, 0, 0, 0, 0,
 ];
 
-fn read<'a>(alloc: Global, info: &'a [u8]) -> Result<Units<'a>, Fail> {
-    let held = read_units(alloc, info, &TABLE, ORIGIN, 1000)
-        .ok()
-        .ok_or("refused")?;
-    Ok(held)
-}
-
 fn program(at: u64) -> Head {
     Head {
         at,
@@ -56,12 +49,23 @@ fn programs(alloc: Global) -> Result<Vec<Head>, Fail> {
     Ok(heads)
 }
 
+// The parts of a file with these bytes of .debug_info, but for contexts, which no value asks for.
+fn read<'a>(alloc: Global, info: &'a [u8]) -> Result<Parts<'a>, Fail> {
+    let units = read_units(alloc, info, &TABLE, ORIGIN, 1000)
+        .ok()
+        .ok_or("refused")?;
+    Ok(Parts {
+        programs: programs(alloc)?,
+        units,
+        contexts: Vec::new(alloc),
+    })
+}
+
 // The unit and the name of a value, the value, and what it refers to.
 #[test]
 fn links_of_values(rt: HostRuntime) -> Result<(), Fail> {
     let alloc = rt.alloc();
-    let held = read(alloc, &UNITS)?;
-    let heads = programs(alloc)?;
+    let parts = read(alloc, &UNITS)?;
     let rows = [
         (
             1,
@@ -93,8 +97,8 @@ fn links_of_values(rt: HostRuntime) -> Result<(), Fail> {
         (0, 0x0b, Value::Int(Whole::unsigned(12)), Some(Link::Plain)),
     ];
     for (unit, name, value, link) in rows.iter() {
-        if (*unit as usize) < held.units.len() {
-            assert_eq!(rt; resolve(&held, &heads, *unit, *name, value), *link);
+        if (*unit as usize) < parts.units.units.len() {
+            assert_eq!(rt; resolve(&parts, *unit, *name, value), *link);
         } else {
             Err("fewer units")?;
         }
@@ -104,11 +108,15 @@ fn links_of_values(rt: HostRuntime) -> Result<(), Fail> {
 
 // The fault of the values of units, or none.
 fn fault_of(alloc: Global, info: &[u8]) -> Result<Option<Fault>, Fail> {
-    let held = read_units(alloc, info, &TABLE, ORIGIN, 1000)
+    let units = read_units(alloc, info, &TABLE, ORIGIN, 1000)
         .ok()
         .ok_or("refused")?;
-    let heads = programs(alloc)?;
-    Ok(check_links(&held, &heads, info, &TABLE, ORIGIN).err())
+    let parts = Parts {
+        programs: programs(alloc)?,
+        units,
+        contexts: Vec::new(alloc),
+    };
+    Ok(check_links(&parts, info, &TABLE, ORIGIN).err())
 }
 
 // The bytes of .debug_info, each of whose values refers to what it may.

@@ -4,7 +4,7 @@ ghost use Rattle.abbrev_tables.specs.Tables.{Declared};
 ghost use Rattle.entry_arena.specs.Arena.{entry_at};
 ghost use Rattle.entry_read.specs.Places.{HaveOwners};
 ghost use Rattle.entry_read.specs.Units.{declarations_of, IsTable};
-ghost use Rattle.value_links.specs.Owners.{IsOwner, name_with};
+ghost use Rattle.value_links.specs.inside.Owners.{IsOwner, name_with};
 
 use crate::check::column_name;
 use abbrev_tables::Table;

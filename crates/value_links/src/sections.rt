@@ -26,7 +26,7 @@ fn bytes_in(file: &[u8], span: Span) -> &[u8]
 }
 
 /// The debug section of a file with a name, which is given without its zero byte. `image` was read of the file.
-pub(crate) fn debug_section<'a>(file: &'a [u8], image: &Image<'a>, name: &[u8]) -> DebugSection<'a>
+pub(crate) fn debug_section<'a>(file: &'a [u8], image: &Image<'_>, name: &[u8]) -> DebugSection<'a>
     requires image { image.now ≡ file.now }
     requires read { IsRead file.now Wide }
     ensures bytes { result.bytes.now ≡ body_named file.entry.now name.now }

@@ -1,22 +1,22 @@
 // The abbreviation tables that units name.
-ghost use Rattle.std.specs.Prelude.{◌≡◌, ◌≤◌, ◌<◌, ◌+◌, ◌^◌, ◌↔◌, ◌++◌, ◌∷◌, [], ℕ, length, drop, take, slice_index, IsTrue, IfOk, IfErr, OnOk, MatchOption};
+ghost use Rattle.std.specs.Prelude.{◌≡◌, ◌<◌, ◌+◌, ◌^◌, ◌⊎◌, ◌↔◌, ◌++◌, ◌∷◌, [], ℕ, length, drop, slice_index, IsTrue, IfOk, IfErr, OnOk, MatchOption};
 ghost use Rattle.std.specs.List.{All, Contains};
 ghost use Rattle.dw_base.specs.Refusals.{IsFaultOf, IsRefusedFor};
-ghost use Rattle.abbrev_tables.specs.Listings.{spec_at};
-ghost use Rattle.abbrev_tables.specs.Shared.{read_at};
-ghost use Rattle.value_links.specs.Faults.{FaultRest};
-ghost use Rattle.value_links.specs.Tabled.{AreTablePlaces, AreNumbers, IsNamed, IsShortReference, IsFreshBuilt, IsUnbuiltAt, IsUnbuiltPlace, places_of, named_places, with_places};
+ghost use Rattle.form_codec.specs.Forms.{code_of};
+ghost use Rattle.form_codec.specs.declared.form.Form.TheVariants.{Ref1, Ref2};
+ghost use Rattle.abbrev_tables.specs.declared.decl.Spec.{Spec as AnyColumn};
+ghost use Rattle.abbrev_tables.specs.Listings.{decl_at, declared_in};
+ghost use Rattle.entry_read.specs.Units.{declarations_of, IsTable};
+ghost use Rattle.value_links.specs.Faults.{HasShortReference, FaultRest};
+ghost use Rattle.value_links.specs.Laws.{IsBuilt};
+ghost use Rattle.value_links.specs.inside.Tabled.{AreTablePlaces, AreNumbers, IsNamed, places_of, named_places};
 
 use crate::units::NamedTable;
-use abbrev_tables::{Columns, TableRead, listings, read_tables};
+use abbrev_tables::{Spec, Table, listings};
+use dw_base::constants::{DW_FORM_REF1, DW_FORM_REF2};
 use dw_base::{Fault, Kind, NoMemory, Refusal};
 use entry_read::UnitHead;
 use std::alloc::Global;
-
-// The codes of DW_FORM_ref1 and DW_FORM_ref2 (DWARF 5 section 7.5.6).
-const REF1: u64 = 0x11;
-
-const REF2: u64 = 0x12;
 
 // The places of the tables that units name, in the order of the units.
 fn places_named(alloc: Global, heads: &[UnitHead]) -> Result<Vec<u64>, NoMemory>
@@ -36,75 +36,57 @@ pub(crate) fn table_places(alloc: Global, heads: &[UnitHead]) -> Result<Vec<u64>
     Ok(places)
 }
 
-// Whether one of the first `count` columns has a form that can't be written yet.
-fn has_short_reference(columns: &Columns<'_>, count: usize) -> bool
-    requires { count ≤ length columns.now }
-    ensures { IsTrue result ↔ ((k : ℕ) × (k < count) × IsShortReference (spec_at columns.now k)) }
+// Whether a column has one of the forms that can't be written yet.
+fn has_short_reference(columns: &[Spec]) -> bool
+    ensures { IsTrue result ↔ ((column : AnyColumn) × Contains columns.now column × ((column.form ≡ code_of Ref1) ⊎ (column.form ≡ code_of Ref2))) }
 {
-    for index in 0..count {
-        let form = columns.column(index).form;
-        if form == REF1 || form == REF2 {
-            return true;
-        }
-    }
-    false
+    columns.iter().any(|column| column.form == DW_FORM_REF1 || column.form == DW_FORM_REF2)
 }
 
-// How many of the `count` columns of a declaration are fresh. The first of them has the number `first` among those of the table.
-// Fresh ones come first: the others are columns of tables before, and were looked at there.
-fn fresh_count(read: &TableRead, first: u32, count: usize) -> usize
-    ensures inside { result ≤ count }
-    ensures fresh { (k : ℕ) → k < count → (k < result) ↔ (first + k < read.now.fresh_columns) }
+// The number of the first declaration of a table whose entries can't be written yet.
+fn unbuilt_among(table: &Table) -> Option<u32>
+    requires { IsTable table.now }
+    ensures { MatchOption result (All IsBuilt (declarations_of table.now)) (λ i. (i < length table.now.decls) × HasShortReference (declared_in table.now.specs (decl_at table.now.decls i))) }
 {
-    count.min(read.fresh_columns.saturating_sub(first) as usize)
-}
-
-// The number of a declaration of a table that has a column with a form that can't be written yet. Fresh columns alone are looked at.
-fn unbuilt_among(read: &TableRead) -> Option<u32>
-    ensures { MatchOption result (IsFreshBuilt read.now) (IsUnbuiltAt read.now) }
-{
-    for number in 0..read.fresh.min(read.table.len()) {
-        let columns = read.table.columns(number);
-        let count = fresh_count(read, read.table.decl(number).first, columns.len());
-        if has_short_reference(&columns, count) {
+    for number in 0..table.len() {
+        if has_short_reference(table.columns(number)) {
             return Some(number);
         }
     }
     None
 }
 
-// The place of a declaration of a table whose entries can't be written yet. What isn't fresh of a table was looked at in those
-// before it.
-fn unbuilt_in(tables: &[TableRead]) -> Option<u64>
-    ensures { MatchOption result ((i : ℕ) → i < length tables.now → IsFreshBuilt (read_at tables.now i)) (λ place. (i : ℕ) × (i < length tables.now) × IsUnbuiltPlace (read_at tables.now i) place) }
+// Reads the table at a place.
+fn read_named(alloc: Global, place: u64, abbrevs: &[u8], origin: u64) -> Result<NamedTable, Refusal>
+    requires inside { place < length abbrevs.now }
+    requires room { origin + length abbrevs.now < 2 ^ 64 }
+    ensures place { IfOk result (λ named. named.place ≡ place) }
+    ensures table { IfOk result (IsNamed abbrevs.now) }
+    ensures fault { IfErr result (IsRefusedFor (IsFaultOf (FaultRest (drop place abbrevs.now)) (origin + place))) }
 {
-    for read in tables {
-        if let Some(number) = unbuilt_among(read) {
-            return Some(read.table.decl(number).at);
-        }
+    // A law, which costs nothing: each declaration stands at its place.
+    listings();
+    let table = Table::read(alloc, abbrevs, place, origin)?;
+    match unbuilt_among(&table) {
+        Some(number) => Err(Refusal::Refused(Fault {
+            kind: Kind::Unbuilt,
+            place: origin + table.decl(number).at,
+        })),
+        None => Ok(NamedTable { place, table }),
     }
-    None
 }
 
-// The tables with their places.
-fn named(alloc: Global, places: &[u64], tables: Vec<TableRead>) -> Result<Vec<NamedTable>, NoMemory>
-    ensures { IfOk result (λ named. named.items ≡ with_places places.now tables.items) }
+// Appends a table.
+fn push_table(tables: &mut Vec<NamedTable>, table: NamedTable) -> Result<(), NoMemory>
+    ensures { OnOk result (tables.new.items ≡ tables.old.items ++ table ∷ []) }
 {
-    let named = places
-        .iter()
-        .zip(tables)
-        .map(|(place, read)| NamedTable {
-            place: *place,
-            table: read.table,
-        })
-        .collect(alloc)?;
-    Ok(named)
+    tables.push(table)?;
+    Ok(())
 }
 
-/// Reads the tables at places of `abbrevs`, the body of .debug_abbrev, whose first byte has the file offset `origin`. Where
-/// tables overlap, the declarations and the columns that they share are looked at once. A refusal names a fault of the table at one
-/// of the places.
-pub(crate) fn read_named_tables(
+/// Reads the tables at places of `abbrevs`, the body of .debug_abbrev, whose first byte has the file offset `origin`. A refusal
+/// names a fault of the table at one of the places.
+pub(crate) fn read_tables(
     alloc: Global,
     places: &[u64],
     abbrevs: &[u8],
@@ -116,16 +98,12 @@ pub(crate) fn read_named_tables(
     ensures each { IfOk result (λ tables. All (IsNamed abbrevs.now) tables.items) }
     ensures fault { IfErr result (IsRefusedFor (λ fault. (place : ℕ) × Contains places.now place × IsFaultOf (FaultRest (drop place abbrevs.now)) (origin + place) fault)) }
 {
-    // A law, which costs nothing: each declaration stands at its place.
-    listings();
-    let tables = read_tables(alloc, abbrevs, places, origin)?;
-    if let Some(place) = unbuilt_in(&tables) {
-        return Err(Refusal::Refused(Fault {
-            kind: Kind::Unbuilt,
-            place: origin + place,
-        }));
+    let mut tables: Vec<NamedTable> = Vec::new(alloc);
+    for place in places {
+        let table = read_named(alloc, *place, abbrevs, origin)?;
+        push_table(&mut tables, table)?;
     }
-    Ok(named(alloc, places, tables)?)
+    Ok(tables)
 }
 
 // The number of a place among places that rise, which is one of them.

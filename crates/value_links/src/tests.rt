@@ -70,21 +70,21 @@ fn units_with_their_tables(rt: HostRuntime) -> Result<(), Fail> {
 }
 
 #[test]
-fn parts_of_tables_that_overlap(rt: HostRuntime) -> Result<(), Fail> {
+fn tables_that_overlap(rt: HostRuntime) -> Result<(), Fail> {
     let held = read(rt.alloc(), &ROOTS, &OVERLAPPING)
         .ok()
         .ok_or("refused")?;
     assert_eq!(rt; held.table_of.as_slice(), &[0, 1, 0][..]);
-    // the place of each table, how many of its declarations entries have, and where the last of these stands
-    let tables = [(0, 2, 12), (12, 1, 12)];
+    // the place of each table, how many declarations it has, and where the last of these stands
+    let tables = [(0, 3, 12), (12, 1, 12)];
     assert_eq!(rt; held.tables.len(), tables.len());
     for (named, row) in held.tables.iter().zip(tables.iter()) {
         let count = named.table.len();
         assert!(rt; count > 0);
         assert_eq!(rt; (named.place, count, named.table.decl(count - 1).at), *row);
     }
-    // of each unit the number that the declaration of its root has among these
-    let numbers = [1, 0, 0];
+    // of each unit the number of the declaration that its root has
+    let numbers = [2, 0, 0];
     assert_eq!(rt; held.units.len(), numbers.len());
     for (unit, number) in held.units.iter().zip(numbers.iter()) {
         for entry in unit.forest().entries() {

@@ -8,16 +8,15 @@ ghost use Rattle.entry_read.specs.Heads.{head_numbered, IsHead, Tile};
 ghost use Rattle.entry_read.specs.Units.{IsTable, IsWithin};
 ghost use Rattle.value_links.specs.Faults.{FaultUnits, InfoFault};
 ghost use Rattle.value_links.specs.Parts.{AreUnitsHeld, IsUnitsFault};
-ghost use Rattle.value_links.specs.Tabled.{AreNumbers, IsNamed, HoldFront, places_of};
+ghost use Rattle.value_links.specs.inside.Tabled.{AreNumbers, IsNamed, HoldFront, places_of};
 
-use crate::kept::keep_used;
-use crate::tables::{read_named_tables, table_numbers, table_places};
+use crate::tables::{read_tables, table_numbers, table_places};
 use abbrev_tables::Table;
 use dw_base::{Fault, Kind, NoMemory, Refusal};
 use entry_read::{Counts, Unit, UnitHead, heads, read_unit};
 use std::alloc::Global;
 
-/// An abbreviation table that units name, or a part of it.
+/// An abbreviation table that units name.
 #[derive(Drop)]
 pub struct NamedTable {
     /// Its place in .debug_abbrev, which units have as debug_abbrev_offset.
@@ -25,7 +24,7 @@ pub struct NamedTable {
     pub table: Table,
 }
 
-/// The units of .debug_info in their order, and of the abbreviation tables that they name the declarations that entries have.
+/// The units of .debug_info in their order, and the abbreviation tables that they name.
 #[derive(Drop)]
 pub struct Units<'a> {
     pub units: Vec<Unit<'a>>,
@@ -69,10 +68,8 @@ fn named_heads(
     ensures fault { IfErr result (IsRefusedFor (IsFaultOf (InfoFault info.now abbrevs.now) origin)) }
 {
     let all = heads(alloc, info, origin)?;
-    match check_offsets(&all, abbrevs.len(), origin) {
-        Ok(()) => Ok(all),
-        Err(fault) => Err(Refusal::Refused(fault)),
-    }
+    check_offsets(&all, abbrevs.len(), origin)?;
+    Ok(all)
 }
 
 // How many entries and values there are with those of one more unit.
@@ -125,9 +122,8 @@ fn read_each<'a>(
 }
 
 /// Reads the units of `info`, the body of .debug_info, with the abbreviation tables that they name in `abbrevs`, the body of
-/// .debug_abbrev (DWARF 5 sections 7.5.1 to 7.5.3). Each origin is the file offset of its section's first byte. Each declaration
-/// is read once, also where tables overlap, and so are the columns with which several end. Of each table only the declarations
-/// that entries have are kept.
+/// .debug_abbrev (DWARF 5 sections 7.5.1 to 7.5.3). Each origin is the file offset of its section's first byte. Each table is
+/// read once.
 ///
 /// A refusal names a fault of a unit's header, of its debug_abbrev_offset, of a table that a unit names, or of the entries of a
 /// unit. `NoMemory` may come wherever memory is wanting, and answers 2^32 tables.
@@ -148,10 +144,9 @@ pub fn read_units<'a>(
     if places.len() > MOST_TABLES {
         return Err(Refusal::NoMemory);
     }
-    let whole = read_named_tables(alloc, &places, abbrevs, abbrev_origin)?;
+    let tables = read_tables(alloc, &places, abbrevs, abbrev_origin)?;
     let table_of = table_numbers(alloc, &all, &places)?;
-    let mut units = read_each(alloc, info, &all, &whole, &table_of, info_origin)?;
-    let tables = keep_used(alloc, &mut units, &whole, &table_of)?;
+    let units = read_each(alloc, info, &all, &tables, &table_of, info_origin)?;
     Ok(Units {
         units,
         tables,

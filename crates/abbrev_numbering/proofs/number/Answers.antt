@@ -3,7 +3,7 @@ use Rattle.std.specs.List.Sorted.{IsPermutation, IsSorted}
 use Rattle.std.proofs.lemmas.Result.{IfOk-weaker}
 use Rattle.std.specs.Result.{IfOk}
 use Rattle.leb_codec.specs.Numbering.{IsLeastNumbering, RiseByFallingUses, AreFirstNumbers, IsUsed}
-use Rattle.abbrev_numbering.specs.Order.{Used, used_among, AreNumbered, ArePlaces}
+use Rattle.abbrev_numbering.specs.inside.Order.{Used, used_among, AreNumbered, ArePlaces}
 use Rattle.abbrev_numbering.proofs.Orders.{places, few_used, cmp_used}
 use Rattle.abbrev_numbering.proofs.Numberings.{moved_by_sort, unused_alone, one_to_one, in_order, first_numbers, least_numbering}
 use Rattle.abbrev_numbering.proofs.number.Goals as goal

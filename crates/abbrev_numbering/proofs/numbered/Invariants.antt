@@ -1,5 +1,5 @@
 use Rattle.std.proofs.Common.{◌≡◌, ◌<◌, ◌+◌, ◌⊎◌, ℕ, length, slice_index}
-use Rattle.abbrev_numbering.specs.Order.{place_at}
+use Rattle.abbrev_numbering.specs.inside.Order.{place_at}
 use Rattle.abbrev_numbering.proofs.numbered.Given as goal
 
 abbrev pub invariant-loop-i : goal.invariant-loop-i

@@ -28,7 +28,7 @@ fn used_declarations_by_falling_uses(rt: HostRuntime) -> Result<(), Fail> {
             constant: 0
         },
     ]?;
-    if table.len() != 3 || table.specs(alloc)?.len() != 1 {
+    if table.len() != 3 || table.specs().len() != 1 {
         return Err("not three declarations with one column")?;
     }
     let mut bytes = vec![in alloc; 0xffu8]?;

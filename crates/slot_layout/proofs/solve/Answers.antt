@@ -3,7 +3,7 @@ use Rattle.std.proofs.lemmas.List.{take_at}
 use Rattle.leb_codec.specs.Layout.{HasFirstRanks}
 use Rattle.slot_layout.specs.declared.slots.Slot.{Slot}
 use Rattle.slot_layout.specs.Rows.{rows_of}
-use Rattle.slot_layout.specs.Rounds.{joined}
+use Rattle.slot_layout.specs.inside.Rounds.{joined}
 use Rattle.slot_layout.proofs.solve.Goals as goal
 
 -- the first ranks of equal lists

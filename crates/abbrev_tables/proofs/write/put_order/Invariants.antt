@@ -5,5 +5,5 @@ use Rattle.abbrev_tables.proofs.write.put_order.Given as goal
 
 abbrev pub invariant-loop-entry : goal.invariant-loop-entry
 invariant-loop-entry l = record {
-  put : Appends (Joined ShortestDeclared) (map (renumbered l.table.decls l.columns) (take l.entry-index l.order)) l.fn.out.items l.out.items;
+  put : Appends (Joined ShortestDeclared) (map (renumbered l.decls l.columns) (take l.entry-index l.order)) l.fn.out.items l.out.items;
 }

@@ -1,4 +1,4 @@
-use Rattle.column_forms.specs.Choices.{IsBest}
+use Rattle.column_forms.specs.inside.Choices.{IsBest}
 use Rattle.column_forms.proofs.choice.best_of.Given as goal
 
 abbrev pub invariant-loop-i : goal.invariant-loop-i

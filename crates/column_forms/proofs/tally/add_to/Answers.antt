@@ -1,6 +1,6 @@
 use Rattle.std.proofs.Common.{◌≤◌, ◌<◌, length, subst, arith}
 use Rattle.column_forms.specs.declared.tally.Candidate.{Candidate}
-use Rattle.column_forms.specs.Tallies.{IsNext}
+use Rattle.column_forms.specs.inside.Tallies.{IsNext}
 use Rattle.column_forms.proofs.TallyLaws.{added_none, added_more, added_all, added_room, added_constant, index_at}
 use Rattle.column_forms.proofs.tally.add_to.Goals as goal
 

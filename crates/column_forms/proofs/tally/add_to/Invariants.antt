@@ -1,4 +1,4 @@
-use Rattle.column_forms.specs.Tallies.{AreAdded}
+use Rattle.column_forms.specs.inside.Tallies.{AreAdded}
 use Rattle.column_forms.proofs.tally.add_to.Given as goal
 
 abbrev pub invariant-loop-i : goal.invariant-loop-i

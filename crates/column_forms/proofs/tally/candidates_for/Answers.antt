@@ -2,7 +2,7 @@ use Rattle.std.proofs.Common.{◌≡◌, subst, arith, ℕ}
 use Rattle.std.specs.Int.{w64}
 use Rattle.std.specs.Prelude.{FitsSigned}
 use Rattle.std.proofs.lemmas.Int.{to_z-of_z}
-use Rattle.column_forms.specs.Tallies.{AreFound}
+use Rattle.column_forms.specs.inside.Tallies.{AreFound}
 use Rattle.column_forms.proofs.tally.candidates_for.Goals as goal
 
 pub returns : goal.returns

@@ -1,4 +1,4 @@
-use Rattle.column_forms.specs.Tallies.{AreFound}
+use Rattle.column_forms.specs.inside.Tallies.{AreFound}
 use Rattle.column_forms.proofs.tally.candidates_for.Given as goal
 
 abbrev pub invariant-loop-code : goal.invariant-loop-code

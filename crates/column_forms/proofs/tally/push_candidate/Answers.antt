@@ -3,7 +3,7 @@ use Rattle.std.specs.Int.{w64}
 use Rattle.std.specs.Prelude.{FitsSigned}
 use Rattle.std.proofs.lemmas.Int.{to_z-of_z}
 use Rattle.column_forms.specs.declared.tally.Candidate.{Candidate}
-use Rattle.column_forms.specs.Tallies.{AreFound}
+use Rattle.column_forms.specs.inside.Tallies.{AreFound}
 use Rattle.column_forms.proofs.TallyLaws.{found_out, found_more}
 use Rattle.column_forms.proofs.tally.push_candidate.Goals as goal
 

@@ -1,5 +1,5 @@
 use Rattle.std.proofs.Common.{◌∙◌, sym, subst, Some, None, arith}
-use Rattle.elf_place.specs.Bodies.{IsFor}
+use Rattle.elf_place.specs.inside.Bodies.{IsFor}
 use Rattle.elf_place.proofs.BodyLaws.{body_after-Some, body_after-None}
 use Rattle.elf_place.proofs.bodies.body_of.Goals as goal
 

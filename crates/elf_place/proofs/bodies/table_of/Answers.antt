@@ -1,6 +1,6 @@
 use Rattle.std.proofs.Common.{◌∙◌, sym, arith, Some, subst, List}
 use Rattle.std.proofs.lemmas.List.{take_all, length-set, get_or_default}
-use Rattle.elf_place.specs.Bodies.{IsTable}
+use Rattle.elf_place.specs.inside.Bodies.{IsTable}
 use Rattle.elf_place.specs.declared.bodies.NewBody.{NewBody}
 use Rattle.elf_place.proofs.BodyLaws.{IsTable-more}
 use Rattle.elf_place.proofs.bodies.table_of.Goals as goal

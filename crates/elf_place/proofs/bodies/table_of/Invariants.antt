@@ -1,5 +1,5 @@
 use Rattle.std.proofs.Common.{◌≡◌, length, take}
-use Rattle.elf_place.specs.Bodies.{IsTable}
+use Rattle.elf_place.specs.inside.Bodies.{IsTable}
 use Rattle.elf_place.proofs.bodies.table_of.Given as goal
 
 abbrev pub invariant-loop-place : goal.invariant-loop-place

@@ -1,7 +1,7 @@
 use Rattle.std.proofs.Common.{◌≡◌, ◌+◌, ◌*◌, ℕ, length, take, slice_index}
 use Rattle.std.specs.List.{All}
 use Rattle.elf_sections.specs.Numbers.{number_at}
-use Rattle.elf_place.specs.Spots.{IsApart}
+use Rattle.elf_place.specs.inside.Spots.{IsApart}
 use Rattle.elf_place.specs.declared.spots.Spot.{Spot}
 use Rattle.elf_place.proofs.headers.put_spots.Given as goal
 

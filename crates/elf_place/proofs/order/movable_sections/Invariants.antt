@@ -1,5 +1,5 @@
 use Rattle.std.proofs.Common.{◌≡◌}
-use Rattle.elf_place.specs.Spots.{movable_among}
+use Rattle.elf_place.specs.inside.Spots.{movable_among}
 use Rattle.elf_place.proofs.order.movable_sections.Given as goal
 
 abbrev pub invariant-loop-i : goal.invariant-loop-i

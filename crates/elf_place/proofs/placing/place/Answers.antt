@@ -6,7 +6,7 @@ use Rattle.std.proofs.lemmas.List.{length-map, get_or-map}
 use Rattle.elf_sections.specs.Elf.{section_count, fixed_end_of}
 use Rattle.elf_place.specs.Bodies.{body_after}
 use Rattle.elf_place.specs.Layout.{IsMovingOrder}
-use Rattle.elf_place.specs.Spots.{IsChain, IsWritten}
+use Rattle.elf_place.specs.inside.Spots.{IsChain, IsWritten}
 use Rattle.elf_place.specs.declared.spots.Spot.{Spot}
 use Rattle.elf_place.proofs.Placed.{IsPlaced, IsPlaced-from}
 use Rattle.elf_place.proofs.ReadAgain.{IsRead-again}

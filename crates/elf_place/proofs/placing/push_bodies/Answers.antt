@@ -1,7 +1,7 @@
 use Rattle.std.proofs.Common.{◌≡◌, ◌+◌, ◌++◌, ◌∙◌, ℕ, List, ◌∷◌, length, get_or, drop, ap, subst, sym}
 use Rattle.std.proofs.lemmas.List.{drop_more}
 use Rattle.elf_place.specs.Bodies.{body_after}
-use Rattle.elf_place.specs.Spots.{IsChain, filled, laid}
+use Rattle.elf_place.specs.inside.Spots.{IsChain, filled, laid}
 use Rattle.elf_place.specs.declared.spots.Spot.{Spot}
 use Rattle.elf_place.proofs.Chains.{length-next}
 use Rattle.elf_place.proofs.placing.push_bodies.Goals as goal

@@ -1,6 +1,6 @@
 use Rattle.std.proofs.Common.{◌≡◌, ℕ, length, drop}
 use Rattle.elf_place.specs.Bodies.{body_after}
-use Rattle.elf_place.specs.Spots.{IsChain, laid}
+use Rattle.elf_place.specs.inside.Spots.{IsChain, laid}
 use Rattle.elf_place.proofs.placing.push_bodies.Given as goal
 
 abbrev pub invariant-loop-spot : goal.invariant-loop-spot

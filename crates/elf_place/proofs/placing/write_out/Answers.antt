@@ -2,7 +2,7 @@ use Rattle.std.proofs.Common.{◌≡◌, ◌+◌, ◌*◌, ◌++◌, ◌∙◌, 
 use Rattle.std.proofs.lemmas.List.{length-take-le}
 use Rattle.elf_sections.specs.Elf.{fixed_end_of, section_count}
 use Rattle.elf_place.specs.Bodies.{body_after}
-use Rattle.elf_place.specs.Spots.{IsChain, IsPatched, IsWritten, filled, laid, unpatched, headers_of}
+use Rattle.elf_place.specs.inside.Spots.{IsChain, IsPatched, IsWritten, filled, laid, unpatched, headers_of}
 use Rattle.elf_place.specs.declared.spots.Spot.{Spot}
 use Rattle.elf_place.proofs.ReadLaws.{fixed_end-within}
 use Rattle.elf_place.proofs.WriteLaws.{length-body, length-whole, fixed_end-low, chain-start}

@@ -2,7 +2,7 @@ use Rattle.std.proofs.Common.{◌≡◌, ◌+◌, ◌++◌, ◌∙◌, ℕ, List
 use Rattle.std.proofs.lemmas.List.{map_push, map_more}
 use Rattle.elf_sections.specs.Elf.{fixed_end_of}
 use Rattle.elf_place.specs.Bodies.{body_after}
-use Rattle.elf_place.specs.Spots.{IsChain, IsSpot}
+use Rattle.elf_place.specs.inside.Spots.{IsChain, IsSpot}
 use Rattle.elf_place.specs.declared.spots.Spot.{Spot}
 use Rattle.elf_place.proofs.Chains.{IsChain-push}
 use Rattle.elf_place.proofs.spots.plan_spots.Goals as goal

@@ -1,7 +1,7 @@
 use Rattle.std.proofs.Common.{◌≡◌, ◌≤◌, ◌+◌, ◌*◌, ◌^◌, ℕ, map, take}
 use Rattle.elf_sections.specs.Elf.{fixed_end_of}
 use Rattle.elf_place.specs.Bodies.{body_after}
-use Rattle.elf_place.specs.Spots.{IsChain}
+use Rattle.elf_place.specs.inside.Spots.{IsChain}
 use Rattle.elf_place.specs.declared.spots.Spot.{Spot}
 use Rattle.elf_place.proofs.spots.plan_spots.Given as goal
 

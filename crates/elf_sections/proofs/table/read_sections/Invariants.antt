@@ -1,7 +1,8 @@
 use Rattle.std.proofs.Common.{◌≡◌, ◌≤◌, ◌<◌, ℕ, length}
 use Rattle.elf_sections.specs.Elf.{section_end}
-use Rattle.elf_sections.specs.Names.{names_of, IsNamed, AreTextEnds}
-use Rattle.elf_sections.specs.Sections.{first_sections}
+use Rattle.elf_sections.specs.Names.{names_of, IsNamed}
+use Rattle.elf_sections.specs.inside.Names.{AreTextEnds}
+use Rattle.elf_sections.specs.inside.Sections.{first_sections}
 use Rattle.elf_sections.proofs.table.read_sections.Given as goal
 
 abbrev pub invariant-loop-i : goal.invariant-loop-i

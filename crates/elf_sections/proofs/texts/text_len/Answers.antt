@@ -1,6 +1,6 @@
 use Rattle.std.proofs.Common.{ℕ, ◌≤◌, length, rules, subst, sym}
 use Rattle.std.proofs.lemmas.Map.Views.{All-insert_key}
-use Rattle.elf_sections.specs.Names.{IsTextEnd, AreTextEnds}
+use Rattle.elf_sections.specs.inside.Names.{IsTextEnd, AreTextEnds}
 use Rattle.elf_sections.proofs.TextLaws.{text_until, text_runs_out}
 use Rattle.elf_sections.proofs.texts.text_len.Goals as goal
 

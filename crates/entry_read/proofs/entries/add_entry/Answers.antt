@@ -5,7 +5,7 @@ use Rattle.entry_arena.specs.Trees.{SpellsBetween, declared_at}
 use Rattle.entry_read.specs.Units.{declarations_of, end_of, entries_at, IsWithin}
 use Rattle.entry_read.specs.Faults.{FaultUnit}
 use Rattle.dw_base.specs.Refusals.{IsFaultOf, IsRefusedFor}
-use Rattle.entry_read.specs.Readings.{FaultOfColumns}
+use Rattle.entry_read.specs.inside.Readings.{FaultOfColumns}
 use Rattle.entry_read.proofs.Tiling.{unit_inside}
 use Rattle.entry_read.proofs.Declarations.{found_code, no_code, child_same}
 use Rattle.entry_read.proofs.Walking.{opens, front_entry}

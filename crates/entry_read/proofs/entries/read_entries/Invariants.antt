@@ -2,7 +2,7 @@ use Rattle.std.proofs.Common.{◌-◌, reverse}
 use Rattle.entry_arena.specs.Trees.{listed_to}
 use Rattle.entry_arena.specs.Walks.{IsGoing}
 use Rattle.entry_read.specs.Units.{declarations_of, end_of}
-use Rattle.entry_read.specs.Readings.{HasFront}
+use Rattle.entry_read.specs.inside.Readings.{HasFront}
 use Rattle.entry_read.proofs.entries.read_entries.Given as goal
 
 abbrev pub invariant-loop-chains : goal.invariant-loop-chains

@@ -2,14 +2,14 @@ use Rattle.std.proofs.Common.{◌≤◌, List, subst, arith}
 use Rattle.abbrev_tables.specs.declared.decl.Spec.{Spec}
 use Rattle.entry_arena.proofs.StepLaws.{values_rise}
 use Rattle.entry_read.specs.Units.{declarations_of}
-use Rattle.entry_read.specs.Readings.{AddsValues}
+use Rattle.entry_read.specs.inside.Readings.{AddsValues}
 use Rattle.entry_read.proofs.Walking.{pushed_entry, listed_entry}
 use Rattle.entry_read.proofs.entries.read_entry.Goals as goal
 
 pub overflow_sub-entry : goal.overflow_sub-entry
 overflow_sub-entry c =
     let a = c.in_ok-to.ensures.read in
-    let rise : c.args.start.values_at ≤ c.in_ok-to.to = values_rise c.args.info.now c.columns_of-columns.result a.values c.args.start.values_at c.in_ok-to.to a.valued in
+    let rise : c.args.start.values_at ≤ c.in_ok-to.to = values_rise c.args.info.now c.columns_of-columns.result.now a.values c.args.start.values_at c.in_ok-to.to a.valued in
     omega (arith, c.requires.some)
 
 pub push_entry-requires : goal.push_entry-requires
@@ -22,7 +22,7 @@ push_entry-requires c =
 pub returns-clause-within : goal.returns-clause-within
 returns-clause-within c =
     let a = c.in_ok-to.ensures.read in
-    let rise : c.args.start.values_at ≤ c.in_ok-to.to = values_rise c.args.info.now c.columns_of-columns.result a.values c.args.start.values_at c.in_ok-to.to a.valued in
+    let rise : c.args.start.values_at ≤ c.in_ok-to.to = values_rise c.args.info.now c.columns_of-columns.result.now a.values c.args.start.values_at c.in_ok-to.to a.valued in
     (omega (arith, c.requires.some), c.in_ok-to.ensures.within)
 
 pub returns-clause-section : goal.returns-clause-section

@@ -17,23 +17,23 @@ code_end-values_at-requires c =
     let info = c.section-info.ensures ∙ ap (λ f. f.section) c.forest-forest.ensures in
     code_there u.head (declarations_of c.args.table.now) u.forest c.requires.unit c.args.id c.requires.id c.entry-entry.result entry c.section-info.result.now info
 
-pub values_end-requires-clause-count : goal.values_end-requires-clause-count
-values_end-requires-clause-count c =
+pub slice_bounds-values_end-end : goal.slice_bounds-values_end-end
+slice_bounds-values_end-end c =
     let u = c.args.unit.now in
     let entry = c.entry-entry.ensures ∙ ap (λ f. entry_at f.entries c.args.id) c.forest-forest.ensures in
     let info = c.section-info.ensures ∙ ap (λ f. f.section) c.forest-forest.ensures in
-    columns_there u.head (declarations_of c.args.table.now) u.forest c.requires.unit c.args.id c.requires.id c.entry-entry.result entry c.section-info.result.now info c.columns_of-columns.result c.columns_of-columns.ensures.columns c.args.column c.requires.column
+    columns_there u.head (declarations_of c.args.table.now) u.forest c.requires.unit c.args.id c.requires.id c.entry-entry.result entry c.section-info.result.now info c.columns_of-columns.result.now c.columns_of-columns.ensures.columns c.args.column c.requires.column
 
-pub values_end-requires-clause-there : goal.values_end-requires-clause-there
-values_end-requires-clause-there c =
+pub values_end-requires : goal.values_end-requires
+values_end-requires c =
     let u = c.args.unit.now in
     let entry = c.entry-entry.ensures ∙ ap (λ f. entry_at f.entries c.args.id) c.forest-forest.ensures in
     let info = c.section-info.ensures ∙ ap (λ f. f.section) c.forest-forest.ensures in
-    values_there u.head (declarations_of c.args.table.now) u.forest c.requires.unit c.args.id c.requires.id c.entry-entry.result entry c.section-info.result.now info c.columns_of-columns.result c.columns_of-columns.ensures.columns c.args.column c.requires.column c.code_end-values_at.result c.code_end-values_at.ensures
+    values_there u.head (declarations_of c.args.table.now) u.forest c.requires.unit c.args.id c.requires.id c.entry-entry.result entry c.section-info.result.now info c.columns_of-columns.result.now c.columns_of-columns.ensures.columns c.args.column c.requires.column c.code_end-values_at.result c.code_end-values_at.ensures
 
 pub returns : goal.returns
 returns c =
     let u = c.args.unit.now in
     let entry = c.entry-entry.ensures ∙ ap (λ f. entry_at f.entries c.args.id) c.forest-forest.ensures in
     let info = c.section-info.ensures ∙ ap (λ f. f.section) c.forest-forest.ensures in
-    column_there u.head (declarations_of c.args.table.now) u.forest c.requires.unit c.args.id c.requires.id c.entry-entry.result entry c.section-info.result.now info c.columns_of-columns.result c.columns_of-columns.ensures.columns c.args.column c.requires.column c.code_end-values_at.result c.code_end-values_at.ensures c.values_end.result c.values_end.ensures
+    column_there u.head (declarations_of c.args.table.now) u.forest c.requires.unit c.args.id c.requires.id c.entry-entry.result entry c.section-info.result.now info c.columns_of-columns.result.now c.columns_of-columns.ensures.columns c.args.column c.requires.column c.code_end-values_at.result c.code_end-values_at.ensures c.values_end.result c.values_end.ensures

@@ -2,7 +2,8 @@ use Rattle.std.proofs.Common.{arith, subst, sym}
 use Rattle.form_codec.specs.declared.form.Shape.TheVariants as shape
 use Rattle.form_codec.specs.declared.value.Value.{Value}
 use Rattle.form_codec.specs.declared.encoding.Encoding.TheVariants as encoding
-use Rattle.form_codec.specs.Written.{HasNoEncoding, IsEncoding}
+use Rattle.form_codec.specs.Written.{HasNoEncoding}
+use Rattle.form_codec.specs.inside.Written.{IsEncoding}
 use Rattle.form_codec.proofs.WriteLaws.{counted_fits, counted_too_long}
 use Rattle.form_codec.proofs.encoding.counted_encoding.Goals as goal
 

@@ -3,7 +3,8 @@ use Rattle.std.proofs.lemmas.Int.{to_z-of_z}
 use Rattle.std.specs.Prelude.{FitsSigned}
 use Rattle.std.specs.Int.{w64}
 use Rattle.form_codec.specs.declared.form.Shape.{Shape}
-use Rattle.form_codec.specs.Written.{HasConstant, IsEncoding, HasNoEncoding}
+use Rattle.form_codec.specs.Written.{HasConstant, HasNoEncoding}
+use Rattle.form_codec.specs.inside.Written.{IsEncoding}
 use Rattle.form_codec.proofs.FormLaws.{match_map, form_encoding, form_none, constant_held}
 use Rattle.form_codec.proofs.write.encoding_in.Goals as goal
 

@@ -1,6 +1,6 @@
 use Rattle.std.proofs.Common.{◌≤◌, ◌<◌, ℕ, take, get_or}
 use Rattle.leb_codec.specs.Leb.{weighed}
-use Rattle.leb_codec.specs.Digits.{IsSum}
+use Rattle.leb_codec.specs.inside.Digits.{IsSum}
 use Rattle.leb_codec.proofs.read.read_front.Given as goal
 
 abbrev pub invariant-loop-place : goal.invariant-loop-place

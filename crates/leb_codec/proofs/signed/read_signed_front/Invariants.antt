@@ -1,6 +1,6 @@
 use Rattle.std.proofs.Common.{◌≤◌, ◌<◌, ℕ, take, get_or}
 use Rattle.leb_codec.specs.Leb.{weighed}
-use Rattle.leb_codec.specs.Digits.{IsSum}
+use Rattle.leb_codec.specs.inside.Digits.{IsSum}
 use Rattle.leb_codec.proofs.Signs.{complement}
 use Rattle.leb_codec.proofs.signed.read_signed_front.Given as goal
 

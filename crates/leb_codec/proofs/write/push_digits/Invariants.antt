@@ -1,5 +1,6 @@
 use Rattle.std.proofs.Common.{◌≡◌, ◌-◌, ◌++◌}
-use Rattle.leb_codec.specs.Digits.{digits_of, Extends}
+use Rattle.leb_codec.specs.Digits.{Extends}
+use Rattle.leb_codec.specs.inside.Digits.{digits_of}
 use Rattle.leb_codec.proofs.write.push_digits.Given as goal
 
 abbrev pub invariant-loop : goal.invariant-loop

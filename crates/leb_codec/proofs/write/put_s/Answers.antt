@@ -4,7 +4,7 @@ use Rattle.std.proofs.lemmas.Result.{on_ok_weaker}
 use Rattle.std.specs.Prelude.{FitsSigned, int_lt, pos}
 use Rattle.std.specs.Int.{w64}
 use Rattle.leb_codec.specs.Leb.{magnitude}
-use Rattle.leb_codec.specs.Digits.{digits_of}
+use Rattle.leb_codec.specs.inside.Digits.{digits_of}
 use Rattle.leb_codec.proofs.Lens.{fits_signed}
 use Rattle.leb_codec.proofs.SpellingLaws.{signed_digits_spell, len_digits}
 use Rattle.leb_codec.proofs.write.put_s.Goals as goal

@@ -1,6 +1,6 @@
 use Rattle.std.proofs.Common.{◌-◌, ◌∙◌, false, arith}
 use Rattle.std.proofs.lemmas.Result.{on_ok_weaker}
-use Rattle.leb_codec.specs.Digits.{digits_of}
+use Rattle.leb_codec.specs.inside.Digits.{digits_of}
 use Rattle.leb_codec.proofs.Lens.{fits_unsigned}
 use Rattle.leb_codec.proofs.SpellingLaws.{digits_spell, len_digits}
 use Rattle.leb_codec.proofs.write.put_u.Goals as goal

@@ -7,23 +7,23 @@ use Rattle.line_params.proofs.count.count_step.Goals as goal
 pub overflow_add-index_mut : goal.overflow_add-index_mut
 overflow_add-index_mut c =
     let at = c.index_mut.ensures.value in
-    let same = kept_keys c.args.seen.now.keys _ c.insert_full.new.self.keys _ c.in-Ok.place.1 c.in-Ok.ensures.keys c.in-Ok.ensures.added c.if-is_new.false in
-    let within = place_within c.args.counted.now.items c.insert_full.new.self.keys c.in-Ok.place.0 c.in-Ok.ensures.within (same ∙ c.requires.seen) in
-    let few = count_more c.args.counted.now.items c.in-Ok.place.0 c.index_mut.result.now within in
+    let same = kept_keys c.args.seen.now.keys _ c.insert_full.new.self.keys _ c.in_ok-index.is_new c.in_ok-index.ensures.keys c.in_ok-index.ensures.added c.if-not-is_new.true in
+    let within = place_within c.args.counted.now.items c.insert_full.new.self.keys c.in_ok-index.index c.in_ok-index.ensures.within (same ∙ c.requires.seen) in
+    let few = count_more c.args.counted.now.items c.in_ok-index.index c.index_mut.result.now within in
     record { fits = omega (arith, few, c.requires.room, ap (λ x. x.count) at) }
 
-pub returns-in-Ok-push-clause-prices : goal.returns-in-Ok-push-clause-prices
-returns-in-Ok-push-clause-prices c = λ price. rw c.in-Ok-push.ensures.items (omega (arith, counted_push price c.args.counted.now.items (record { step = c.args.step; count = 1 })))
+pub returns-clause-prices : goal.returns-clause-prices
+returns-clause-prices c = λ price. rw c.in_ok-push.ensures.items (omega (arith, counted_push price c.args.counted.now.items (record { step = c.args.step; count = 1 })))
 
-pub returns-else-is_new-clause-seen : goal.returns-else-is_new-clause-seen
-returns-else-is_new-clause-seen c =
-    let same = kept_keys c.args.seen.now.keys _ c.insert_full.new.self.keys _ c.in-Ok.place.1 c.in-Ok.ensures.keys c.in-Ok.ensures.added c.if-is_new.false in
-    same ∙ c.requires.seen ∙ sym (steps_set c.args.counted.now.items c.in-Ok.place.0 c.index_mut.result.now (c.index_mut.result.now.count + 1) c.index_mut.ensures.value)
+pub returns-then-not-is_new-clause-seen : goal.returns-then-not-is_new-clause-seen
+returns-then-not-is_new-clause-seen c =
+    let same = kept_keys c.args.seen.now.keys _ c.insert_full.new.self.keys _ c.in_ok-index.is_new c.in_ok-index.ensures.keys c.in_ok-index.ensures.added c.if-not-is_new.true in
+    same ∙ c.requires.seen ∙ sym (steps_set c.args.counted.now.items c.in_ok-index.index c.index_mut.result.now (c.index_mut.result.now.count + 1) c.index_mut.ensures.value)
 
-pub returns-else-is_new-clause-prices : goal.returns-else-is_new-clause-prices
-returns-else-is_new-clause-prices c = λ price.
-    let same = kept_keys c.args.seen.now.keys _ c.insert_full.new.self.keys _ c.in-Ok.place.1 c.in-Ok.ensures.keys c.in-Ok.ensures.added c.if-is_new.false in
-    let within = place_within c.args.counted.now.items c.insert_full.new.self.keys c.in-Ok.place.0 c.in-Ok.ensures.within (same ∙ c.requires.seen) in
-    let stored = c.in-Ok.ensures.stored in
-    let held = step_at c.args.counted.now.items c.in-Ok.place.0 c.index_mut.result.now stored.0 (ap (λ (ks : List Step). slice_get ks c.in-Ok.place.0) (sym (same ∙ c.requires.seen)) ∙ stored.1) in
-    counted_again price c.args.counted.now.items c.in-Ok.place.0 c.index_mut.result.now c.args.step within c.index_mut.ensures.value (ap (λ x. x.step) c.index_mut.ensures.value ∙ held ∙ sym (same_true c.args.step stored.0 stored.2))
+pub returns-then-not-is_new-clause-prices : goal.returns-then-not-is_new-clause-prices
+returns-then-not-is_new-clause-prices c = λ price.
+    let same = kept_keys c.args.seen.now.keys _ c.insert_full.new.self.keys _ c.in_ok-index.is_new c.in_ok-index.ensures.keys c.in_ok-index.ensures.added c.if-not-is_new.true in
+    let within = place_within c.args.counted.now.items c.insert_full.new.self.keys c.in_ok-index.index c.in_ok-index.ensures.within (same ∙ c.requires.seen) in
+    let stored = c.in_ok-index.ensures.stored in
+    let held = step_at c.args.counted.now.items c.in_ok-index.index c.index_mut.result.now stored.0 (ap (λ (ks : List Step). slice_get ks c.in_ok-index.index) (sym (same ∙ c.requires.seen)) ∙ stored.1) in
+    counted_again price c.args.counted.now.items c.in_ok-index.index c.index_mut.result.now c.args.step within c.index_mut.ensures.value (ap (λ x. x.step) c.index_mut.ensures.value ∙ held ∙ sym (same_true c.args.step stored.0 stored.2))

@@ -10,10 +10,10 @@ count_step-requires-clause-room c =
 
 pub loop-row-preserved : goal.loop-row-preserved
 loop-row-preserved c = record {
-  seen = c.in-Ok.ensures.seen;
-  lines = c.in-Ok.ensures.lines c.loop-row.invariant.lines c.step_to_row.ensures.lines;
+  seen = c.in_ok-count_step.ensures.seen;
+  lines = c.in_ok-count_step.ensures.lines c.loop-row.invariant.lines c.step_to_row.ensures.lines;
   line = c.place_after-place.ensures.below;
-  prices = λ price. row_more price (pos c.loop-row.place.line) _ c.loop-row.place.address _ c.args.rows.now c.loop-row.row-index _ _ _ _ c.step_to_row.result c.loop-row-test.true (c.loop-row.invariant.prices price) c.step_to_row.ensures.step (c.in-Ok.ensures.prices price) c.place_after-place.ensures.line c.place_after-place.ensures.address;
+  prices = λ price. row_more price (pos c.loop-row.place.line) _ c.loop-row.place.address _ c.args.rows.now c.loop-row.row-index _ _ _ _ c.step_to_row.result c.loop-row-test.true (c.loop-row.invariant.prices price) c.step_to_row.ensures.step (c.in_ok-count_step.ensures.prices price) c.place_after-place.ensures.line c.place_after-place.ensures.address;
 }
 
 pub returns-clause-counted : goal.returns-clause-counted

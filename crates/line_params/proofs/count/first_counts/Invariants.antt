@@ -2,7 +2,7 @@ use Rattle.std.proofs.Common.{◌≡◌, ◌<◌, ◌+◌, ◌^◌, ℕ, drop, m
 use Rattle.std.specs.Prelude.{pos, All}
 use Rattle.line_params.specs.declared.step.Step.{Step}
 use Rattle.line_params.specs.Steps.{steps_from, steps_of}
-use Rattle.line_params.specs.Counting.{counted_price, price_of, step_in, HasCountedLine}
+use Rattle.line_params.specs.inside.Counting.{counted_price, price_of, step_in, HasCountedLine}
 use Rattle.line_params.proofs.count.first_counts.Given as goal
 
 abbrev pub invariant-loop-row : goal.invariant-loop-row

@@ -1,5 +1,5 @@
 use Rattle.std.proofs.Common.{replicate}
-use Rattle.line_params.specs.Appended.{AppendsOpcodes}
+use Rattle.line_params.specs.inside.Appended.{AppendsOpcodes}
 use Rattle.line_params.proofs.opcodes.put_times.Given as goal
 
 abbrev pub invariant-loop-done : goal.invariant-loop-done

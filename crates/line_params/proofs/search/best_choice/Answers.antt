@@ -2,7 +2,7 @@ use Rattle.std.proofs.Common.{◌≡◌, ◌+◌, ℕ, refl, subst, rules, arith
 use Rattle.std.specs.Prelude.{FitsSigned}
 use Rattle.std.specs.Int.{w8}
 use Rattle.std.proofs.lemmas.Int.{ints, to_z-of_z}
-use Rattle.line_params.specs.PairSearch.{IsBestTried}
+use Rattle.line_params.specs.inside.PairSearch.{IsBestTried}
 use Rattle.line_params.proofs.PairLaws.{own_best}
 use Rattle.line_params.proofs.search.best_choice.Goals as goal
 

@@ -1,5 +1,5 @@
 use Rattle.std.proofs.Common.{◌+◌}
-use Rattle.line_params.specs.PairSearch.{IsBestTried}
+use Rattle.line_params.specs.inside.PairSearch.{IsBestTried}
 use Rattle.line_params.proofs.search.best_choice.Given as goal
 
 abbrev pub invariant-loop-below : goal.invariant-loop-below

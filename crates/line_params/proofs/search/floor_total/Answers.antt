@@ -1,5 +1,5 @@
 use Rattle.std.proofs.Common.{arith}
-use Rattle.line_params.specs.Counting.{floor_of}
+use Rattle.line_params.specs.inside.Counting.{floor_of}
 use Rattle.line_params.proofs.Prices.{counted_more, count_more, floor_part}
 use Rattle.std.specs.Prelude.{pos}
 use Rattle.line_params.specs.declared.step.Step.TheVariants.{Row as RowStep}

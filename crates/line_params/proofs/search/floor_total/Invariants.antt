@@ -1,5 +1,5 @@
 use Rattle.std.proofs.Common.{◌≡◌, take}
-use Rattle.line_params.specs.Counting.{counted_price, floor_of}
+use Rattle.line_params.specs.inside.Counting.{counted_price, floor_of}
 use Rattle.line_params.proofs.search.floor_total.Given as goal
 
 abbrev pub invariant-loop-counted_step : goal.invariant-loop-counted_step

@@ -5,7 +5,7 @@ use Rattle.std.proofs.lemmas.Int.{ints, to_z-of_z}
 use Rattle.leb_codec.specs.LineCosts.{IsLeastCost}
 use Rattle.line_params.specs.declared.step.Step.{Step}
 use Rattle.line_params.specs.Steps.{StepCosts}
-use Rattle.line_params.specs.Counting.{HasLine}
+use Rattle.line_params.specs.inside.Counting.{HasLine}
 use Rattle.line_params.proofs.Prices.{end_least}
 use Rattle.line_params.proofs.search.step_bytes.Goals as goal
 

@@ -1,6 +1,6 @@
 use Rattle.std.proofs.Common.{◌≡◌, ◌≤◌, ◌<◌, ◌-◌, ℕ, get_or}
 use Rattle.line_params.specs.declared.step.Step.TheVariants.{Row as RowStep}
-use Rattle.line_params.specs.PairSearch.{AddsCost, base_at}
+use Rattle.line_params.specs.inside.PairSearch.{AddsCost, base_at}
 use Rattle.line_params.proofs.sums.add_row.Given as goal
 
 abbrev pub invariant-loop-from : goal.invariant-loop-from

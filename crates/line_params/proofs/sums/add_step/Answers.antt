@@ -2,8 +2,8 @@ use Rattle.std.proofs.Common.{◌*◌, subst, get_or, arith}
 use Rattle.std.specs.Prelude.{FitsSigned}
 use Rattle.std.specs.Int.{w64}
 use Rattle.std.proofs.lemmas.Int.{ints, to_z-of_z}
-use Rattle.line_params.specs.Counting.{HasLine}
-use Rattle.line_params.specs.PairSearch.{base_at}
+use Rattle.line_params.specs.inside.Counting.{HasLine}
+use Rattle.line_params.specs.inside.PairSearch.{base_at}
 use Rattle.line_params.specs.declared.step.Step.TheVariants.{Row as RowStep, End as EndStep}
 use Rattle.line_params.proofs.RowSums.{end_adds, adds_as}
 use Rattle.line_params.proofs.sums.add_step.Goals as goal

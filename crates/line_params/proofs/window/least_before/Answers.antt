@@ -1,6 +1,6 @@
 use Rattle.std.proofs.Common.{◌≡◌, ◌+◌, ℕ, subst, sym, arith}
 use Rattle.leb_codec.specs.LineCosts.{IsLeastCost}
-use Rattle.line_params.specs.PairSearch.{PartWithin}
+use Rattle.line_params.specs.inside.PairSearch.{PartWithin}
 use Rattle.line_params.proofs.SpecialParts.{part_one, part_more, part_free, part_whole}
 use Rattle.line_params.proofs.window.least_before.Goals as goal
 

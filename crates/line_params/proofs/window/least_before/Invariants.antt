@@ -1,6 +1,6 @@
 use Rattle.std.proofs.Common.{◌≤◌}
 use Rattle.leb_codec.specs.LineCosts.{IsLeastCost}
-use Rattle.line_params.specs.PairSearch.{PartWithin}
+use Rattle.line_params.specs.inside.PairSearch.{PartWithin}
 use Rattle.line_params.proofs.window.least_before.Given as goal
 
 abbrev pub invariant-loop-part : goal.invariant-loop-part

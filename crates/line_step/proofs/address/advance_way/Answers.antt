@@ -1,5 +1,5 @@
 use Rattle.std.proofs.Common.{◌≡◌, ℕ, subst, arith}
-use Rattle.line_step.specs.Search.{IsBestBefore}
+use Rattle.line_step.specs.inside.Search.{IsBestBefore}
 use Rattle.line_step.proofs.AddressWays.{start_best, best_done}
 use Rattle.line_step.proofs.address.advance_way.Goals as goal
 

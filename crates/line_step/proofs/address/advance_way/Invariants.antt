@@ -1,4 +1,4 @@
-use Rattle.line_step.specs.Search.{IsBestBefore}
+use Rattle.line_step.specs.inside.Search.{IsBestBefore}
 use Rattle.line_step.proofs.address.advance_way.Given as goal
 
 abbrev pub invariant-loop-fixed_adds : goal.invariant-loop-fixed_adds

@@ -1,5 +1,5 @@
 use Rattle.std.proofs.Common.{◌≡◌, ℕ, subst, arith}
-use Rattle.line_step.specs.Search.{IsBestBefore}
+use Rattle.line_step.specs.inside.Search.{IsBestBefore}
 use Rattle.line_step.proofs.AddressWays.{next_fixed}
 use Rattle.line_step.proofs.address.better_fixed.Goals as goal
 

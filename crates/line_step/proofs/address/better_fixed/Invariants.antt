@@ -1,4 +1,4 @@
-use Rattle.line_step.specs.Search.{IsBestBefore}
+use Rattle.line_step.specs.inside.Search.{IsBestBefore}
 use Rattle.line_step.proofs.address.better_fixed.Given as goal
 
 abbrev pub invariant-loop-const_adds : goal.invariant-loop-const_adds

@@ -2,7 +2,7 @@ use Rattle.std.proofs.Common.{◌≡◌, ◌∙◌, subst, rules, arith}
 use Rattle.std.specs.Prelude.{ℤ, ◌-ℤ◌, FitsSigned}
 use Rattle.std.specs.Int.{w8, w64}
 use Rattle.std.proofs.lemmas.Int.{ints, to_z-of_z}
-use Rattle.line_step.specs.Search.{IsLinePart}
+use Rattle.line_step.specs.inside.Search.{IsLinePart}
 use Rattle.line_step.proofs.RowWays.{line_long, both_long, part_best, far_is}
 use Rattle.line_step.proofs.row.special_way.Goals as goal
 

@@ -1,4 +1,4 @@
-use Rattle.line_step.specs.Search.{IsBestOfParts}
+use Rattle.line_step.specs.inside.Search.{IsBestOfParts}
 use Rattle.line_step.proofs.row.step_way.Given as goal
 
 abbrev pub invariant-loop-part : goal.invariant-loop-part

@@ -7,10 +7,10 @@ use Rattle.list_model.proofs.contribution.contributions.Goals as goal
 pub loop-at-preserved : goal.loop-at-preserved
 loop-at-preserved c =
     let section = c.args.section.now in
-    let part = c.in-Ok.part in
+    let part = c.in_ok-part.part in
     let at = c.loop-at.at in
-    let place : part.at ≡ at = c.in-Ok.ensures.part.0 in
-    let stands = c.in-Ok.ensures.part.1 in
+    let place : part.at ≡ at = c.in_ok-part.ensures.part.0 in
+    let stands = c.in_ok-part.ensures.part.1 in
     let inside : part.at + part.len ≤ length section = (part_inside section part stands).1 in
     let more = follow_push section c.loop-at.parts.items part 0 at c.loop-at.invariant.front place stands in
     record { inside = omega arith; front = subst (λ (z : List Contribution). ContributionsFollow section z 0 (at + part.len)) (sym c.in_ok-push.ensures) more }

@@ -1,5 +1,5 @@
 use Rattle.std.proofs.Common.{◌≡◌, ◌≤◌, ℕ, ◌∙◌, length, sym, ap, subst, inl, inr, arith}
-use Rattle.list_model.specs.Headers.{unit_end}
+use Rattle.fixed_width.specs.InitialLengths.{unit_end}
 use Rattle.list_model.specs.Addresses.{IsReached}
 use Rattle.list_model.proofs.Walking.{reached_next, base_beyond, walked_whole}
 use Rattle.list_model.proofs.tables.addr_table.Goals as goal

@@ -1,4 +1,5 @@
-use Rattle.std.proofs.Common.{◌≡◌, ◌<◌, ◌+◌, ℕ, List, length, get_or, suc, sym, subst, arith}
+use Rattle.std.proofs.Common.{◌≡◌, ◌<◌, ◌+◌, ℕ, List, length, get_or, suc, sym, subst, arith, rules}
+use Rattle.std.proofs.lemmas.Result.{err_from_is_err_and}
 use Rattle.list_model.specs.declared.entry.RawEntry.{RawEntry}
 use Rattle.list_model.specs.declared.item.Item.{Item}
 use Rattle.list_model.specs.declared.item.Meaning.TheVariants.{Live, Dead}
@@ -20,6 +21,11 @@ entry_step-requires-clause-entry c =
     subst (λ (z : List RawEntry). (entry : Entry) × Says Ranges (get_or z i no_raw) entry) (sym same)
     (next_said c.args.addr.now c.args.context.now raws i c.loop-entry.walk.base c.loop-entry.walk.items.items c.loop-entry.walk.dead no_raw c.loop-entry.invariant inside)
 
+pub returns-in_err-step-clause-fault : goal.returns-in_err-step-clause-fault
+returns-in_err-step-clause-fault c =
+    let p = err_from_is_err_and c.from_residual.result c.from_residual.ensures.1 in
+    rw (p.1, p.2) (search rules)
+
 pub loop-entry-preserved : goal.loop-entry-preserved
 loop-entry-preserved c =
     let addr = c.args.addr.now in
@@ -28,11 +34,11 @@ loop-entry-preserved c =
     let i = c.loop-entry.entry-index in
     let same = c.deref-entry-items.ensures.value in
     let inside : i < length raws = subst (λ (z : List RawEntry). i < length z) same c.loop-entry-test.true in
-    let next = subst (λ (z : List RawEntry). IsNext addr context c.loop-entry.walk.base (get_or z i no_raw) c.in-Ok.step) same c.in-Ok.ensures.step in
+    let next = subst (λ (z : List RawEntry). IsNext addr context c.loop-entry.walk.base (get_or z i no_raw) c.in_ok-step.step) same c.in_ok-step.ensures.step in
     let new = c.go_on.new.self in
     let count : suc i ≡ i + 1 = omega arith in
     subst (λ (z : ℕ). IsWalked addr context raws z new.base new.items.items new.dead) count
-    (walked_on addr context raws i c.loop-entry.walk new no_raw c.in-Ok.step c.loop-entry.invariant inside next c.in_ok-go_on-in-Ok.ensures)
+    (walked_on addr context raws i c.loop-entry.walk new no_raw c.in_ok-step.step c.loop-entry.invariant inside next c.in_ok-go_on.ensures)
 
 pub returns-then-walk-clause-meaning : goal.returns-then-walk-clause-meaning
 returns-then-walk-clause-meaning c =

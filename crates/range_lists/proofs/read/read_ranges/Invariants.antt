@@ -4,13 +4,13 @@ use Rattle.list_model.specs.Reading.{list_entry_limit}
 use Rattle.range_lists.proofs.RangeReads.{IsFront}
 use Rattle.range_lists.proofs.read.read_ranges.Given as goal
 
-abbrev pub invariant-loop-read : goal.invariant-loop-read
-invariant-loop-read l = record {
+abbrev pub invariant-loop-raws : goal.invariant-loop-raws
+invariant-loop-raws l = record {
   inside : l.place ≤ length l.bytes;
   front : IsFront l.bytes l.at l.raws.items l.place;
   few : length l.raws.items ≤ list_entry_limit l.reach;
   places : All (λ raw. raw.at < length l.section) l.raws.items;
 }
 
-abbrev pub decreases-loop-read : goal.decreases-loop-read
-decreases-loop-read l = length l.bytes - l.place
+abbrev pub decreases-loop-raws : goal.decreases-loop-raws
+decreases-loop-raws l = length l.bytes - l.place

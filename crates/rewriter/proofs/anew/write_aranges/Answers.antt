@@ -12,8 +12,8 @@ use Rattle.rewriter.proofs.anew.write_aranges.Goals as goal
 
 pub patched-requires-clause-sets : goal.patched-requires-clause-sets
 patched-requires-clause-sets c =
-    let section = c.section_body-section.ensures ∙ ap (λ (z : List ℕ). body_named z aranges_name) c.image.ensures in
-    old_sets c.args.world.now c.requires.world c.section_body-section.result.now c.aranges.result.now.items section c.aranges.ensures
+    let section = c.section-section.ensures in
+    old_sets c.args.world.now c.requires.world c.section-section.result.now c.aranges.result.now.items section c.aranges.ensures
 
 pub patched-requires-clause-units : goal.patched-requires-clause-units
 patched-requires-clause-units c =
@@ -28,11 +28,11 @@ patched-requires-clause-fit c =
 
 pub returns-clause-others : goal.returns-clause-others
 returns-clause-others c =
-    let section = c.section_body-section.ensures ∙ ap (λ (z : List ℕ). body_named z aranges_name) c.image.ensures in
+    let section = c.section-section.ensures in
     let by_section = subst (λ (z : List ℕ). IfOk c.patched.result (λ aranges. (k : ℕ) → IsOutside c.aranges.result.now.items k → slice_index aranges.items k ≡ slice_index z k)) section c.patched.ensures.others in
     subst (λ (z : List ArangeSet). IfOk c.patched.result (λ aranges. (k : ℕ) → IsOutside z k → slice_index aranges.items k ≡ slice_index (debug_aranges c.args.world.now.image) k)) c.aranges.ensures by_section
 
 pub returns-clause-size : goal.returns-clause-size
 returns-clause-size c =
-    let section = c.section_body-section.ensures ∙ ap (λ (z : List ℕ). body_named z aranges_name) c.image.ensures in
+    let section = c.section-section.ensures in
     subst (λ (z : List ℕ). IfOk c.patched.result (λ aranges. length aranges.items ≡ length z)) section c.patched.ensures.size

@@ -1,4 +1,4 @@
-use Rattle.std.proofs.Common.{◌≡◌, ℕ, List, length, sym, ap, subst, arith, inl, inr}
+use Rattle.std.proofs.Common.{◌≡◌, ◌<◌, ◌-◌, ◌^◌, ℕ, List, length, sym, ap, subst, arith, inl, inr}
 use Rattle.std.specs.Prelude.{bytes_eq}
 use Rattle.std.proofs.lemmas.Bool.Decides.{Decides-or}
 use Rattle.std.proofs.lemmas.Slice.Eq.{bytes_eq-Decides}
@@ -8,7 +8,9 @@ use Rattle.elf_sections.specs.Sections.{IsFirstNamed, HasNone}
 use Rattle.elf_sections.specs.Faults.{IsRead}
 use Rattle.value_links.specs.Sections.{info_name, line_name, rnglists_name, loclists_name}
 use Rattle.value_links.specs.Laws.{HasNoLists}
-use Rattle.rewriter.specs.Sections.{IsFor}
+use Rattle.rewriter.specs.inside.Bodies.{NewBytes}
+use Rattle.rewriter.specs.inside.Sections.{IsFor}
+use Rattle.rewriter.proofs.SectionsAnew.{each_section}
 use Rattle.rewriter.proofs.assemble_tests.with_sections.Goals as goal
 
 -- a file without the two names has no lists
@@ -36,12 +38,6 @@ assemble-requires-clause-sections c =
     let none : length c.new.result.items ≡ 0 = ap length c.new.ensures.items in
     let none_too : length c.new-2.result.items ≡ 0 = ap length c.new-2.ensures.items in
     record {
-      info = for_found c.in-Ok.image c.as_slice.result.now info_name c.args.info.items c.in-Some.field-0 c.as_slice.ensures c.in-Some.ensures;
-      abbrevs = λ _. c.new.ensures.items;
-      lines = for_found c.in-Ok.image c.as_slice-2.result.now line_name c.args.lines.items c.in-Some-find.field-0 c.as_slice-2.ensures c.in-Some-find.ensures;
-      aranges = λ _. c.new-2.ensures.items;
-      info_fits = c.requires.info;
-      abbrevs_fit = omega arith;
-      lines_fit = c.requires.lines;
-      aranges_fit = omega arith;
+      each = each_section (λ (n : NewBytes). IsFor c.in-Ok.image n.name n.bytes) (record { info = c.args.info; abbrevs = c.new.result; lines = c.args.lines; aranges = c.new-2.result }) (for_found c.in-Ok.image c.as_slice.result.now info_name c.args.info.items c.in-Some.field-0 c.as_slice.ensures c.in-Some.ensures) (λ _. c.new.ensures.items) (for_found c.in-Ok.image c.as_slice-2.result.now line_name c.args.lines.items c.in-Some-find.field-0 c.as_slice-2.ensures c.in-Some-find.ensures) (λ _. c.new-2.ensures.items);
+      fit = each_section (λ (n : NewBytes). length n.bytes < 2 ^ 32 - 1) (record { info = c.args.info; abbrevs = c.new.result; lines = c.args.lines; aranges = c.new-2.result }) c.requires.info (omega arith) c.requires.lines (omega arith);
     }

@@ -1,5 +1,5 @@
 use Rattle.std.proofs.Common.{take}
-use Rattle.rewriter.specs.Columns.{AddsEntries}
+use Rattle.rewriter.specs.inside.Columns.{AddsEntries}
 use Rattle.rewriter.proofs.columns.add_unit.Given as goal
 
 abbrev pub invariant-loop-entry : goal.invariant-loop-entry

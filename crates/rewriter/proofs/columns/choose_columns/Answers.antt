@@ -1,15 +1,13 @@
-use Rattle.std.proofs.Common.{◌≡◌, ◌≤◌, ◌<◌, ◌∙◌, ℕ, List, length, take, get_or, ap, subst, rules}
+use Rattle.std.proofs.Common.{◌≡◌, ◌≤◌, ◌<◌, ◌∙◌, ℕ, List, length, take, get_or, ap, subst}
 use Rattle.std.proofs.lemmas.List.{take_all}
 use Rattle.abbrev_tables.specs.declared.decl.Spec.{Spec}
 use Rattle.column_forms.specs.TableColumns.{AreTalliesOf, AreBestFor}
-use Rattle.rewriter.specs.Columns.{values_of_units}
+use Rattle.rewriter.specs.inside.Columns.{values_of_units}
 use Rattle.rewriter.proofs.ColumnUnits.{unit_held, unit_room, gathered_more, gathered_none}
 use Rattle.rewriter.proofs.columns.choose_columns.Goals as goal
 
 pub loop-number-init : goal.loop-number-init
-loop-number-init c =
-    let wide : c.len.result ≡ length c.in_ok-specs.specs.items = search rules in
-    gathered_none c.args.units.now.items c.args.table.now c.args.named.now.items c.in_ok-tallies.tallies (c.in_ok-tallies.ensures.count ∙ wide ∙ ap length c.in_ok-specs.ensures) c.in_ok-tallies.ensures.none
+loop-number-init c = gathered_none c.args.units.now.items c.args.table.now c.args.named.now.items c.in_ok-tallies.tallies (c.in_ok-tallies.ensures.count ∙ ap length c.specs-specs.ensures) c.in_ok-tallies.ensures.none
 
 pub add_unit-requires-clause-unit : goal.add_unit-requires-clause-unit
 add_unit-requires-clause-unit c =
@@ -44,4 +42,4 @@ returns c = λ section are.
     let past : length named ≤ c.loop-number.number-index = subst (λ (z : List ℕ). length z ≤ c.loop-number.number-index) listed c.loop-number-test.false in
     let all : take c.loop-number.number-index named ≡ named = take_all c.loop-number.number-index named past in
     let tallied = subst (λ (z : List ℕ). AreTalliesOf section (values_of_units units decls z) c.loop-number.tallies) all (c.loop-number.invariant.tallied section are) in
-    subst (λ (z : List Spec). AreBestFor section (values_of_units units decls named) z c.in_ok-best.field-0.items) (c.deref.ensures.value ∙ c.in_ok-specs.ensures) (c.in_ok-best.ensures section (values_of_units units decls named) tallied)
+    subst (λ (z : List Spec). AreBestFor section (values_of_units units decls named) z c.in_ok-best.field-0.items) c.specs-specs.ensures (c.in_ok-best.ensures section (values_of_units units decls named) tallied)

@@ -1,5 +1,5 @@
 use Rattle.std.proofs.Common.{take}
-use Rattle.rewriter.specs.Columns.{AreGathered}
+use Rattle.rewriter.specs.inside.Columns.{AreGathered}
 use Rattle.rewriter.proofs.columns.choose_columns.Given as goal
 
 abbrev pub invariant-loop-number : goal.invariant-loop-number

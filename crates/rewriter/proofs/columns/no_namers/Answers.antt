@@ -1,6 +1,6 @@
 use Rattle.std.proofs.Common.{◌+◌, [], List, sym, subst}
 use Rattle.rewriter.specs.declared.columns.Namers.{Namers}
-use Rattle.rewriter.specs.Columns.{AreNamers}
+use Rattle.rewriter.specs.inside.Columns.{AreNamers}
 use Rattle.rewriter.proofs.ColumnNamers.{none_more}
 use Rattle.rewriter.proofs.columns.no_namers.Goals as goal
 

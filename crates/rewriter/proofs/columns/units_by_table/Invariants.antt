@@ -1,4 +1,4 @@
-use Rattle.rewriter.specs.Columns.{AreNamers}
+use Rattle.rewriter.specs.inside.Columns.{AreNamers}
 use Rattle.rewriter.proofs.columns.units_by_table.Given as goal
 
 abbrev pub invariant-loop-u : goal.invariant-loop-u

@@ -12,8 +12,17 @@ returns-clause-least c = (rw c.in_ok-world.ensures.world.holds.image at c.in_ok-
 pub returns-clause-order : goal.returns-clause-order
 returns-clause-order c = (rw c.in_ok-world.ensures.world.holds.image at c.in_ok-write_anew.ensures.rewritten).order
 
-pub returns-clause-tidy : goal.returns-clause-tidy
-returns-clause-tidy c = (rw c.in_ok-world.ensures.world.holds.image at c.in_ok-write_anew.ensures.rewritten).tidy
+pub returns-clause-columns : goal.returns-clause-columns
+returns-clause-columns c = (rw c.in_ok-world.ensures.world.holds.image at c.in_ok-write_anew.ensures.rewritten).columns
+
+pub returns-clause-columns_order : goal.returns-clause-columns_order
+returns-clause-columns_order c = (rw c.in_ok-world.ensures.world.holds.image at c.in_ok-write_anew.ensures.rewritten).columns_order
 
 pub returns-clause-codes : goal.returns-clause-codes
 returns-clause-codes c = (rw c.in_ok-world.ensures.world.holds.image at c.in_ok-write_anew.ensures.rewritten).codes
+
+pub returns-clause-codes_order : goal.returns-clause-codes_order
+returns-clause-codes_order c = (rw c.in_ok-world.ensures.world.holds.image at c.in_ok-write_anew.ensures.rewritten).codes_order
+
+pub returns-clause-tidy : goal.returns-clause-tidy
+returns-clause-tidy c = (rw c.in_ok-world.ensures.world.holds.image at c.in_ok-write_anew.ensures.rewritten).tidy

@@ -1,6 +1,6 @@
 use Rattle.std.proofs.lemmas.Result.{IfOk-weaker}
-use Rattle.rewriter.specs.Sections.{HasSections}
-use Rattle.rewriter.specs.Rewritten.{IsRewritten}
+use Rattle.rewriter.specs.inside.Sections.{HasSections}
+use Rattle.rewriter.specs.inside.Rewritten.{IsRewritten}
 use Rattle.rewriter.proofs.Rewritten.{rewritten, image_ordered}
 use Rattle.rewriter.proofs.file.write_anew.Goals as goal
 

@@ -1,6 +1,6 @@
 use Rattle.std.proofs.Common.{◌≡◌, ◌<◌, length, sym, ap, refl, subst, arith}
-use Rattle.rewriter.specs.Tables.{TableAnew}
-use Rattle.rewriter.specs.Held.{HasType}
+use Rattle.rewriter.specs.inside.Tables.{TableAnew}
+use Rattle.rewriter.specs.inside.Held.{HasType}
 use Rattle.rewriter.proofs.Arranged.{all_placed}
 use Rattle.rewriter.proofs.Links.{own_is, placed_read, places_read}
 use Rattle.rewriter.proofs.Meant.{unit_means, has_type}
@@ -33,5 +33,5 @@ returns c = record {
       let mine = places_read c.args.places.now.items c.args.unit c.index-new.result.now (omega arith) c.index-new.ensures in
       let has = has_anew c.args.world.now c.requires.tables.0 c.args.tables.now.items c.args.unit c.requires.world c.requires.tables.2 c.requires.unit in
       let table = new_table_is c.args.world.now c.args.tables.now.items c.args.unit c.table_numbers.result.now.items c.index.result.now c.index-2.result.now has c.table_numbers.ensures c.index.ensures c.index-2.ensures in
-      are_new_numbers file c.args.world.now r c.args.tables.now.items c.args.places.now.items c.args.lines.now.items c.args.unit c.requires.world.0 c.index-own.result.now c.index-new.result.now (record { end = c.index-new.result.now.end; table = c.index-2.result.now.at; type_offset = c.new_type_offset.result; held = c.in_ok-held.held }) c.requires.world.1 holds c.requires.unit own mine refl (ap (λ (t : TableAnew). t.at) table) c.new_type_offset.ensures c.in_ok-held.ensures;
+      are_new_numbers file c.args.world.now r c.args.tables.now.items c.args.places.now.items c.args.new_places.now c.args.unit c.requires.world.0 c.index-own.result.now c.index-new.result.now (record { end = c.index-new.result.now.end; table = c.index-2.result.now.at; type_offset = c.new_type_offset.result; held = c.in_ok-held.held }) c.requires.world.1 holds c.requires.unit own mine refl (ap (λ (t : TableAnew). t.at) table) c.new_type_offset.ensures c.in_ok-held.ensures;
 }

@@ -4,12 +4,12 @@ use Rattle.entry_arena.specs.declared.entry.Target.TheVariants.{Entry as TheEntr
 use Rattle.entry_arena.specs.Arena.{Arena}
 use Rattle.entry_read.specs.declared.head.UnitHead.{UnitHead}
 use Rattle.entry_read.specs.Heads.{type_unit}
-use Rattle.value_links.specs.Resolved.{IsTargetAt}
+use Rattle.value_links.specs.Linked.{IsTargetAt}
 use Rattle.rewriter.proofs.numbers.new_type_offset.Goals as goal
 
 pub place_in-requires : goal.place_in-requires
 place_in-requires c =
-    let kind : c.args.unit.now.head.kind ≡ type_unit = ap (λ (h : UnitHead). h.kind) (sym c.head-head.ensures) ∙ c.if-head-ne-TYPE.false in
+    let kind : c.args.unit.now.head.kind ≡ type_unit = ap (λ (h : UnitHead). h.kind) (sym c.head-head.ensures) ∙ c.if-head-ne-DW_UT_TYPE.false in
     let t = c.requires.typed kind in
     (TheEntry t.0, subst (λ (h : UnitHead). IsTargetAt c.args.unit.now.forest (TheEntry t.0) (c.args.unit.now.head.at + h.type_at)) (sym c.head-head.ensures) (t.1, t.2))
 

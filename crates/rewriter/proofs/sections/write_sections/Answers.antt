@@ -1,5 +1,5 @@
 use Rattle.std.proofs.Common.{refl, arith}
-use Rattle.rewriter.proofs.SectionsAnew.{parts_of, are_anew, are_for, writable, starts_fit, places_fit}
+use Rattle.rewriter.proofs.SectionsAnew.{parts_of, are_anew, are_for, writable, places_are_new, places_fit}
 use Rattle.rewriter.proofs.sections.write_sections.Goals as goal
 
 pub place_units-requires-clause-writable : goal.place_units-requires-clause-writable
@@ -13,9 +13,9 @@ pub write_units-requires-clause-writable : goal.write_units-requires-clause-writ
 write_units-requires-clause-writable c =
     writable c.values_have_sizes.ensures.numbers c.values_have_sizes.ensures.others c.listings.ensures.stand c.args.world.now c.requires.world c.in_ok-tables.tables.bytes.items c.in_ok-tables.tables.tables.items c.in_ok-tables.ensures.written
 
-pub write_units-requires-clause-lines : goal.write_units-requires-clause-lines
-write_units-requires-clause-lines c =
-    starts_fit _ c.args.world.now.programs c.in_ok-lines.lines.bytes.items c.in_ok-lines.lines.starts.items c.in_ok-lines.ensures.stand (let fits = c.in_ok-lines.ensures.fits in omega (arith, fits))
+pub write_units-requires-clause-new_places : goal.write_units-requires-clause-new_places
+write_units-requires-clause-new_places c =
+    places_are_new _ c.args.world.now c.in_ok-lines.lines.bytes.items (record { programs = c.in_ok-lines.lines.starts }) c.in_ok-lines.ensures.stand (let fits = c.in_ok-lines.ensures.fits in omega (arith, fits))
 
 pub write_aranges-requires-clause-fit : goal.write_aranges-requires-clause-fit
 write_aranges-requires-clause-fit c =
@@ -25,7 +25,7 @@ pub returns-clause-anew : goal.returns-clause-anew
 returns-clause-anew c =
     λ r holds.
     let parts = parts_of holds c.in_ok-lines.ensures.stand c.in_ok-tables.ensures.written c.in_ok-places.ensures.placed.1.count (c.in_ok-info.ensures.written c.args.world.now.image r holds) c.in_ok-aranges.ensures.tiled c.in_ok-aranges.ensures.others c.in_ok-aranges.ensures.size in
-    are_anew parts _ refl refl refl refl c.in_ok-places.ensures.placed
+    are_anew parts _ refl refl refl refl
 
 pub returns-clause-sections : goal.returns-clause-sections
 returns-clause-sections c =

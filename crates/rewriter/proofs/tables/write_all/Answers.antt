@@ -2,8 +2,8 @@ use Rattle.std.proofs.Common.{◌≡◌, ◌≤◌, ◌<◌, ◌+◌, ◌++◌, 
 use Rattle.elf_place.proofs.Totals.{total}
 use Rattle.value_links.specs.World.{table_at}
 use Rattle.rewriter.specs.declared.tables.NewTable.{NewTable}
-use Rattle.rewriter.specs.Tables.{table_anew}
-use Rattle.rewriter.specs.Appended.{IsAppended, AreAppended}
+use Rattle.rewriter.specs.inside.Tables.{table_anew}
+use Rattle.rewriter.specs.inside.Appended.{IsAppended, AreAppended}
 use Rattle.rewriter.proofs.Appends.{appended_more}
 use Rattle.rewriter.proofs.SectionSizes.{tables_most, tables_fit, table_more}
 use Rattle.rewriter.proofs.TableSteps.{counts_there, few_at}

@@ -1,6 +1,6 @@
 use Rattle.std.proofs.Common.{◌≤◌, length}
 use Rattle.elf_place.proofs.Totals.{total}
-use Rattle.rewriter.specs.Appended.{AreAppended}
+use Rattle.rewriter.specs.inside.Appended.{AreAppended}
 use Rattle.rewriter.proofs.SectionSizes.{tables_most}
 use Rattle.rewriter.proofs.tables.write_all.Given as goal
 

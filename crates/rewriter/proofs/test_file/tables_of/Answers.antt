@@ -1,6 +1,6 @@
 use Rattle.std.proofs.lemmas.Result.{IfOk-weaker}
-use Rattle.rewriter.specs.Tables.{AreTablesWritten}
-use Rattle.rewriter.specs.Placed.{AreWritable}
+use Rattle.rewriter.specs.inside.Tables.{AreTablesWritten}
+use Rattle.rewriter.specs.inside.Placed.{AreWritable}
 use Rattle.rewriter.proofs.SectionsAnew.{writable}
 use Rattle.rewriter.proofs.test_file.tables_of.Goals as goal
 

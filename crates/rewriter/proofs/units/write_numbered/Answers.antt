@@ -1,6 +1,6 @@
 use Rattle.std.proofs.Common.{◌≡◌, ◌<◌, length, arith}
-use Rattle.entry_read.specs.Heads.{least_reserved}
-use Rattle.rewriter.specs.Placed.{places_at}
+use Rattle.fixed_width.specs.InitialLengths.{least_reserved}
+use Rattle.rewriter.specs.inside.Placed.{places_at}
 use Rattle.rewriter.proofs.Links.{own_is}
 use Rattle.rewriter.proofs.Final.{named_is, new_table_is, has_anew}
 use Rattle.rewriter.proofs.Behind.{unit_ends, placed_there, written_there, held_counted, type_none, table_fits}
@@ -34,7 +34,7 @@ write_unit-requires-clause-held c =
     let unit = own_is c.args.world.now c.args.number c.units.result.now.items c.index-unit.result.now c.requires.known c.units.ensures c.index-unit.ensures in
     let old = named_is c.args.world.now c.args.number c.tables.result.now.items c.table_numbers.result.now.items c.index.result.now c.index-old.result.now has.numbered has.old c.tables.ensures c.table_numbers.ensures c.index.ensures c.index-old.ensures in
     let anew = new_table_is c.args.world.now c.args.tables.now.tables.items c.args.number c.table_numbers.result.now.items c.index.result.now c.index-anew.result.now has c.table_numbers.ensures c.index.ensures c.index-anew.ensures in
-    (held_counted c.args.world.now c.args.tables.now.tables.items c.args.number c.index-unit.result.now c.index-old.result.now c.index-anew.result.now unit old anew c.args.world.now.image is.r c.args.places.now.items c.args.lines.now.items c.in_ok-new.new is.holds numbers, numbers.fit)
+    (held_counted c.args.world.now c.args.tables.now.tables.items c.args.number c.index-unit.result.now c.index-old.result.now c.index-anew.result.now unit old anew c.args.world.now.image is.r c.args.places.now.items c.args.new_places.now c.in_ok-new.new is.holds numbers, numbers.fit)
 
 pub write_unit-requires-clause-narrow : goal.write_unit-requires-clause-narrow
 write_unit-requires-clause-narrow c =
@@ -45,7 +45,7 @@ write_unit-requires-clause-narrow c =
     let unit = own_is c.args.world.now c.args.number c.units.result.now.items c.index-unit.result.now c.requires.known c.units.ensures c.index-unit.ensures in
     let old = named_is c.args.world.now c.args.number c.tables.result.now.items c.table_numbers.result.now.items c.index.result.now c.index-old.result.now has.numbered has.old c.tables.ensures c.table_numbers.ensures c.index.ensures c.index-old.ensures in
     let anew = new_table_is c.args.world.now c.args.tables.now.tables.items c.args.number c.table_numbers.result.now.items c.index.result.now c.index-anew.result.now has c.table_numbers.ensures c.index.ensures c.index-anew.ensures in
-    (table_fits c.args.world.now c.args.tables.now.tables.items c.args.number c.index-unit.result.now c.index-old.result.now c.index-anew.result.now unit old anew c.args.world.now.image is.r c.args.places.now.items c.args.lines.now.items c.in_ok-new.new is.holds numbers c.args.tables.now.bytes.items c.requires.tables has.old c.requires.narrow, numbers.type_fits)
+    (table_fits c.args.world.now c.args.tables.now.tables.items c.args.number c.index-unit.result.now c.index-old.result.now c.index-anew.result.now unit old anew c.args.world.now.image is.r c.args.places.now.items c.args.new_places.now c.in_ok-new.new is.holds numbers c.args.tables.now.bytes.items c.requires.tables has.old c.requires.narrow, numbers.type_fits)
 
 pub write_unit-requires-clause-type_offset : goal.write_unit-requires-clause-type_offset
 write_unit-requires-clause-type_offset c =
@@ -56,7 +56,7 @@ write_unit-requires-clause-type_offset c =
     let unit = own_is c.args.world.now c.args.number c.units.result.now.items c.index-unit.result.now c.requires.known c.units.ensures c.index-unit.ensures in
     let old = named_is c.args.world.now c.args.number c.tables.result.now.items c.table_numbers.result.now.items c.index.result.now c.index-old.result.now has.numbered has.old c.tables.ensures c.table_numbers.ensures c.index.ensures c.index-old.ensures in
     let anew = new_table_is c.args.world.now c.args.tables.now.tables.items c.args.number c.table_numbers.result.now.items c.index.result.now c.index-anew.result.now has c.table_numbers.ensures c.index.ensures c.index-anew.ensures in
-    type_none c.args.world.now c.args.tables.now.tables.items c.args.number c.index-unit.result.now c.index-old.result.now c.index-anew.result.now unit old anew c.args.world.now.image is.r c.args.places.now.items c.args.lines.now.items c.in_ok-new.new is.holds numbers
+    type_none c.args.world.now c.args.tables.now.tables.items c.args.number c.index-unit.result.now c.index-old.result.now c.index-anew.result.now unit old anew c.args.world.now.image is.r c.args.places.now.items c.args.new_places.now c.in_ok-new.new is.holds numbers
 
 pub returns-clause-written : goal.returns-clause-written
 returns-clause-written c =

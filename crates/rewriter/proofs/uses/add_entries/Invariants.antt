@@ -1,5 +1,5 @@
 use Rattle.std.proofs.Common.{take}
-use Rattle.rewriter.specs.Counting.{AddsUses}
+use Rattle.rewriter.specs.inside.Counting.{AddsUses}
 use Rattle.rewriter.proofs.uses.add_entries.Given as goal
 
 abbrev pub invariant-loop-entry : goal.invariant-loop-entry

@@ -1,6 +1,6 @@
 use Rattle.std.proofs.Common.{◌+◌, ◌<◌, ◌^◌, ℕ, List, length, get_or, ◌∙◌, ap, sym, subst, rules}
 use Rattle.entry_arena.specs.declared.entry.Entry.{Entry}
-use Rattle.rewriter.specs.Counting.{AddsUses}
+use Rattle.rewriter.specs.inside.Counting.{AddsUses}
 use Rattle.rewriter.proofs.UseLaws.{room_for_unit, counted_more}
 use Rattle.rewriter.proofs.uses.count_uses.Goals as goal
 

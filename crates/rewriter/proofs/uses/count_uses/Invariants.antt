@@ -1,5 +1,5 @@
 use Rattle.std.proofs.Common.{take}
-use Rattle.rewriter.specs.Counting.{AreCounted}
+use Rattle.rewriter.specs.inside.Counting.{AreCounted}
 use Rattle.rewriter.proofs.uses.count_uses.Given as goal
 
 abbrev pub invariant-loop-u : goal.invariant-loop-u

@@ -1,5 +1,5 @@
 use Rattle.std.proofs.Common.{take}
-use Rattle.rewriter.specs.Counting.{AreNone}
+use Rattle.rewriter.specs.inside.Counting.{AreNone}
 use Rattle.rewriter.proofs.uses.no_uses.Given as goal
 
 abbrev pub invariant-loop-named : goal.invariant-loop-named

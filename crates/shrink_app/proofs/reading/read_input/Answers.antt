@@ -1,4 +1,4 @@
-use Rattle.std.proofs.Common.{◌<◌, ◌≤◌, ◌^◌, length, arith}
+use Rattle.std.proofs.Common.{◌<◌, ◌≤◌, ◌^◌, ℕ, List, length, subst, arith}
 use Rattle.shrink_app.proofs.Shrinks.{short_read, long_read}
 use Rattle.shrink_app.proofs.reading.read_input.Goals as goal
 
@@ -11,3 +11,8 @@ pub returns-clause-read : goal.returns-clause-read
 returns-clause-read g c =
     let short : length c.in-Ok.file.items ≤ 2 ^ 30 = omega (arith, c.in-Ok.file.ok.0, c.len.ensures, c.if-len-gt-FILE_LIMIT.false) in
     short_read _ _ c.in-Ok.ensures.read short
+
+pub returns-clause-long : goal.returns-clause-long
+returns-clause-long g c = λ file told.
+    let short : length c.in-Ok.file.items ≤ 2 ^ 30 = omega (arith, c.in-Ok.file.ok.0, c.len.ensures, c.if-len-gt-FILE_LIMIT.false) in
+    subst (λ (b : List ℕ). length b ≤ 2 ^ 30) (short_read _ _ c.in-Ok.ensures.read short file told) short

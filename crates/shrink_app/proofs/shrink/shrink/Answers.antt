@@ -1,11 +1,11 @@
-use Rattle.std.proofs.Common.{sym}
+use Rattle.std.proofs.Common.{sym, Err}
 use Rattle.std.proofs.lemmas.Result.{err_from_is_err_and, on_ok_weaker}
 use Rattle.value_links.specs.Same.{Same}
-use Rattle.rewriter.specs.Sections.{IsPlaced}
-use Rattle.rewriter.specs.Anew.{HaveLeastCodes, HaveLeastColumns}
-use Rattle.rewriter.specs.Tidy.{IsTidy}
+use Rattle.value_links.specs.Placed.{IsPlaced}
+use Rattle.value_links.specs.Classes.{HaveLeastCodes, HaveOrderedCodes, HaveLeastColumns, HaveFirstColumns}
+use Rattle.value_links.specs.Tidy.{IsTidy}
 use Rattle.shrink_app.specs.File.{StaysValid, HasLeastLines, HasOrderedLines}
-use Rattle.shrink_app.proofs.Shrinks.{refusal_named, valid_read, front_written, no_fault}
+use Rattle.shrink_app.proofs.Shrinks.{refusal_named, within_limit, valid_read, front_written, no_fault}
 use Rattle.shrink_app.proofs.shrink.shrink.Goals as goal
 
 pub returns-in_err-written-clause-refused : goal.returns-in_err-written-clause-refused
@@ -13,6 +13,12 @@ returns-in_err-written-clause-refused g c =
     let p = err_from_is_err_and c.from_residual-in_err-written.result c.from_residual-in_err-written.ensures.1 in
     let refused = rw c.deref.ensures.value at c.in_err-written.ensures.refused in
     rw (p.1, p.2) (refusal_named _ _ _ c.in_ok-file.ensures.read refused)
+
+pub returns-in_err-written-clause-long : goal.returns-in_err-written-clause-long
+returns-in_err-written-clause-long g c = within_limit _ _ c.in_ok-file.ensures.long
+
+pub returns-clause-long : goal.returns-clause-long
+returns-clause-long g c = within_limit _ c.write_file.result c.in_ok-file.ensures.long
 
 pub returns-clause-valid : goal.returns-clause-valid
 returns-clause-valid g c =
@@ -49,11 +55,23 @@ returns-clause-columns g c =
     let bytes = g.H.Host.bytes in
     on_ok_weaker c.write_file.result (λ put. front_written HaveLeastColumns (bytes c.args.host.now) (bytes c.read_input.new.host) (bytes c.write_file.new.host) c.args.input.now c.args.output.now c.in_ok-file.file.items c.deref-2.result.now c.in_ok-file.ensures.read holds (c.read_input.ensures.files c.args.output.now) put) c.write_file.ensures.written
 
+pub returns-clause-columns_order : goal.returns-clause-columns_order
+returns-clause-columns_order g c =
+    let holds = rw (c.deref.ensures.value, sym c.deref-2.ensures.value) at c.in_ok-written.ensures.columns_order in
+    let bytes = g.H.Host.bytes in
+    on_ok_weaker c.write_file.result (λ put. front_written HaveFirstColumns (bytes c.args.host.now) (bytes c.read_input.new.host) (bytes c.write_file.new.host) c.args.input.now c.args.output.now c.in_ok-file.file.items c.deref-2.result.now c.in_ok-file.ensures.read holds (c.read_input.ensures.files c.args.output.now) put) c.write_file.ensures.written
+
 pub returns-clause-codes : goal.returns-clause-codes
 returns-clause-codes g c =
     let holds = rw (c.deref.ensures.value, sym c.deref-2.ensures.value) at c.in_ok-written.ensures.codes in
     let bytes = g.H.Host.bytes in
     on_ok_weaker c.write_file.result (λ put. front_written HaveLeastCodes (bytes c.args.host.now) (bytes c.read_input.new.host) (bytes c.write_file.new.host) c.args.input.now c.args.output.now c.in_ok-file.file.items c.deref-2.result.now c.in_ok-file.ensures.read holds (c.read_input.ensures.files c.args.output.now) put) c.write_file.ensures.written
+
+pub returns-clause-codes_order : goal.returns-clause-codes_order
+returns-clause-codes_order g c =
+    let holds = rw (c.deref.ensures.value, sym c.deref-2.ensures.value) at c.in_ok-written.ensures.codes_order in
+    let bytes = g.H.Host.bytes in
+    on_ok_weaker c.write_file.result (λ put. front_written HaveOrderedCodes (bytes c.args.host.now) (bytes c.read_input.new.host) (bytes c.write_file.new.host) c.args.input.now c.args.output.now c.in_ok-file.file.items c.deref-2.result.now c.in_ok-file.ensures.read holds (c.read_input.ensures.files c.args.output.now) put) c.write_file.ensures.written
 
 pub returns-clause-tidy : goal.returns-clause-tidy
 returns-clause-tidy g c =

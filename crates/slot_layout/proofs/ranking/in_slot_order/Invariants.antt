@@ -1,6 +1,6 @@
 use Rattle.std.proofs.Common.{◌≡◌, ◌++◌, drop}
 use Rattle.slot_layout.specs.Rows.{rows_of}
-use Rattle.slot_layout.specs.Rounds.{joined}
+use Rattle.slot_layout.specs.inside.Rounds.{joined}
 use Rattle.slot_layout.proofs.ranking.in_slot_order.Given as goal
 
 abbrev pub invariant-loop-i : goal.invariant-loop-i

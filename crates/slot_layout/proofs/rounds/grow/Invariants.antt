@@ -1,5 +1,5 @@
 use Rattle.slot_layout.specs.Rows.{rows_of}
-use Rattle.slot_layout.specs.Rounds.{AreStarts}
+use Rattle.slot_layout.specs.inside.Rounds.{AreStarts}
 use Rattle.slot_layout.proofs.GrowLaws.{IsHalfway}
 use Rattle.slot_layout.proofs.rounds.grow.Given as goal
 

@@ -1,7 +1,7 @@
 use Rattle.std.proofs.Common.{◌≡◌, ◌<◌, ◌+◌, ◌-◌, ◌*◌, ◌^◌, ℕ, suc, [], List, length, get_or, sum, ap, ◌∙◌, sym, subst, arith}
 use Rattle.leb_codec.specs.Layout.{IsLayout, IsLowestLayout, IsLeastLayout, HasNarrowNumbers, AcceptsLayout, HasFirstRanks}
 use Rattle.slot_layout.specs.Rows.{rows_of}
-use Rattle.slot_layout.specs.Rounds.{AreSmall, joined}
+use Rattle.slot_layout.specs.inside.Rounds.{AreSmall, joined}
 use Rattle.slot_layout.proofs.SumLaws.{sum-small}
 use Rattle.slot_layout.proofs.RoundLaws.{rounds, rounds_length, rounds_small, rounds_lowest, number_below, still_member, still_least}
 use Rattle.slot_layout.proofs.RankLaws.{IsRanked, ranked_start}

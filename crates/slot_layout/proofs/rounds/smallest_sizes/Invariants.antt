@@ -1,6 +1,6 @@
 use Rattle.std.proofs.Common.{◌≡◌, take}
 use Rattle.slot_layout.specs.Rows.{rows_of}
-use Rattle.slot_layout.specs.Rounds.{smallest_of}
+use Rattle.slot_layout.specs.inside.Rounds.{smallest_of}
 use Rattle.slot_layout.proofs.rounds.smallest_sizes.Given as goal
 
 abbrev pub invariant-loop-slot : goal.invariant-loop-slot

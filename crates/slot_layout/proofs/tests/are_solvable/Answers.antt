@@ -1,7 +1,7 @@
 use Rattle.std.proofs.Common.{◌≤◌, ◌<◌, ◌^◌, ℕ, List, length, get_or, arith}
 use Rattle.slot_layout.specs.declared.slots.Slot.{Slot}
 use Rattle.slot_layout.specs.Rows.{rows_of}
-use Rattle.slot_layout.specs.Rounds.{AreSlots}
+use Rattle.slot_layout.specs.inside.Rounds.{AreSlots}
 use Rattle.slot_layout.proofs.GrowLaws.{no_slot, row_is, count_rows}
 use Rattle.slot_layout.proofs.tests.are_solvable.Goals as goal
 

@@ -1,5 +1,5 @@
 use Rattle.std.proofs.Common.{◌≡◌, ◌<◌, ◌+◌, ◌⊎◌, length, inl, inr, refl, arith}
-use Rattle.entry_read.specs.Heads.{least_reserved}
+use Rattle.fixed_width.specs.InitialLengths.{least_reserved}
 use Rattle.unit_write.proofs.Sizing.{summed_next, summed_below, summed_all}
 use Rattle.unit_write.proofs.places.after_values.Goals as goal
 

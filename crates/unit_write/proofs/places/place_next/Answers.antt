@@ -1,10 +1,10 @@
 use Rattle.std.proofs.Common.{◌≡◌, ◌<◌, ◌+◌, length, sym, subst, refl, ℕ}
 use Rattle.entry_arena.specs.Arena.{Arena, entry_at}
-use Rattle.entry_read.specs.Heads.{least_reserved}
+use Rattle.fixed_width.specs.InitialLengths.{least_reserved}
 use Rattle.unit_write.specs.declared.items.Next.{Next}
-use Rattle.unit_write.specs.Most.{HasRoom}
+use Rattle.unit_write.specs.inside.Most.{HasRoom}
 use Rattle.unit_write.specs.Placing.{values_in, EntrySize}
-use Rattle.unit_write.specs.Readings.{AreStanding, HasItem, PutsItem}
+use Rattle.unit_write.specs.inside.Readings.{AreStanding, HasItem, PutsItem}
 use Rattle.unit_write.proofs.Standing.{values_stand, entry_declared}
 use Rattle.unit_write.proofs.places.place_next.Goals as goal
 

@@ -1,11 +1,12 @@
 use Rattle.std.proofs.Common.{◌≡◌, ◌≤◌, ◌<◌, ◌+◌, ◌∙◌, sym, ap, subst, refl, ℕ, Some, None, arith}
 use Rattle.entry_arena.specs.Arena.{Arena}
 use Rattle.entry_read.specs.declared.head.UnitHead.{UnitHead}
-use Rattle.entry_read.specs.Heads.{header_size, least_reserved}
+use Rattle.fixed_width.specs.InitialLengths.{least_reserved}
+use Rattle.entry_read.specs.Heads.{header_size}
 use Rattle.entry_read.specs.Units.{entries_at, declarations_of}
 use Rattle.unit_write.specs.declared.items.Items.{Items}
 use Rattle.unit_write.specs.Most.{most_bytes}
-use Rattle.unit_write.specs.Readings.{GoesOn}
+use Rattle.unit_write.specs.inside.Readings.{GoesOn}
 use Rattle.unit_write.proofs.PlacingUnit.{IsPlacing, placing_none, placing_most, placing_next, placing_room, placing_all}
 use Rattle.unit_write.proofs.places.place_unit.Goals as goal
 

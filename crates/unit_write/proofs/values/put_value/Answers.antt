@@ -3,7 +3,7 @@ use Rattle.std.proofs.lemmas.Result.{on_ok_weaker}
 use Rattle.spelled.specs.Spelled.{Appends}
 use Rattle.form_codec.specs.Forms.{SpellsShortest, shape_of}
 use Rattle.form_codec.specs.Values.{meant_in}
-use Rattle.unit_write.specs.Puts.{PutsNumber}
+use Rattle.unit_write.specs.inside.Puts.{PutsNumber}
 use Rattle.unit_write.specs.Values.{is_moving}
 use Rattle.unit_write.proofs.ValueLaws.{admits_kept, written_kept, written_moved}
 use Rattle.unit_write.proofs.values.put_value.Goals as goal

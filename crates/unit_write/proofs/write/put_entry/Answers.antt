@@ -13,7 +13,7 @@ use Rattle.entry_read.proofs.PlaceLaws.{units_lie}
 use Rattle.entry_read.specs.Units.{declarations_of}
 use Rattle.unit_write.specs.Placing.{columns_of, values_in}
 use Rattle.unit_write.specs.Moved.{IsRoomy}
-use Rattle.unit_write.specs.Puts.{PutsValues, numbers_in}
+use Rattle.unit_write.specs.inside.Puts.{PutsValues, numbers_in}
 use Rattle.unit_write.proofs.PutLaws.{extends_more, values_lie, size_as, entry_put}
 use Rattle.unit_write.proofs.write.put_entry.Goals as goal
 

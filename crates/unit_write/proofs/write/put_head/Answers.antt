@@ -1,6 +1,6 @@
 use Rattle.std.proofs.Common.{◌≡◌, ◌++◌}
 use Rattle.std.proofs.lemmas.Result.{on_ok_weaker}
-use Rattle.unit_write.specs.Puts.{own_bytes}
+use Rattle.unit_write.specs.inside.Puts.{own_bytes}
 use Rattle.unit_write.proofs.PutLaws.{head_put}
 use Rattle.unit_write.proofs.write.put_head.Goals as goal
 

@@ -4,8 +4,8 @@ use Rattle.entry_arena.specs.Arena.{Arena}
 use Rattle.entry_arena.proofs.TreeLaws.{trees_are_walks}
 use Rattle.entry_arena.specs.Trees.{listed_to}
 use Rattle.entry_read.specs.Units.{declarations_of, entries_at}
-use Rattle.unit_write.specs.Puts.{PutsEntry}
-use Rattle.unit_write.specs.Readings.{GoesOn}
+use Rattle.unit_write.specs.inside.Puts.{PutsEntry}
+use Rattle.unit_write.specs.inside.Readings.{GoesOn}
 use Rattle.unit_write.proofs.ItemLaws.{no_item, item_put, items_put, item_held}
 use Rattle.unit_write.proofs.write.put_items.Goals as goal
 

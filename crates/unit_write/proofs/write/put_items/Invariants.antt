@@ -1,5 +1,5 @@
 use Rattle.std.proofs.Common.{◌+◌, ◌-◌, length}
-use Rattle.unit_write.specs.Puts.{PutsEntry}
+use Rattle.unit_write.specs.inside.Puts.{PutsEntry}
 use Rattle.unit_write.proofs.ItemLaws.{ItemsPut}
 use Rattle.unit_write.proofs.write.put_items.Given as goal
 

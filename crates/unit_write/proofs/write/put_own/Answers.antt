@@ -3,7 +3,7 @@ use Rattle.std.proofs.lemmas.List.{append_assoc}
 use Rattle.std.proofs.lemmas.Result.{on_ok_weaker}
 use Rattle.form_codec.specs.declared.form.Width.TheVariants.{Four, Eight}
 use Rattle.form_codec.specs.Written.{low_bytes}
-use Rattle.unit_write.specs.Puts.{own_bytes}
+use Rattle.unit_write.specs.inside.Puts.{own_bytes}
 use Rattle.unit_write.proofs.write.put_own.Goals as goal
 
 pub returns-in_ok-put_low-in-2-clause-ok : goal.returns-in_ok-put_low-in-2-clause-ok

@@ -4,7 +4,7 @@ use Rattle.std.proofs.lemmas.Result.{on_ok_weaker}
 use Rattle.spelled.specs.Spelled.{Appends}
 use Rattle.entry_read.specs.declared.head.UnitHead.{UnitHead}
 use Rattle.entry_read.specs.Units.{entries_at, declarations_of}
-use Rattle.unit_write.specs.Puts.{PutsEntry, PutsItems, header_bytes}
+use Rattle.unit_write.specs.inside.Puts.{PutsEntry, PutsItems, header_bytes}
 use Rattle.unit_write.proofs.UnitLaws.{room, unit_anew}
 use Rattle.unit_write.proofs.PutLaws.{extends_more}
 use Rattle.unit_write.proofs.write.put_unit.Goals as goal

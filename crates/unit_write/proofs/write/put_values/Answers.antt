@@ -6,7 +6,8 @@ use Rattle.form_codec.specs.declared.value.Value.TheVariants as value
 use Rattle.form_codec.specs.Values.{meant_in, LiesIn}
 use Rattle.abbrev_tables.specs.Listings.{spec_at}
 use Rattle.entry_arena.specs.Arena.{value_at}
-use Rattle.unit_write.specs.Values.{with_number, IsWritten, HasSize}
+use Rattle.entry_read.specs.Short.{IsWritten}
+use Rattle.unit_write.specs.Values.{with_number, HasSize}
 use Rattle.unit_write.proofs.PutLaws.{value_put, value_read, all_put, sized_lengths, size_at}
 use Rattle.unit_write.proofs.write.put_values.Goals as goal
 

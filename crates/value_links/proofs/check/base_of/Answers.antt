@@ -2,7 +2,7 @@ use Rattle.std.proofs.Common.{◌≡◌, ◌≤◌, ℕ, List, length, arith}
 use Rattle.form_codec.specs.Forms.{Meaning}
 use Rattle.form_codec.specs.Values.{meant_in}
 use Rattle.entry_read.specs.Units.{declarations_of}
-use Rattle.value_links.specs.Checks.{root_attributes}
+use Rattle.value_links.specs.inside.Checks.{root_attributes}
 use Rattle.value_links.proofs.RootValues.{base_here, base_later, no_base}
 use Rattle.value_links.proofs.check.base_of.Goals as goal
 

@@ -1,5 +1,5 @@
 use Rattle.entry_read.specs.Units.{declarations_of}
-use Rattle.value_links.specs.Checks.{root_attributes}
+use Rattle.value_links.specs.inside.Checks.{root_attributes}
 use Rattle.value_links.proofs.RootValues.{IsBaseFrom}
 use Rattle.value_links.proofs.check.base_of.Given as goal
 

@@ -1,26 +1,27 @@
 use Rattle.std.proofs.Common.{◌≡◌, ◌≤◌, ◌<◌, ◌+◌, ◌∙◌, ℕ, List, length, subst, sym, ap, arith, inr, below_more}
 use Rattle.std.specs.Prelude.{true, false}
 use Rattle.dw_base.specs.declared.fault.Kind.TheVariants.{Target as NoTarget}
+use Rattle.dw_base.specs.declared.fault.Reach.{Reach}
 use Rattle.entry_arena.specs.Order.{IsInOrder}
 use Rattle.entry_read.specs.declared.head.UnitHead.{UnitHead}
 use Rattle.entry_read.specs.Units.{HeadAndForest}
 use Rattle.value_links.specs.declared.units.Units.{Units}
-use Rattle.value_links.specs.Reading.{Reading, unit_at}
+use Rattle.value_links.specs.Reading.{Linkable, unit_at}
 use Rattle.value_links.specs.Values.{entry_of}
 use Rattle.value_links.specs.Links.{held_at}
-use Rattle.value_links.specs.Parts.{AreParts}
+use Rattle.value_links.specs.Parts.{HoldsParts}
 use Rattle.value_links.specs.Faults.{FaultType}
-use Rattle.value_links.specs.Checks.{AreSomeUnits, table_held, IsTyped, AreColumnsLinked}
+use Rattle.value_links.specs.inside.Checks.{AreSomeUnits, table_held, IsTyped, AreColumnsLinked}
 use Rattle.value_links.proofs.TabledUnits.{some_with_table, in_order, type_inside}
 use Rattle.value_links.proofs.PartValues.{entry_linked, unit_linked, type_fault}
 use Rattle.value_links.proofs.check.check_unit.Goals as goal
 
 pub loop-id-preserved : goal.loop-id-preserved
-loop-id-preserved c = λ (file : List ℕ) (r : Reading) (parts : AreParts file r c.args.held.now c.args.programs.now.items).
-    let all : c.len-id-end.result ≡ length (held_at c.args.held.now.units.items c.args.number).forest.entries = c.len-id-end.ensures ∙ ap (λ z. length z.entries) (c.forest.ensures ∙ ap (λ z. z.forest) c.unit_of-unit.ensures) in
-    let known : c.loop-id.id < length (held_at c.args.held.now.units.items c.args.number).forest.entries = subst (λ (z : ℕ). c.loop-id.id < z) all c.loop-id-test.true in
-    let here = entry_linked file r c.args.held.now c.args.programs.now.items parts c.args.number c.requires.number c.loop-id.id known (c.in_ok-check_entry.ensures.linked file r parts) in
-    below_more (λ (id : ℕ). AreColumnsLinked r c.args.number id (entry_of (unit_at r c.args.number) id).count) c.loop-id.id (c.loop-id.invariant file r parts) here
+loop-id-preserved c = λ (file : List ℕ) (r : Linkable) (holds : HoldsParts file r c.args.parts.now).
+    let all : c.len-id-end.result ≡ length (held_at c.args.parts.now.units.units.items c.args.number).forest.entries = c.len-id-end.ensures ∙ ap (λ z. length z.entries) (c.forest.ensures ∙ ap (λ z. z.forest) c.unit_of-unit.ensures) in
+    let known : c.loop-id.id < length (held_at c.args.parts.now.units.units.items c.args.number).forest.entries = subst (λ (z : ℕ). c.loop-id.id < z) all c.loop-id-test.true in
+    let here = entry_linked file r c.args.parts.now holds c.args.number c.requires.number c.loop-id.id known (c.in_ok-check_entry.ensures.linked file r holds) in
+    below_more (λ (id : ℕ). AreColumnsLinked r c.args.number id (entry_of (unit_at r c.args.number) id).count) c.loop-id.id (c.loop-id.invariant file r holds) here
 
 -- what is known of the unit where it isn't typed
 record IsUntyped (unit : HeadAndForest) (head : UnitHead) : Type 0 where
@@ -37,24 +38,24 @@ untyped held u unit head some inside e h is =
 
 pub overflow_add-result : goal.overflow_add-result
 overflow_add-result c =
-    let is = untyped c.args.held.now c.args.number c.unit_of-unit.result.now c.head.result c.requires.held c.requires.number c.unit_of-unit.ensures c.head.ensures c.if-not-is_typed.ensures in
+    let is = untyped c.args.parts.now.units c.args.number c.unit_of-unit.result.now c.head.result c.requires.held c.requires.number c.unit_of-unit.ensures c.head.ensures c.if-not-is_typed.ensures in
     let room = c.requires.room in
     omega (arith, is.at, is.inside, room)
 
 pub returns-then-not-is_typed-clause-fault : goal.returns-then-not-is_typed-clause-fault
-returns-then-not-is_typed-clause-fault c = λ (file : List ℕ) (r : Reading) (parts : AreParts file r c.args.held.now c.args.programs.now.items).
-    let is = untyped c.args.held.now c.args.number c.unit_of-unit.result.now c.head.result c.requires.held c.requires.number c.unit_of-unit.ensures c.head.ensures c.if-not-is_typed.ensures in
-    inr (subst (λ (z : ℕ). FaultType r c.args.number NoTarget (z + 20)) (sym is.at) (type_fault file r c.args.held.now c.args.programs.now.items parts c.args.number c.requires.number is.typed))
+returns-then-not-is_typed-clause-fault c = λ (file : List ℕ) (r : Linkable) (holds : HoldsParts file r c.args.parts.now) (reach : Reach).
+    let is = untyped c.args.parts.now.units c.args.number c.unit_of-unit.result.now c.head.result c.requires.held c.requires.number c.unit_of-unit.ensures c.head.ensures c.if-not-is_typed.ensures in
+    inr (subst (λ (z : ℕ). FaultType r c.args.number NoTarget (z + 20)) (sym is.at) (type_fault file r c.args.parts.now holds c.args.number c.requires.number is.typed))
 
 pub returns-then-not-is_typed-clause-inside : goal.returns-then-not-is_typed-clause-inside
 returns-then-not-is_typed-clause-inside c =
-    let is = untyped c.args.held.now c.args.number c.unit_of-unit.result.now c.head.result c.requires.held c.requires.number c.unit_of-unit.ensures c.head.ensures c.if-not-is_typed.ensures in
+    let is = untyped c.args.parts.now.units c.args.number c.unit_of-unit.result.now c.head.result c.requires.held c.requires.number c.unit_of-unit.ensures c.head.ensures c.if-not-is_typed.ensures in
     omega (arith, is.at, is.inside)
 
 pub returns-clause-linked : goal.returns-clause-linked
-returns-clause-linked c = λ (file : List ℕ) (r : Reading) (parts : AreParts file r c.args.held.now c.args.programs.now.items).
-    let table = some_with_table c.args.held.now c.requires.held c.args.number c.requires.number in
-    let order : IsInOrder c.unit_of-unit.result.now.forest = subst (λ (z : HeadAndForest). IsInOrder z.forest) (sym c.unit_of-unit.ensures) (in_order (held_at c.args.held.now.units.items c.args.number) (table_held c.args.held.now c.args.number) table) in
-    let typed : IsTyped (held_at c.args.held.now.units.items c.args.number) true = subst (λ (z : HeadAndForest). IsTyped z true) c.unit_of-unit.ensures (c.if-not-is_typed.ensures order) in
-    let all : c.len-id-end.result ≡ length (held_at c.args.held.now.units.items c.args.number).forest.entries = c.len-id-end.ensures ∙ ap (λ z. length z.entries) (c.forest.ensures ∙ ap (λ z. z.forest) c.unit_of-unit.ensures) in
-    unit_linked file r c.args.held.now c.args.programs.now.items parts c.args.number c.requires.number c.loop-id.id (omega (arith, all, c.loop-id-test.false, c.loop-id.auto.id-end)) (c.loop-id.invariant file r parts) typed
+returns-clause-linked c = λ (file : List ℕ) (r : Linkable) (holds : HoldsParts file r c.args.parts.now).
+    let table = some_with_table c.args.parts.now.units c.requires.held c.args.number c.requires.number in
+    let order : IsInOrder c.unit_of-unit.result.now.forest = subst (λ (z : HeadAndForest). IsInOrder z.forest) (sym c.unit_of-unit.ensures) (in_order (held_at c.args.parts.now.units.units.items c.args.number) (table_held c.args.parts.now.units c.args.number) table) in
+    let typed : IsTyped (held_at c.args.parts.now.units.units.items c.args.number) true = subst (λ (z : HeadAndForest). IsTyped z true) c.unit_of-unit.ensures (c.if-not-is_typed.ensures order) in
+    let all : c.len-id-end.result ≡ length (held_at c.args.parts.now.units.units.items c.args.number).forest.entries = c.len-id-end.ensures ∙ ap (λ z. length z.entries) (c.forest.ensures ∙ ap (λ z. z.forest) c.unit_of-unit.ensures) in
+    unit_linked file r c.args.parts.now holds c.args.number c.requires.number c.loop-id.id (omega (arith, all, c.loop-id-test.false, c.loop-id.auto.id-end)) (c.loop-id.invariant file r holds) typed

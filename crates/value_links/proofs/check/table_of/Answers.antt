@@ -1,7 +1,7 @@
 use Rattle.std.proofs.Common.{subst, sym}
 use Rattle.abbrev_tables.specs.Listings.{Listing}
 use Rattle.value_links.specs.Links.{held_at}
-use Rattle.value_links.specs.Checks.{IsUnitWithTable}
+use Rattle.value_links.specs.inside.Checks.{IsUnitWithTable}
 use Rattle.value_links.proofs.TabledUnits.{some_with_table, table_from}
 use Rattle.value_links.proofs.check.table_of.Goals as goal
 

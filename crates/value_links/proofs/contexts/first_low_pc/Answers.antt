@@ -1,7 +1,7 @@
 use Rattle.std.proofs.Common.{◌≡◌, ◌≤◌, ℕ, List, length, arith}
 use Rattle.form_codec.specs.Forms.{Meaning}
 use Rattle.entry_read.specs.Units.{declarations_of}
-use Rattle.value_links.specs.Checks.{root_attributes}
+use Rattle.value_links.specs.inside.Checks.{root_attributes}
 use Rattle.value_links.proofs.RootValues.{no_low}
 use Rattle.value_links.proofs.contexts.first_low_pc.Goals as goal
 

@@ -1,6 +1,6 @@
 use Rattle.std.proofs.Common.{◌≡◌, drop}
 use Rattle.entry_read.specs.Units.{declarations_of}
-use Rattle.value_links.specs.Checks.{root_attributes}
+use Rattle.value_links.specs.inside.Checks.{root_attributes}
 use Rattle.value_links.specs.Contexts.{low_pcs}
 use Rattle.value_links.proofs.contexts.first_low_pc.Given as goal
 

@@ -1,7 +1,7 @@
 use Rattle.std.proofs.Common.{rules, leb}
 use Rattle.std.proofs.lemmas.List.Sorted.{IsPartitionedBy-leb, IsPartitionPoint-from_clause}
 use Rattle.entry_read.specs.Units.{HeadAndForest}
-use Rattle.value_links.specs.Links.{AreUnitsApart}
+use Rattle.value_links.specs.inside.Links.{AreUnitsApart}
 use Rattle.value_links.proofs.Searching.{starts_rise, last_is}
 use Rattle.value_links.proofs.link.last_from.Goals as goal
 

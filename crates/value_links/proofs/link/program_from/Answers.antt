@@ -2,7 +2,7 @@ use Rattle.std.proofs.Common.{rules}
 use Rattle.std.proofs.lemmas.List.Sorted.{answers_always}
 use Rattle.entry_arena.proofs.Found.{found, not_found}
 use Rattle.value_links.specs.Reading.{no_program}
-use Rattle.value_links.specs.Links.{AreProgramsApart}
+use Rattle.value_links.specs.inside.Links.{AreProgramsApart}
 use Rattle.value_links.proofs.Searching.{program_found}
 use Rattle.value_links.proofs.link.program_from.Goals as goal
 

@@ -1,7 +1,7 @@
 use Rattle.std.proofs.Common.{subst, sym}
 use Rattle.std.specs.Prelude.{Option, Some, None}
 use Rattle.value_links.specs.declared.link.Link.{Link}
-use Rattle.value_links.specs.Links.{IsSectionTargetFound, AreUnitsApart}
+use Rattle.value_links.specs.inside.Links.{IsSectionTargetFound, AreUnitsApart}
 use Rattle.value_links.proofs.Searching.{target_found, none_in, found_in}
 use Rattle.value_links.proofs.link.section_target.Goals as goal
 

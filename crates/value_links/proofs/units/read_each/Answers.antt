@@ -5,7 +5,7 @@ use Rattle.std.proofs.lemmas.List.Elements.{All-get_or}
 use Rattle.entry_read.specs.Heads.{head_numbered}
 use Rattle.entry_read.specs.Units.{declarations_of, IsTable, IsUnitHeld}
 use Rattle.value_links.specs.declared.units.NamedTable.{NamedTable}
-use Rattle.value_links.specs.Tabled.{IsNamed}
+use Rattle.value_links.specs.inside.Tabled.{IsNamed}
 use Rattle.value_links.specs.World.{table_at}
 use Rattle.value_links.proofs.Refusing.{refused_more}
 use Rattle.value_links.proofs.Fronts.{IsNext, nothing_held, front_push, next_fault, table_named}

@@ -1,6 +1,6 @@
 use Rattle.std.proofs.Common.{ℕ, List}
 use Rattle.std.specs.List.{All}
-use Rattle.value_links.specs.Tabled.{IsNamed, HoldFront}
+use Rattle.value_links.specs.inside.Tabled.{IsNamed, HoldFront}
 use Rattle.value_links.proofs.units.read_each.Given as goal
 
 abbrev pub invariant-loop-number : goal.invariant-loop-number

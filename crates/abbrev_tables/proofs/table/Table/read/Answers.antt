@@ -1,8 +1,6 @@
-use Rattle.abbrev_tables.proofs.WholeParts.{whole_part}
-use Rattle.abbrev_tables.proofs.ShelfLaws.{table_alone}
+use Rattle.std.proofs.lemmas.List.{take_rest}
+use Rattle.abbrev_tables.proofs.Rows.{table_at}
 use Rattle.abbrev_tables.proofs.table.Table.read.Goals as goal
 
-pub returns-clause-part : goal.returns-clause-part
-returns-clause-part c =
-    let read = c.swap_remove.result in
-    whole_part c.args.section.now c.args.at read.table (table_alone c.args.section.now c.args.at c.in_ok-tables.tables.items read c.in_ok-tables.ensures.tables c.swap_remove.ensures.value)
+pub returns-in-Ok-clause-table : goal.returns-in-Ok-clause-table
+returns-in-Ok-clause-table c = table_at c.args.section.now c.args.at c.in-Ok.table c.requires (rw take_rest at c.in-Ok.ensures.table)

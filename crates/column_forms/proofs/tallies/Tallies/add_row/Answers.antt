@@ -3,7 +3,7 @@ use Rattle.std.proofs.lemmas.List.{get_or_read_under}
 use Rattle.form_codec.specs.declared.value.Value.{Value}
 use Rattle.form_codec.specs.declared.value.Value.TheVariants as value
 use Rattle.column_forms.specs.Rows.{value_at}
-use Rattle.column_forms.specs.TableColumns.{IsNextTally}
+use Rattle.column_forms.specs.inside.TableColumns.{IsNextTally}
 use Rattle.column_forms.proofs.TableLaws.{counted_more, row_added, few_more}
 use Rattle.column_forms.proofs.tallies.Tallies.add_row.Goals as goal
 

@@ -1,4 +1,4 @@
-use Rattle.column_forms.specs.TableColumns.{AreCounted}
+use Rattle.column_forms.specs.inside.TableColumns.{AreCounted}
 use Rattle.column_forms.proofs.tallies.Tallies.add_row.Given as goal
 
 abbrev pub invariant-loop-j : goal.invariant-loop-j

@@ -4,7 +4,8 @@ use Rattle.abbrev_tables.specs.declared.decl.Spec.{Spec}
 use Rattle.abbrev_tables.specs.Listings.{spec_at}
 use Rattle.std.specs.Prelude.{Option}
 use Rattle.column_forms.specs.Tallies.{Tallying}
-use Rattle.column_forms.specs.TableColumns.{tally_at, IsBestOfTally}
+use Rattle.column_forms.specs.TableColumns.{tally_at}
+use Rattle.column_forms.specs.inside.TableColumns.{IsBestOfTally}
 use Rattle.column_forms.proofs.TableLaws.{best_more}
 use Rattle.column_forms.proofs.tallies.Tallies.best.Goals as goal
 

@@ -1,6 +1,7 @@
 use Rattle.std.proofs.Common.{◌≡◌, ◌<◌, ℕ, length}
 use Rattle.abbrev_tables.specs.Listings.{spec_at}
-use Rattle.column_forms.specs.TableColumns.{tally_at, IsBestOfTally}
+use Rattle.column_forms.specs.TableColumns.{tally_at}
+use Rattle.column_forms.specs.inside.TableColumns.{IsBestOfTally}
 use Rattle.column_forms.proofs.tallies.Tallies.best.Given as goal
 
 abbrev pub invariant-loop-k : goal.invariant-loop-k

@@ -9,19 +9,19 @@ use Rattle.column_forms.proofs.tally.Tally.best.Goals as goal
 pub best_of-requires : goal.best_of-requires
 best_of-requires c = room_left c.self.inside.candidates.items c.deref.result.now c.self.inside.count c.deref.ensures.value c.self.invariant.bounded c.self.invariant.few
 
-pub returns-then-choice-eq-IMPLICIT_CONST : goal.returns-then-choice-eq-IMPLICIT_CONST
-returns-then-choice-eq-IMPLICIT_CONST c = λ section values t s.
+pub returns-then-choice-eq-DW_FORM_IMPLICIT_CONST : goal.returns-then-choice-eq-DW_FORM_IMPLICIT_CONST
+returns-then-choice-eq-DW_FORM_IMPLICIT_CONST c = λ section values t s.
     let fits : FitsSigned w64 c.self.inside.constant = c.self.invariant.fits in
     let inside = subst (λ (z : Tallying). IsTally section values z) (sym c.self.view_is) t in
     let best = simp to_z-of_z at c.in-Some.ensures in
-    rw to_z-of_z (chosen section values c.self.inside.candidates.items c.deref.result.now c.self.inside.constant c.self.inside.constant c.self.inside.count c.args.column c.in-Some.choice c.deref.ensures.value (λ is. absurd (cc (c.if-is_reference.false, c.is_reference.ensures, is))) inside best (λ _. refl) (λ differs. absurd (differs c.if-choice-eq-IMPLICIT_CONST.true)))
+    rw to_z-of_z (chosen section values c.self.inside.candidates.items c.deref.result.now c.self.inside.constant c.self.inside.constant c.self.inside.count c.args.column c.in-Some.choice c.deref.ensures.value (λ is. absurd (cc (c.if-is_reference.false, c.is_reference.ensures, is))) inside best (λ _. refl) (λ differs. absurd (differs c.if-choice-eq-DW_FORM_IMPLICIT_CONST.true)))
 
-pub returns-else-choice-eq-IMPLICIT_CONST : goal.returns-else-choice-eq-IMPLICIT_CONST
-returns-else-choice-eq-IMPLICIT_CONST c = λ section values t s.
+pub returns-else-choice-eq-DW_FORM_IMPLICIT_CONST : goal.returns-else-choice-eq-DW_FORM_IMPLICIT_CONST
+returns-else-choice-eq-DW_FORM_IMPLICIT_CONST c = λ section values t s.
     let fits : FitsSigned w64 c.self.inside.constant = c.self.invariant.fits in
     let inside = subst (λ (z : Tallying). IsTally section values z) (sym c.self.view_is) t in
     let best = simp to_z-of_z at c.in-Some.ensures in
-    chosen section values c.self.inside.candidates.items c.deref.result.now c.self.inside.constant (pos 0) c.self.inside.count c.args.column c.in-Some.choice c.deref.ensures.value (λ is. absurd (cc (c.if-is_reference.false, c.is_reference.ensures, is))) inside best (λ is. absurd (c.if-choice-eq-IMPLICIT_CONST.false is)) (λ _. refl)
+    chosen section values c.self.inside.candidates.items c.deref.result.now c.self.inside.constant (pos 0) c.self.inside.count c.args.column c.in-Some.choice c.deref.ensures.value (λ is. absurd (cc (c.if-is_reference.false, c.is_reference.ensures, is))) inside best (λ is. absurd (c.if-choice-eq-DW_FORM_IMPLICIT_CONST.false is)) (λ _. refl)
 
 pub returns-in-None : goal.returns-in-None
 returns-in-None c = λ section values t s.

@@ -2,7 +2,7 @@ use Rattle.std.proofs.Common.{◌≡◌, ◌≤◌, ◌<◌, ◌+◌, ℕ, List,
 use Rattle.elf_sections.specs.Elf.{section_count}
 use Rattle.elf_sections.specs.Names.{name_of}
 use Rattle.elf_sections.specs.Sections.{name_span, section_of}
-use Rattle.elf_sections.specs.Faults.{HasTables}
+use Rattle.elf_sections.specs.inside.Faults.{HasTables}
 use Rattle.elf_sections.specs.declared.section.Section.{Section}
 use Rattle.elf_sections.proofs.NameLaws.{name_held}
 use Rattle.elf_sections.proofs.table.SectionTable.name.Goals as goal

@@ -1,5 +1,5 @@
 use Rattle.std.proofs.Common.{◌≡◌, refl, arith, true, false}
-use Rattle.unit_write.specs.Readings.{IsEndNext}
+use Rattle.unit_write.specs.inside.Readings.{IsEndNext}
 use Rattle.unit_write.proofs.Stepping.{end_next, entry_next, all_walked}
 use Rattle.unit_write.proofs.items.Items.next.Goals as goal
 

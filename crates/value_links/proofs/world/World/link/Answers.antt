@@ -1,15 +1,15 @@
 use Rattle.std.proofs.Common.{ℕ, List}
 use Rattle.value_links.specs.Reading.{Reading}
 use Rattle.value_links.specs.World.{World, Holds}
-use Rattle.value_links.proofs.NumberedValues.{value_means, value_linked}
+use Rattle.value_links.proofs.NumberedValues.{value_links, value_linked}
 use Rattle.value_links.proofs.world.World.link.Goals as goal
 
 pub unreachable-requires : goal.unreachable-requires
 unreachable-requires c =
     let world : World = c.args.self.now in
     let (reach, is) = c.entries_of-forest.ensures.world in
-    let means = value_means world reach is c.args.unit c.requires.unit c.entries_of-forest.result.now c.entries_of-forest.ensures.forest c.table.result.now c.table.ensures c.owner_of-id.result c.args.value c.attribute_name-name.result c.owner_of-id.ensures c.attribute_name-name.ensures c.value.result c.value.ensures in
-    c.in-None.ensures world.image is.r c.owner_of-id.result is.holds means.0 means.1
+    let links = value_links world reach is c.args.unit c.requires.unit c.entries_of-forest.result.now c.entries_of-forest.ensures.forest c.table.result.now c.table.ensures c.owner_of-id.result c.args.value c.attribute_name-name.result c.owner_of-id.ensures c.attribute_name-name.ensures c.value.result c.value.ensures in
+    c.in-None.ensures world.image is.r c.owner_of-id.result is.holds links.0 links.1
 
 pub returns : goal.returns
 returns c = λ (file : List ℕ) (r : Reading) (holds : Holds file c.args.self.now r).

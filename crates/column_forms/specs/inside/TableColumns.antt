@@ -1,0 +1,27 @@
+-- The columns of an abbreviation table, whose values come entry by entry.
+-- Inner functions and proofs alone need what stands here.
+use Rattle.std.specs.Prelude.{◌≡◌, ◌≤◌, ◌<◌, ◌+◌, ◌⊎◌, ℕ, List, [], ◌∷◌, ◌++◌, length, Option, IfSome}
+use Rattle.form_codec.specs.declared.value.Value.{Value}
+use Rattle.abbrev_tables.specs.declared.decl.Spec.{Spec}
+use Rattle.column_forms.specs.Tallies.{Tallying, IsHere}
+use Rattle.column_forms.specs.Rows.{value_at}
+use Rattle.column_forms.specs.TableColumns.{tally_at, IsTallyOf, IsBestFor}
+
+-- what is held of a column after one more value
+abbrev pub IsNextTally : Value → Option Tallying → Option Tallying → Type 0
+IsNextTally v old new = (section : List ℕ) (values : List Value) → IsHere section v → IsTallyOf section values old → IsTallyOf section (values ++ v ∷ []) new
+
+-- a column has at most one value more
+abbrev pub HasOneMore : Option Tallying → Option Tallying → Type 0
+HasOneMore old new = (n : ℕ) → IfSome old (λ tally. tally.count ≤ n) → IfSome new (λ tally. tally.count ≤ n + 1)
+
+-- the first so many values of a row are counted, each in its column from a first one on, and the other columns hold what they did
+pub record AreCounted (first : ℕ) (row : List Value) (done : ℕ) (old new : List (Option Tallying)) : Type 0 where
+  pub same : length new ≡ length old
+  pub next : (j : ℕ) → j < done → IsNextTally (value_at row j) (tally_at old (first + j)) (tally_at new (first + j))
+  pub more : (j : ℕ) → j < done → HasOneMore (tally_at old (first + j)) (tally_at new (first + j))
+  pub others : (k : ℕ) → (k < first) ⊎ (first + done ≤ k) → tally_at new k ≡ tally_at old k
+
+-- a column is the best for all values of which this is held
+abbrev pub IsBestOfTally : Option Tallying → Spec → Spec → Type 0
+IsBestOfTally tally old new = (section : List ℕ) (values : List Value) → IsTallyOf section values tally → IsBestFor section values old new

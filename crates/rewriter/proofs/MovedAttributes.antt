@@ -1,0 +1,71 @@
+-- The attributes of an entry that is written anew: each has its name, and its value but for a new number.
+use Rattle.std.proofs.Common.{◌≡◌, ◌<◌, ◌+◌, ◌∙◌, ℕ, suc, List, [], ◌∷◌, length, sym, ap, subst, refl, arith}
+use Rattle.std.specs.Prelude.{slice_index}
+use Rattle.std.specs.List.{AllZip}
+use Rattle.form_codec.specs.declared.value.Value.{Value}
+use Rattle.form_codec.specs.Forms.{Meaning}
+use Rattle.form_codec.specs.Values.{meant_in}
+use Rattle.abbrev_tables.specs.declared.decl.Spec.{Spec}
+use Rattle.entry_arena.specs.declared.entry.Entry.{Entry}
+use Rattle.entry_arena.specs.Arena.{value_at}
+use Rattle.entry_arena.specs.Forests.{Described, attributes_of, described_by}
+use Rattle.unit_write.specs.declared.places.Places.{Places}
+use Rattle.unit_write.specs.Values.{with_number}
+use Rattle.value_links.specs.Reading.{Linkable, Reading, unit_at, declarations}
+use Rattle.value_links.specs.Values.{entry_of, declaration_of, values_of}
+use Rattle.value_links.specs.World.{World}
+use Rattle.rewriter.specs.declared.tables.NewTable.{NewTable}
+use Rattle.rewriter.specs.declared.new_places.NewPlaces.{NewPlaces}
+use Rattle.rewriter.specs.inside.Numbers.{IsNewNumber}
+use Rattle.rewriter.specs.inside.Follows.{AreReadAnew}
+use Rattle.rewriter.proofs.ColumnLaws.{AreNamedAlike}
+use Rattle.rewriter.proofs.MovedValues.{attributes_move, as_many}
+use Rattle.rewriter.proofs.MovedEntries.{moved, same_declared, stands_in, has_value, new_values, values_are, values_mean}
+
+-- attributes depend on the names of columns alone
+attributes_alike : (section : List ℕ) (old new : List Spec) (values : List Value) → AreNamedAlike old new → attributes_of section old values ≡ attributes_of section new values
+attributes_alike section [] [] values alike = refl
+attributes_alike section [] (c ∷ cs) values alike = absurd (let count = alike.count in omega (arith, count))
+attributes_alike section (d ∷ ds) [] values alike = absurd (let count = alike.count in omega (arith, count))
+attributes_alike section (d ∷ ds) (c ∷ cs) [] alike = refl
+attributes_alike section (d ∷ ds) (c ∷ cs) (v ∷ vs) alike =
+    let count = alike.count in
+    let name : d.name ≡ c.name = sym (alike.each 0 (omega arith)) in
+    let rest : attributes_of section ds vs ≡ attributes_of section cs vs = attributes_alike section ds cs vs (record { count = omega (arith, count); each = λ j inside. alike.each (suc j) (omega arith) }) in
+    ap (λ (n : ℕ). (n, meant_in section v) ∷ attributes_of section ds vs) name ∙ ap (λ (z : List (ℕ × Meaning)). (c.name, meant_in section v) ∷ z) rest
+
+-- an attribute of an entry is the old one, with the new number of its value
+pub record IsMovedAttribute (r : Linkable) (places : List Places) (new_places : NewPlaces) (u id : ℕ) (old new : ℕ × Meaning) : Type 0 where
+  pub name : new.0 ≡ old.0
+  pub number : ℕ
+  pub numbered : IsNewNumber r places new_places u id old.0 old.1 number
+  pub value : new.1 ≡ with_number number old.1
+
+-- what an entry of a unit says
+abbrev pub says : Linkable → ℕ → Entry → Described
+says t u = described_by (unit_at t u).forest.section (declarations (unit_at t u)) (unit_at t u).forest.values
+
+module _ {file : List ℕ} {world : World} {tables : List NewTable} {places : List Places} {new_places : NewPlaces} {info abbrevs : List ℕ} {r s : Reading} (all : AreReadAnew file world tables places new_places info abbrevs r s) where
+  abbrev Moves : ℕ → ℕ → ℕ × Meaning → ℕ × Meaning → Type 0
+  Moves u id = IsMovedAttribute r.links places new_places u id
+
+  by_columns : (u id : ℕ) → u < length r.links.units → id < length (unit_at r.links u).forest.entries → AllZip (Moves u id) (attributes_of (unit_at r.links u).forest.section (declaration_of (unit_at r.links u) id).columns (values_of (unit_at r.links u) id)) (attributes_of (unit_at s.links u).forest.section (declaration_of (unit_at r.links u) id).columns (new_values all u id))
+  by_columns u id inside known =
+      let m = moved all u inside in
+      let e : Entry = entry_of (unit_at r.links u) id in
+      let old : List ℕ = (unit_at r.links u).forest.section in
+      let columns : List Spec = (declaration_of (unit_at r.links u) id).columns in
+      let values : List Value = values_of (unit_at r.links u) id in
+      let stands = stands_in all u id inside known in
+      let number : ℕ → Meaning → Meaning = λ k meaning. with_number (slice_index m.numbers.held.items (e.first + k)) meaning in
+      let size : length (new_values all u id) ≡ length values = as_many (unit_at r.links u).forest.values (unit_at s.links u).forest.values e.first e.count m.values.count in
+      attributes_move (Moves u id) old (unit_at s.links u).forest.section columns values stands.values_at number (λ before c after evs v more place is_columns is_values valued. record { name = refl; number = slice_index m.numbers.held.items (e.first + length evs); numbered = m.numbered.each id (e.first + length evs) c.name (meant_in old v) place (has_value all u id inside known stands before c after evs v more place is_columns is_values valued); value = refl }) [] columns [] values (new_values all u id) 0 stands.values_at (e.at + e.len) refl refl refl refl stands.valued size (λ k k_in. values_mean all u id inside k k_in ∙ ap (λ (z : ℕ). number z (meant_in old (value_at values k))) (omega arith))
+
+  pub attributes_moved : (u id : ℕ) → u < length r.links.units → id < length (unit_at r.links u).forest.entries → AllZip (IsMovedAttribute r.links places new_places u id) (says r.links u (entry_of (unit_at r.links u) id)).attributes (says s.links u (entry_of (unit_at s.links u) id)).attributes
+  attributes_moved u id inside known =
+      let olds : List (ℕ × Meaning) = (says r.links u (entry_of (unit_at r.links u) id)).attributes in
+      let section : List ℕ = (unit_at s.links u).forest.section in
+      let columns : List Spec = (declaration_of (unit_at r.links u) id).columns in
+      let by_values : AllZip (Moves u id) olds (attributes_of section columns (values_of (unit_at s.links u) id)) =
+      subst (λ (z : List Value). AllZip (Moves u id) olds (attributes_of section columns z)) (sym (values_are all u id inside known)) (by_columns u id inside known) in
+      subst (AllZip (Moves u id) olds) (attributes_alike section columns (declaration_of (unit_at s.links u) id).columns (values_of (unit_at s.links u) id) (same_declared all u id inside known).named) by_values

@@ -1,0 +1,15 @@
+-- What inner functions and proofs need, and no public clause says.
+pub mod Anew
+pub mod Appended
+pub mod Bodies
+pub mod Columns
+pub mod Counting
+pub mod Follows
+pub mod Held
+pub mod NewPlaces
+pub mod Numbers
+pub mod Placed
+pub mod Rewritten
+pub mod Sections
+pub mod Tables
+pub mod Units

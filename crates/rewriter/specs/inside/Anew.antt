@@ -1,0 +1,41 @@
+-- What the new sections of a file mean.
+use Rattle.std.specs.Prelude.{◌≡◌, ◌<◌, ℕ, List, length, slice_index}
+use Rattle.line_write.specs.Meaning.{ProgramMeaning, HaveMeanings}
+use Rattle.companions.specs.Aranges.{IsOutside, SetsTile}
+use Rattle.unit_write.specs.declared.places.Places.{Places}
+use Rattle.value_links.specs.Sections.{debug_line, debug_aranges}
+use Rattle.value_links.specs.Reading.{Linkable, Reading, line_heads, unit_starts, program_at, AreProgramsIn}
+use Rattle.value_links.specs.Laws.{HaveFewRows}
+use Rattle.value_links.specs.World.{World}
+use Rattle.rewriter.specs.declared.tables.NewTable.{NewTable}
+use Rattle.rewriter.specs.declared.new_places.NewPlaces.{NewPlaces}
+use Rattle.rewriter.specs.declared.sections.NewSections.{NewSections}
+use Rattle.rewriter.specs.inside.Tables.{AreTablesWritten}
+use Rattle.rewriter.specs.inside.Units.{AreUnitsWritten}
+
+-- The programs of the new section begin at their new places, give few rows, and mean what the old ones mean, one by one.
+pub record AreProgramsAnew (old_lines : List ℕ) (r s : Linkable) (lines : List ℕ) (new_places : NewPlaces) : Type 0 where
+  pub read : AreProgramsIn lines s.programs
+  pub few : HaveFewRows s.programs
+  pub count : length s.programs ≡ length r.programs
+  pub places : (p : ℕ) → p < length r.programs → (program_at s p).head.at ≡ slice_index new_places.programs.items p
+  pub means : (meanings : List ProgramMeaning) → HaveMeanings old_lines (line_heads r.programs) meanings → HaveMeanings lines (line_heads s.programs) meanings
+
+-- The sets of the new section name the units where they stand now, and no other byte differs.
+pub record AreSetsAnew (old : List ℕ) (r s : Reading) (new : List ℕ) : Type 0 where
+  pub same : s.sets ≡ r.sets
+  pub tiled : SetsTile new (unit_starts s.links.units) s.sets
+  pub size : length new ≡ length old
+  pub bytes : (k : ℕ) → IsOutside r.sets k → slice_index new k ≡ slice_index old k
+
+-- What is read of the new sections of a file, of which so much was read.
+pub record AreAnew (file : List ℕ) (world : World) (r s : Reading) (new : NewSections) : Type 0 where
+  pub tables : List NewTable
+  pub places : List Places
+  pub new_places : NewPlaces
+  pub tables_written : AreTablesWritten world new.abbrevs.items tables
+  pub programs : AreProgramsAnew (debug_line file) r.links s.links new.lines.items new_places
+  pub addresses : s.links.addresses ≡ r.links.addresses
+  pub contexts : s.links.contexts ≡ r.links.contexts
+  pub units : AreUnitsWritten world r.links tables places new_places new.info.items new.abbrevs.items s.links.units
+  pub sets : AreSetsAnew (debug_aranges file) r s new.aranges.items

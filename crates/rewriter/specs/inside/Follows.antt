@@ -1,0 +1,35 @@
+-- A file that is written anew means what the old one means: laws of its units.
+use Rattle.std.specs.Prelude.{◌≡◌, ◌<◌, ℕ, List, length, slice_index}
+use Rattle.unit_write.specs.declared.places.Places.{Places}
+use Rattle.value_links.specs.Reading.{Linkable, Reading, program_at}
+use Rattle.value_links.specs.Whole.{IsReading}
+use Rattle.value_links.specs.Debug.{UnitMeaning, MeanUnits}
+use Rattle.value_links.specs.Laws.{HasNoUnread}
+use Rattle.value_links.specs.World.{World, Holds}
+use Rattle.rewriter.specs.declared.tables.NewTable.{NewTable}
+use Rattle.rewriter.specs.declared.new_places.NewPlaces.{NewPlaces}
+use Rattle.rewriter.specs.inside.Tables.{AreTablesWritten}
+use Rattle.rewriter.specs.inside.Units.{AreUnitsWritten}
+
+-- there are as many line number programs, and they begin at their new places
+pub record AreProgramsMoved (r s : Linkable) (new_places : NewPlaces) : Type 0 where
+  pub count : length s.programs ≡ length r.programs
+  pub places : (p : ℕ) → p < length r.programs → (program_at s p).head.at ≡ slice_index new_places.programs.items p
+
+-- What was read of a file, and what is read of the sections that are written anew for it.
+pub record AreReadAnew (file : List ℕ) (world : World) (tables : List NewTable) (places : List Places) (new_places : NewPlaces) (info abbrevs : List ℕ) (r s : Reading) : Type 0 where
+  pub read : IsReading file r
+  pub holds : Holds file world r
+  pub tables_written : AreTablesWritten world abbrevs tables
+  pub units : AreUnitsWritten world r.links tables places new_places info abbrevs s.links.units
+  pub programs : AreProgramsMoved r.links s.links new_places
+
+-- The units mean the same, with their entries and all values.
+abbrev pub LinksFollow : Type 0
+LinksFollow =
+    (file : List ℕ) (world : World) (tables : List NewTable) (places : List Places) (new_places : NewPlaces) (info abbrevs : List ℕ) (r s : Reading) (units : List UnitMeaning) → AreReadAnew file world tables places new_places info abbrevs r s → MeanUnits r units → MeanUnits s units
+
+-- And no value waits for a later version where none did.
+abbrev pub NoneIsUnread : Type 0
+NoneIsUnread =
+    (file : List ℕ) (world : World) (tables : List NewTable) (places : List Places) (new_places : NewPlaces) (info abbrevs : List ℕ) (r s : Reading) → AreReadAnew file world tables places new_places info abbrevs r s → HasNoUnread r.links → HasNoUnread s.links

@@ -1,0 +1,164 @@
+-- What parts of the rewriter of units know of a file that is held, and of what they have made of it.
+use Rattle.std.specs.Prelude.{◌≡◌, ◌≢◌, ◌≤◌, ◌<◌, ◌+◌, ◌^◌, ℕ, List, length, slice_index, take, Some}
+use Rattle.std.specs.List.{All}
+use Rattle.form_codec.specs.declared.value.Value.{Value}
+use Rattle.form_codec.specs.declared.value.Value.TheVariants as value
+use Rattle.form_codec.specs.Values.{meant_in}
+use Rattle.abbrev_tables.specs.Tables.{Declared}
+use Rattle.abbrev_tables.specs.Listings.{Listing, decl_at, spec_at}
+use Rattle.entry_arena.specs.declared.entry.Entry.{Entry}
+use Rattle.entry_arena.specs.Arena.{Arena, entry_at, value_at}
+use Rattle.fixed_width.specs.InitialLengths.{least_reserved}
+use Rattle.entry_read.specs.Heads.{type_unit}
+use Rattle.entry_read.specs.Units.{HeadAndForest}
+use Rattle.unit_write.specs.declared.places.Places.{Places}
+use Rattle.unit_write.specs.declared.write.NewNumbers.{NewNumbers}
+use Rattle.unit_write.specs.Placing.{IsRenumbered}
+use Rattle.unit_write.specs.Moved.{IsWrittenAnew}
+use Rattle.value_links.specs.Reading.{Reading, unit_at}
+use Rattle.value_links.specs.declared.link.Link.{Link}
+use Rattle.value_links.specs.Linked.{Linked, Links}
+use Rattle.value_links.specs.Links.{IsLinkFound}
+use Rattle.value_links.specs.World.{World, table_at, Holds}
+use Rattle.rewriter.specs.declared.tables.NewTable.{NewTable}
+use Rattle.rewriter.specs.declared.new_places.NewPlaces.{NewPlaces}
+use Rattle.rewriter.specs.inside.Tables.{new_table_at}
+use Rattle.rewriter.specs.inside.Placed.{PlacesAnew, places_anew, places_at, unit_in, IsPlacedBy, PlacesFollow}
+use Rattle.rewriter.specs.inside.Numbers.{MovesEntry, IsNewNumber, AreNewNumbers}
+
+-- the unit with a number has a table, which is also written anew
+pub record HasTable (world : World) (tables : List NewTable) (u : ℕ) : Type 0 where
+  pub known : u < length world.units
+  pub numbered : u < length world.table_of
+  pub old : slice_index world.table_of u < length world.tables
+  pub new : slice_index world.table_of u < length tables
+
+-- the unit with a number stands at these places, from this one on
+pub record IsPlacedFrom (world : World) (tables : List NewTable) (u start : ℕ) (places : Places) : Type 0 where
+  pub begins : places.start ≡ start
+  pub placed : IsPlacedBy world tables u (places_anew places)
+  pub fits : places.end < least_reserved
+
+-- each entry and each code 0 of a unit has a place, which isn't before the unit
+pub record HavePlaces (f : Arena) (places : PlacesAnew) : Type 0 where
+  pub entries : length places.entries ≡ length f.entries
+  pub ends : length places.ends ≡ length f.ends
+  pub entries_after : (k : ℕ) → k < length places.entries → places.start ≤ slice_index places.entries k
+  pub ends_after : (k : ℕ) → k < length places.ends → places.start ≤ slice_index places.ends k
+
+-- this holds of each unit
+pub record AllHavePlaces (world : World) (places : List Places) : Type 0 where
+  pub count : length places ≡ length world.units
+  pub each : (u : ℕ) → u < length world.units → HavePlaces (unit_in world.units u).forest (places_at places u)
+
+-- each line number program has a new place, which fits 32 bits
+pub record AreNewPlaces (world : World) (new_places : NewPlaces) : Type 0 where
+  pub programs : length new_places.programs.items ≡ length world.programs
+  pub programs_fit : All (λ (start : ℕ). start < 2 ^ 32) new_places.programs.items
+
+-- a section offset has the 4 bytes of the 32-bit format (DWARF 5 section 7.4)
+abbrev pub FitsOffset : Value → Type 0
+FitsOffset (value.Offset n) = n < 2 ^ 32
+FitsOffset other = Unit {0}
+
+-- something that is read of the file says what the value of an attribute refers to
+pub record MeansSomething (world : World) (u name : ℕ) (v : Value) : Type 0 where
+  pub file : List ℕ
+  pub r : Reading
+  pub holds : Holds file world r
+  pub id : ℕ
+  pub linked : Linked
+  pub links : Links r.links u id name (meant_in (unit_at r.links u).forest.section v) linked
+  pub fits : FitsOffset v
+
+-- such a value has this link, whichever entry of the unit it is of
+abbrev pub IsLinkFor : World → ℕ → ℕ → Value → Link → Type 0
+IsLinkFor world u name v link =
+    (file : List ℕ) (r : Reading) (id : ℕ) → Holds file world r → IsLinkFound r.links u id name (meant_in (unit_at r.links u).forest.section v) (Some link)
+
+-- and this new number
+abbrev pub IsNumberOf : World → List Places → NewPlaces → ℕ → ℕ → Value → ℕ → Type 0
+IsNumberOf world places new_places u name v new =
+    (file : List ℕ) (r : Reading) (id : ℕ) → Holds file world r → IsNewNumber r.links places new_places u id name (meant_in (unit_at r.links u).forest.section v) new
+
+-- the table of a unit, an entry, the name of one of its attributes, and its value
+abbrev pub table_for : World → ℕ → Listing
+table_for world u = (table_at world.tables (slice_index world.table_of u)).table
+
+abbrev pub entry_in : World → ℕ → ℕ → Entry
+entry_in world u id = entry_at (unit_in world.units u).forest.entries id
+
+abbrev pub name_in : World → ℕ → ℕ → ℕ → ℕ
+name_in world u id column = (spec_at (table_for world u).specs ((decl_at (table_for world u).decls (entry_in world u id).decl).first + column)).name
+
+abbrev pub value_in : World → ℕ → ℕ → ℕ → Value
+value_in world u id column = value_at (unit_in world.units u).forest.values ((entry_in world u id).first + column)
+
+-- The entry is there with its declaration, its columns and its values, and each of these means something.
+pub record EntryMeans (world : World) (u id : ℕ) : Type 0 where
+  pub unit : u < length world.units
+  pub numbered : u < length world.table_of
+  pub table : slice_index world.table_of u < length world.tables
+  pub entry : id < length (unit_in world.units u).forest.entries
+  pub declared : (entry_in world u id).decl < length (table_for world u).decls
+  pub counted : (entry_in world u id).count ≡ (decl_at (table_for world u).decls (entry_in world u id).decl).count
+  pub columns : (decl_at (table_for world u).decls (entry_in world u id).decl).first + (entry_in world u id).count ≤ length (table_for world u).specs
+  pub values : (entry_in world u id).first + (entry_in world u id).count ≤ length (unit_in world.units u).forest.values
+  pub means : (column : ℕ) → column < (entry_in world u id).count → MeansSomething world u (name_in world u id column) (value_in world u id column)
+
+-- Numbers for the first columns of an entry follow others.
+pub record AreNumbersUpTo (world : World) (places : List Places) (new_places : NewPlaces) (u id : ℕ) (old new : List ℕ) (count : ℕ) : Type 0 where
+  pub size : length new ≡ length old + count
+  pub front : (k : ℕ) → k < length old → slice_index new k ≡ slice_index old k
+  pub fit : (k : ℕ) → length old ≤ k → k < length new → slice_index new k < 2 ^ 32
+  pub each : (column : ℕ) → column < count → IsNumberOf world places new_places u (name_in world u id column) (value_in world u id column) (slice_index new (length old + column))
+
+abbrev pub AreNumbersOf : World → List Places → NewPlaces → ℕ → ℕ → List ℕ → List ℕ → Type 0
+AreNumbersOf world places new_places u id old new = AreNumbersUpTo world places new_places u id old new (entry_in world u id).count
+
+-- Each value is one of an entry, and the entries have them one after the other.
+pub record HaveAllValues (f : Arena) : Type 0 where
+  pub some : 0 < length f.entries
+  pub first : (entry_at f.entries 0).first ≡ 0
+  pub adjacent : (id : ℕ) → id + 1 < length f.entries → (entry_at f.entries (id + 1)).first ≡ (entry_at f.entries id).first + (entry_at f.entries id).count
+  pub last : (id : ℕ) → id + 1 ≡ length f.entries → (entry_at f.entries id).first + (entry_at f.entries id).count ≡ length f.values
+
+-- all entries of a unit are there, with values that mean something
+pub record UnitMeans (world : World) (u : ℕ) : Type 0 where
+  pub known : u < length world.units
+  pub values : HaveAllValues (unit_in world.units u).forest
+  pub entries : (id : ℕ) → id < length (unit_in world.units u).forest.entries → EntryMeans world u id
+
+-- the new numbers of the values of the first entries
+pub record AreNumberedUpTo (world : World) (places : List Places) (new_places : NewPlaces) (u : ℕ) (held : List ℕ) (count : ℕ) : Type 0 where
+  pub size : (count < length (unit_in world.units u).forest.entries → length held ≡ (entry_in world u count).first) × (count ≡ length (unit_in world.units u).forest.entries → length held ≡ length (unit_in world.units u).forest.values)
+  pub fit : (k : ℕ) → k < length held → slice_index held k < 2 ^ 32
+  pub inside : (id : ℕ) → id < count → (entry_in world u id).first + (entry_in world u id).count ≤ length held
+  pub each : (id column : ℕ) → id < count → column < (entry_in world u id).count → IsNumberOf world places new_places u (name_in world u id column) (value_in world u id column) (slice_index held ((entry_in world u id).first + column))
+
+abbrev pub AreNumbered : World → List Places → NewPlaces → ℕ → List ℕ → Type 0
+AreNumbered world places new_places u held = AreNumberedUpTo world places new_places u held (length (unit_in world.units u).forest.entries)
+
+-- The entry of a type unit's type stands in the unit.
+abbrev pub HasType : HeadAndForest → Type 0
+HasType unit =
+    unit.head.kind ≡ type_unit → (id : ℕ) × (id < length unit.forest.entries) × ((entry_at unit.forest.entries id).at ≡ unit.head.at + unit.head.type_at)
+
+-- the new type_offset of a unit
+pub record IsTypeMoved (unit : HeadAndForest) (places : PlacesAnew) (new : ℕ) : Type 0 where
+  pub entry : unit.head.kind ≡ type_unit → MovesEntry unit.forest places (unit.head.at + unit.head.type_at) (places.start + new)
+  pub none : unit.head.kind ≢ type_unit → new ≡ 0
+  pub fits : new < 2 ^ 32
+
+-- The unit with a number stands anew at the end of a section, with its new numbers.
+pub record IsUnitBehind (world : World) (tables : List NewTable) (places : List Places) (new_places : NewPlaces) (u : ℕ) (section : List ℕ) : Type 0 where
+  pub numbers : NewNumbers
+  pub numbered : (file : List ℕ) (r : Reading) → Holds file world r → AreNewNumbers world r.links tables places new_places u numbers
+  pub written : (ds : List Declared) → IsRenumbered (table_for world u) (new_table_at tables (slice_index world.table_of u)).columns (new_table_at tables (slice_index world.table_of u)).numbers ds → IsWrittenAnew (unit_in world.units u) (table_for world u) (new_table_at tables (slice_index world.table_of u)).columns (new_table_at tables (slice_index world.table_of u)).numbers ds numbers.table numbers.type_offset numbers.held.items (places_at places u).start section
+
+-- The first units stand anew in a section, each at its place.
+pub record StandAnew (world : World) (tables : List NewTable) (places : List Places) (new_places : NewPlaces) (section : List ℕ) (count : ℕ) : Type 0 where
+  pub size : (count < length world.units → length section ≡ (places_at places count).start) × (count ≡ length world.units → PlacesFollow places 0 (length section))
+  pub fits : length section < least_reserved
+  pub inside : (u : ℕ) → u < count → (places_at places u).end ≤ length section
+  pub each : (u : ℕ) → u < count → IsUnitBehind world tables places new_places u (take (places_at places u).end section)

@@ -1,0 +1,57 @@
+-- The new numbers of a unit's references and section offsets: each is that of the new place of what the old one names.
+use Rattle.std.specs.Prelude.{◌≡◌, ◌≢◌, ◌<◌, ◌+◌, ◌^◌, ◌⊎◌, ℕ, List, length, slice_index}
+use Rattle.std.specs.List.{All}
+use Rattle.form_codec.specs.Forms.{Meaning}
+use Rattle.form_codec.specs.Forms.Meaning.{InUnit, InSection, SectionPlace}
+use Rattle.entry_arena.specs.Arena.{Arena, entry_at, chain_end_at}
+use Rattle.entry_read.specs.Heads.{type_unit}
+use Rattle.unit_write.specs.declared.places.Places.{Places}
+use Rattle.unit_write.specs.declared.write.NewNumbers.{NewNumbers}
+use Rattle.value_links.specs.Reading.{Linkable, unit_at}
+use Rattle.value_links.specs.Values.{HasValueAt}
+use Rattle.value_links.specs.World.{World}
+use Rattle.rewriter.specs.declared.tables.NewTable.{NewTable}
+use Rattle.rewriter.specs.declared.new_places.NewPlaces.{NewPlaces}
+use Rattle.rewriter.specs.inside.Tables.{new_table_at}
+use Rattle.rewriter.specs.inside.Placed.{PlacesAnew, places_at}
+use Rattle.rewriter.specs.inside.NewPlaces.{IsOffsetAnew}
+
+-- an entry that stands at an old place stands at a new one
+pub record MovesEntry (f : Arena) (places : PlacesAnew) (old new : ℕ) : Type 0 where
+  pub id : ℕ
+  pub inside : id < length f.entries
+  pub from : (entry_at f.entries id).at ≡ old
+  pub to : slice_index places.entries id ≡ new
+
+-- likewise a code 0
+pub record MovesEnd (f : Arena) (places : PlacesAnew) (old new : ℕ) : Type 0 where
+  pub number : ℕ
+  pub inside : number < length f.ends
+  pub from : (chain_end_at f.ends number).at ≡ old
+  pub to : slice_index places.ends number ≡ new
+
+abbrev pub MovesTo : Arena → PlacesAnew → ℕ → ℕ → Type 0
+MovesTo f places old new = MovesEntry f places old new ⊎ MovesEnd f places old new
+
+-- The new number of the value of an attribute with a name, in an entry `id` of the unit `u`. `places` are those of all units, and
+-- `new_places` those of what section offsets name.
+abbrev pub IsNewNumber : Linkable → List Places → NewPlaces → ℕ → ℕ → ℕ → Meaning → ℕ → Type 0
+IsNewNumber r places new_places u id name (InUnit n) new = MovesTo (unit_at r u).forest (places_at places u) ((unit_at r u).head.at + n) ((places_at places u).start + new)
+IsNewNumber r places new_places u id name (InSection n) new = (unit : ℕ) × (unit < length r.units) × MovesTo (unit_at r unit).forest (places_at places unit) n new
+IsNewNumber r places new_places u id name (SectionPlace n) new = IsOffsetAnew r new_places u id name n new
+IsNewNumber r places new_places u id name meaning new = Unit {0}
+
+-- the new type_offset of a type unit, and 0 for another unit
+pub record IsNewType (r : Linkable) (places : PlacesAnew) (u new : ℕ) : Type 0 where
+  pub entry : (unit_at r u).head.kind ≡ type_unit → MovesEntry (unit_at r u).forest places ((unit_at r u).head.at + (unit_at r u).head.type_at) (places.start + new)
+  pub none : (unit_at r u).head.kind ≢ type_unit → new ≡ 0
+
+-- the new numbers of the unit with a number, each of which fits 32 bits
+pub record AreNewNumbers (world : World) (r : Linkable) (tables : List NewTable) (places : List Places) (new_places : NewPlaces) (u : ℕ) (new : NewNumbers) : Type 0 where
+  pub ends : new.end ≡ (places_at places u).end
+  pub table_at : new.table ≡ (new_table_at tables (slice_index world.table_of u)).at
+  pub type_at : IsNewType r (places_at places u) u new.type_offset
+  pub type_fits : new.type_offset < 2 ^ 32
+  pub count : length new.held.items ≡ length (unit_at r u).forest.values
+  pub fit : All (λ (number : ℕ). number < 2 ^ 32) new.held.items
+  pub each : (id number name : ℕ) (meaning : Meaning) (place : ℕ) → HasValueAt (unit_at r u) id number name meaning place → IsNewNumber r places new_places u id name meaning (slice_index new.held.items number)

@@ -1,0 +1,48 @@
+-- Where the units of a file, their entries and the codes 0 that end chains stand in the new .debug_info.
+use Rattle.std.specs.Prelude.{◌≡◌, ◌<◌, ℕ, List, [], ◌∷◌, length, slice_index, slice_index_or, map}
+use Rattle.fixed_width.specs.InitialLengths.{least_reserved}
+use Rattle.entry_read.specs.Units.{HeadAndForest}
+use Rattle.unit_write.specs.declared.places.Places.{Places}
+use Rattle.unit_write.specs.Moved.{IsWritable, IsPlacedAt}
+use Rattle.value_links.specs.World.{World, table_at}
+use Rattle.rewriter.specs.declared.tables.NewTable.{NewTable}
+use Rattle.rewriter.specs.inside.Tables.{new_table_at}
+
+-- the places of a unit: where it begins, its entries, its codes 0, and where it ends
+pub record PlacesAnew : Type 0 where
+  pub start : ℕ
+  pub entries : List ℕ
+  pub ends : List ℕ
+  pub end : ℕ
+
+abbrev pub places_anew : Places → PlacesAnew
+places_anew places = record { start = places.start; entries = places.entries.items; ends = places.ends.items; end = places.end }
+
+-- those of the unit with a number; past the end there are none
+abbrev pub places_at : List Places → ℕ → PlacesAnew
+places_at places u = slice_index_or (map places_anew places) u (record { start = 0; entries = []; ends = []; end = 0 })
+
+abbrev pub unit_in : List HeadAndForest → ℕ → HeadAndForest
+unit_in units u = slice_index_or units u (record { head = record { at = 0; len = 0; kind = 0; table = 0; extra = 0; type_at = 0 }; forest = record { section = []; entries = []; values = []; ends = [] } })
+
+-- the unit stands at these places, by the new columns and numbers of its table
+abbrev pub IsPlacedBy : World → List NewTable → ℕ → PlacesAnew → Type 0
+IsPlacedBy world tables u places =
+    IsPlacedAt (unit_in world.units u) (table_at world.tables (slice_index world.table_of u)).table (new_table_at tables (slice_index world.table_of u)).columns (new_table_at tables (slice_index world.table_of u)).numbers places.start places.entries places.ends places.end
+
+-- units stand one after the other, from a place up to another
+abbrev pub PlacesFollow : List Places → ℕ → ℕ → Type 0
+PlacesFollow [] at end = at ≡ end
+PlacesFollow (unit ∷ units) at end = (unit.start ≡ at) × PlacesFollow units unit.end end
+
+-- the units of the world stand at these places, which fill a section of so many bytes
+pub record ArePlacesOf (world : World) (tables : List NewTable) (places : List Places) (size : ℕ) : Type 0 where
+  pub count : length places ≡ length world.units
+  pub follow : PlacesFollow places 0 size
+  pub small : size < least_reserved
+  pub each : (u : ℕ) → u < length world.units → IsPlacedBy world tables u (places_at places u)
+
+-- each unit of the world can be written by the new columns and numbers of its table
+abbrev pub AreWritable : World → List NewTable → Type 0
+AreWritable world tables =
+    (u : ℕ) → u < length world.units → IsWritable (unit_in world.units u) (table_at world.tables (slice_index world.table_of u)).table (new_table_at tables (slice_index world.table_of u)).columns (new_table_at tables (slice_index world.table_of u)).numbers

@@ -1,0 +1,4 @@
+-- What inner functions and proofs need, and no public clause says.
+pub mod Ending
+pub mod Run
+pub mod Said

@@ -1,0 +1,4 @@
+-- What inner functions and proofs need, and no public clause says.
+pub mod Most
+pub mod Puts
+pub mod Readings

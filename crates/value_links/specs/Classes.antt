@@ -1,0 +1,71 @@
+-- What is least in a file that is written anew for another, by what is read of both; and, apart from that, which of several least
+-- choices is written.
+use Rattle.std.specs.Prelude.{◌≡◌, ◌<◌, ℕ, List, length, map, slice_index}
+use Rattle.leb_codec.specs.Numbering.{IsLeastNumbering, RiseByFallingUses, AreFirstNumbers}
+use Rattle.form_codec.specs.Forms.{Meaning}
+use Rattle.abbrev_tables.specs.declared.decl.Spec.{Spec}
+use Rattle.abbrev_tables.specs.Listings.{spec_at}
+use Rattle.abbrev_tables.specs.LeastColumns.{IsLeastColumn, IsFirstColumn}
+use Rattle.value_links.specs.Reading.{Linkable, Reading, unit_at}
+use Rattle.value_links.specs.Whole.{IsReading}
+use Rattle.value_links.specs.Values.{entry_of, declaration_of}
+use Rattle.value_links.specs.World.{head_and_forest, named_by}
+use Rattle.value_links.specs.Uses.{AreUses, column_meanings}
+
+-- both files are read, and this holds of what is read of them
+abbrev pub OfBoth : (Linkable → Linkable → Type 0) → List ℕ → List ℕ → Type 0
+OfBoth Holds file written = (r : Reading) × (s : Reading) × IsReading file r × IsReading written s × Holds r.links s.links
+
+-- CODES
+
+-- The entries of all units that name the table at a place have codes in the written file by the numbers of their declarations in
+-- this table.
+abbrev pub HaveCodes : Linkable → Linkable → ℕ → List ℕ → Type 0
+HaveCodes r s place numbers =
+    (u id : ℕ) → u < length r.units → (unit_at r u).head.table ≡ place → id < length (unit_at r u).forest.entries → (declaration_of (unit_at s u) id).code ≡ slice_index numbers (entry_of (unit_at r u) id).decl
+
+-- The codes of a unit's table take the least bytes: they are a least numbering of its declarations, by how many entries of all
+-- units that name the table have each.
+pub record HasLeastCodes (r s : Linkable) (u : ℕ) : Type 0 where
+  pub uses : List ℕ
+  pub used : AreUses (map head_and_forest r.units) (named_by (unit_at r u)) uses
+  pub numbers : List ℕ
+  pub codes : HaveCodes r s (unit_at r u).head.table numbers
+  pub least : IsLeastNumbering uses numbers
+
+-- They are the numbers from 1 on, by falling uses and then by place.
+pub record HasOrderedCodes (r s : Linkable) (u : ℕ) : Type 0 where
+  pub uses : List ℕ
+  pub used : AreUses (map head_and_forest r.units) (named_by (unit_at r u)) uses
+  pub numbers : List ℕ
+  pub codes : HaveCodes r s (unit_at r u).head.table numbers
+  pub first : AreFirstNumbers uses numbers
+  pub order : RiseByFallingUses uses numbers
+
+-- this holds of all units
+abbrev pub HaveLeastCodes : List ℕ → List ℕ → Type 0
+HaveLeastCodes = OfBoth (λ r s. (u : ℕ) → u < length r.units → HasLeastCodes r s u)
+
+abbrev pub HaveOrderedCodes : List ℕ → List ℕ → Type 0
+HaveOrderedCodes = OfBoth (λ r s. (u : ℕ) → u < length r.units → HasOrderedCodes r s u)
+
+-- COLUMNS
+
+-- The relation holds of each column of the declaration of an entry, of what its values mean, and of the column in the written file.
+-- The values are those of all entries with the declaration, over all units that name its table. Both files' declarations have their
+-- columns in one order.
+pub record HasColumns (Holds : Spec → List Meaning → Spec → Type 0) (r s : Linkable) (u id : ℕ) : Type 0 where
+  pub count : length (declaration_of (unit_at s u) id).columns ≡ length (declaration_of (unit_at r u) id).columns
+  pub each : (j : ℕ) → j < length (declaration_of (unit_at r u) id).columns → Holds (spec_at (declaration_of (unit_at r u) id).columns j) (column_meanings (map head_and_forest r.units) (unit_at r u).head.table (entry_of (unit_at r u) id).decl j) (spec_at (declaration_of (unit_at s u) id).columns j)
+
+-- this holds of all entries
+abbrev pub HaveColumns : (Spec → List Meaning → Spec → Type 0) → Linkable → Linkable → Type 0
+HaveColumns Holds r s = (u id : ℕ) → u < length r.units → id < length (unit_at r u).forest.entries → HasColumns Holds r s u id
+
+-- Each column is in a least form. A column of references to entries keeps its form.
+abbrev pub HaveLeastColumns : List ℕ → List ℕ → Type 0
+HaveLeastColumns = OfBoth (HaveColumns IsLeastColumn)
+
+-- No least form comes before its own. Columns of references are left out.
+abbrev pub HaveFirstColumns : List ℕ → List ℕ → Type 0
+HaveFirstColumns = OfBoth (HaveColumns IsFirstColumn)

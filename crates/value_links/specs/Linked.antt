@@ -1,0 +1,82 @@
+-- What the values of attributes refer to (DWARF 5 sections 2.3, 7.5.4 and 7.5.5). What a value means is said apart from that, since
+-- a list is read only once it is known which values name it.
+use Rattle.std.specs.Prelude.{◌≡◌, ◌<◌, ◌+◌, ℕ, length}
+use Rattle.form_codec.specs.Forms.{Meaning}
+use Rattle.form_codec.specs.Forms.Meaning.{InUnit, InSection, SectionPlace, LocationList, RangeList}
+use Rattle.entry_arena.specs.declared.entry.Target.{Target}
+use Rattle.entry_arena.specs.declared.entry.Target.TheVariants.{Entry as TheEntry, ChainEnd as TheEnd}
+use Rattle.entry_arena.specs.Arena.{Arena, IsEntryAt, IsChainEndAt}
+use Rattle.value_links.specs.Attributes.{OffsetClass, offset_class}
+use Rattle.value_links.specs.Attributes.OffsetClass.{LinePtr, RngList, LocList, RngListsPtr, LocListsPtr, AddrPtr, StrOffsetsPtr, MacPtr, Views, NoOffset}
+use Rattle.value_links.specs.Reading.{Linkable, program_at, unit_at}
+use Rattle.value_links.specs.Values.{HasValueAt}
+
+-- What a value refers to: itself; an entry, or the end of the children of an entry, in the unit with a
+-- number; the number of a line number program; or a section offset that is kept as the number that it is. Units, entries and
+-- programs are numbered from 0 in their order.
+pub data Linked : Type 0 where
+  Itself : Meaning → Linked
+  Refers : ℕ → Target → Linked
+  Program : ℕ → Linked
+  Kept : ℕ → Linked
+
+-- REFERENCES
+
+-- an entry, or the code 0 that ends the children of an entry, stands at a place
+abbrev pub IsTargetAt : Arena → Target → ℕ → Type 0
+IsTargetAt forest (TheEntry id) place = IsEntryAt forest id place
+IsTargetAt forest (TheEnd id) place = IsChainEndAt forest id place
+
+-- a local reference counts from the first byte of its unit, and its target stands in that unit
+abbrev pub IsLocalTarget : Linkable → ℕ → ℕ → Target → Type 0
+IsLocalTarget r u n target = IsTargetAt (unit_at r u).forest target ((unit_at r u).head.at + n)
+
+-- DW_FORM_ref_addr counts from the first byte of .debug_info, and its target stands in any unit
+abbrev pub IsSectionTarget : Linkable → ℕ → ℕ → Target → Type 0
+IsSectionTarget r n unit target = (unit < length r.units) × IsTargetAt (unit_at r unit).forest target n
+
+-- the entry that type_offset of a type unit names, which counts from the first byte of the unit (DWARF 5 section 7.5.1.3)
+abbrev pub IsTypeEntry : Linkable → ℕ → ℕ → Type 0
+IsTypeEntry r u id = IsEntryAt (unit_at r u).forest id ((unit_at r u).head.at + (unit_at r u).head.type_at)
+
+-- SECTION OFFSETS
+
+-- the line number program with a number begins at a place of .debug_line
+abbrev pub IsProgramAt : Linkable → ℕ → ℕ → Type 0
+IsProgramAt r n p = (p < length r.programs) × ((program_at r p).head.at ≡ n)
+
+-- What a section offset in an entry of a unit refers to, by its class. No section has lists or view numbers yet, so that an
+-- offset of one of these, or of a table of their offsets, refers to nothing, and neither does an attribute of no class: it isn't
+-- linked at all.
+abbrev pub OffsetLinks : Linkable → ℕ → ℕ → OffsetClass → ℕ → Linked → Type 0
+OffsetLinks r u id LinePtr n linked = (p : ℕ) × IsProgramAt r n p × (linked ≡ Program p)
+OffsetLinks r u id RngList n linked = ⊥
+OffsetLinks r u id LocList n linked = ⊥
+OffsetLinks r u id RngListsPtr n linked = ⊥
+OffsetLinks r u id LocListsPtr n linked = ⊥
+OffsetLinks r u id AddrPtr n linked = linked ≡ Kept n
+OffsetLinks r u id StrOffsetsPtr n linked = linked ≡ Kept n
+OffsetLinks r u id MacPtr n linked = linked ≡ Kept n
+OffsetLinks r u id Views n linked = ⊥
+OffsetLinks r u id NoOffset n linked = ⊥
+
+-- ATTRIBUTES
+
+-- What the value of an attribute with a name refers to in an entry `id` of the unit `u`, both by their numbers.
+-- DW_FORM_loclistx and DW_FORM_rnglistx name lists, and aren't linked yet. A value of any other form is itself.
+abbrev pub Links : Linkable → ℕ → ℕ → ℕ → Meaning → Linked → Type 0
+Links r u id name (InUnit n) linked = (target : Target) × IsLocalTarget r u n target × (linked ≡ Refers u target)
+Links r u id name (InSection n) linked = (unit : ℕ) × (target : Target) × IsSectionTarget r n unit target × (linked ≡ Refers unit target)
+Links r u id name (SectionPlace n) linked = OffsetLinks r u id (offset_class name) n linked
+Links r u id name (LocationList i) linked = ⊥
+Links r u id name (RangeList i) linked = ⊥
+Links r u id name meaning linked = linked ≡ Itself meaning
+
+-- the value with a number among those of a unit's entries refers to this
+pub record IsLinked (r : Linkable) (u number : ℕ) (linked : Linked) : Type 0 where
+  pub id : ℕ
+  pub name : ℕ
+  pub meaning : Meaning
+  pub place : ℕ
+  pub stands : HasValueAt (unit_at r u) id number name meaning place
+  pub links : Links r u id name meaning linked

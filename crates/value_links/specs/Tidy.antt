@@ -1,0 +1,82 @@
+-- What .debug_abbrev and .debug_info hold of a file that is written anew for another, and that they hold nothing else.
+use Rattle.std.specs.Prelude.{◌≡◌, ◌<◌, ℕ, List, [], ◌∷◌, length, map, slice_index}
+use Rattle.std.specs.List.{All}
+use Rattle.leb_codec.specs.Numbering.{IsUsed, IsNumbering, used_count}
+use Rattle.abbrev_tables.specs.declared.decl.Spec.{Spec}
+use Rattle.abbrev_tables.specs.Tables.{Declared}
+use Rattle.abbrev_tables.specs.Listings.{Listing, IsTableAt}
+use Rattle.abbrev_tables.specs.Written.{ShortestTable}
+use Rattle.entry_arena.specs.Arena.{entry_at}
+use Rattle.entry_arena.specs.Trees.{declared_at, bytes_between, listed_to}
+use Rattle.entry_read.specs.Units.{end_of, declarations_of, IsUnit}
+use Rattle.entry_read.specs.Short.{StandsShort, EndsShort}
+use Rattle.value_links.specs.declared.units.NamedTable.{NamedTable}
+use Rattle.value_links.specs.Sections.{debug_abbrev}
+use Rattle.value_links.specs.Reading.{UnitRead, Linkable, declarations, unit_at}
+use Rattle.value_links.specs.World.{head_and_forest, table_at, AreTablesOf}
+use Rattle.value_links.specs.Uses.{AreUses}
+use Rattle.value_links.specs.Classes.{OfBoth, HaveCodes}
+
+-- TABLES
+
+-- tables stand at these places one after the other, from a place on up to the section's end
+abbrev pub TablesTile : List ℕ → List ℕ → ℕ → Type 0
+TablesTile section [] at = at ≡ length section
+TablesTile section (place ∷ places) at = (place ≡ at) × ((listing : Listing) × IsTableAt section at listing × TablesTile section places listing.end)
+
+-- the names of columns
+abbrev pub names_of : List Spec → List ℕ
+names_of columns = map (λ (column : Spec). column.name) columns
+
+-- a new declaration is an old one with another code and other forms
+pub record IsRenewed (old new : Declared) : Type 0 where
+  pub tag : new.tag ≡ old.tag
+  pub children : new.children ≡ old.children
+  pub names : names_of new.columns ≡ names_of old.columns
+
+-- The table at a place of the written file has the used declarations of an old table and no others, by rising code, and each number
+-- in its fewest bytes. Each entry has the declaration that corresponds to its own.
+pub record IsTidyTable (r s : Linkable) (section : List ℕ) (old : NamedTable) (place : ℕ) : Type 0 where
+  pub uses : List ℕ
+  pub used : AreUses (map head_and_forest r.units) old uses
+  pub numbers : List ℕ
+  pub numbered : IsNumbering uses numbers
+  pub codes : HaveCodes r s old.place numbers
+  pub listing : Listing
+  pub inside : place < length section
+  pub stands : IsTableAt section place listing
+  pub each : (i : ℕ) → IsUsed uses i → (k : ℕ) × (k < length (declarations_of listing)) × ((declared_at (declarations_of listing) k).code ≡ slice_index numbers i) × IsRenewed (declared_at (declarations_of old.table) i) (declared_at (declarations_of listing) k)
+  pub only : length (declarations_of listing) ≡ used_count uses
+  pub rising : (k l : ℕ) → k < l → l < length (declarations_of listing) → (declared_at (declarations_of listing) k).code < (declared_at (declarations_of listing) l).code
+  pub short : ShortestTable (declarations_of listing) (bytes_between section place listing.end)
+
+-- The tables are those that units of the old file name, each once, in the order of their old places, with nothing between and behind
+-- them.
+pub record AreTidyTables (r s : Linkable) (section : List ℕ) : Type 0 where
+  pub tables : List NamedTable
+  pub table_of : List ℕ
+  pub named : AreTablesOf r.units tables table_of
+  pub places : List ℕ
+  pub count : length places ≡ length tables
+  pub tiled : TablesTile section places 0
+  pub names : (u : ℕ) → u < length r.units → (unit_at s u).head.table ≡ slice_index places (slice_index table_of u)
+  pub each : (i : ℕ) → i < length tables → IsTidyTable r s section (table_at tables i) (slice_index places i)
+
+-- UNITS
+
+-- A unit is its header and its entries, each in as few bytes as its code and its values take, with one byte for each code 0 that ends
+-- a chain; and nothing follows its tree.
+pub record IsTidyUnit (unit : UnitRead) : Type 0 where
+  pub short : (id : ℕ) → id < length unit.forest.entries → StandsShort unit.forest.section (declarations unit) unit.forest.values (entry_at unit.forest.entries id)
+  pub ends : All (EndsShort unit.forest.section) unit.forest.ends
+  pub filled : IsUnit unit.forest.section unit.head (declarations unit) (listed_to unit.forest (end_of unit.head))
+
+-- THE FILE
+
+-- the tables and the units of the written file hold nothing else
+pub record AreTidy (section : List ℕ) (r s : Linkable) : Type 0 where
+  pub tables : AreTidyTables r s section
+  pub units : All IsTidyUnit s.units
+
+abbrev pub IsTidy : List ℕ → List ℕ → Type 0
+IsTidy file written = OfBoth (AreTidy (debug_abbrev written)) file written

@@ -1,0 +1,62 @@
+-- What a link says of a value, and where it is looked up in what is held.
+-- Inner functions and proofs alone need what stands here.
+use Rattle.std.specs.Prelude.{◌≡◌, ◌≢◌, ◌≤◌, ◌<◌, ◌+◌, ◌^◌, ℕ, List, length, slice_index_or, Option, Some, None}
+use Rattle.line_machine.specs.declared.head.Head.{Head}
+use Rattle.entry_arena.specs.declared.entry.Target.{Target}
+use Rattle.entry_arena.specs.Arena.{Arena}
+use Rattle.entry_arena.specs.Order.{IsInOrder}
+use Rattle.entry_read.specs.Units.{HeadAndForest}
+use Rattle.value_links.specs.declared.link.Link.{Link}
+use Rattle.value_links.specs.declared.link.Link.TheVariants.{Place, Lines, Kept as KeptPlace}
+use Rattle.value_links.specs.Attributes.{OffsetClass}
+use Rattle.value_links.specs.Attributes.OffsetClass.{LinePtr, AddrPtr, StrOffsetsPtr, MacPtr}
+use Rattle.value_links.specs.Reading.{no_program}
+use Rattle.value_links.specs.Linked.{IsTargetAt}
+use Rattle.value_links.specs.Links.{held_at}
+
+-- WHAT IS HELD
+
+-- the header of the line number program with a number; past the end there is none, and an empty one stands for it
+abbrev pub program_among : List Head → ℕ → Head
+program_among programs p = slice_index_or programs p no_program.head
+
+-- Units that numbers of 32 bits name, each of which ends no later than a later one begins, and holds its targets in order.
+pub record AreUnitsApart (units : List HeadAndForest) : Type 0 where
+  pub few : length units < 2 ^ 32
+  pub rising : (i j : ℕ) → i < j → j < length units → (held_at units i).head.at + (held_at units i).head.len ≤ (held_at units j).head.at
+  pub order : (i : ℕ) → i < length units → IsInOrder (held_at units i).forest
+  pub from : (i : ℕ) (target : Target) (place : ℕ) → i < length units → IsTargetAt (held_at units i).forest target place → (held_at units i).head.at ≤ place
+  pub to : (i : ℕ) (target : Target) (place : ℕ) → i < length units → IsTargetAt (held_at units i).forest target place → place < (held_at units i).head.at + (held_at units i).head.len
+
+-- Line number programs that numbers of 32 bits name, each of which begins before a later one.
+pub record AreProgramsApart (programs : List Head) : Type 0 where
+  pub few : length programs < 2 ^ 32
+  pub rising : (i j : ℕ) → i < j → j < length programs → (program_among programs i).at < (program_among programs j).at
+
+-- WHAT IS FOUND
+
+-- the last unit that begins at a place or before it
+abbrev pub IsLastFrom : List HeadAndForest → ℕ → Option ℕ → Type 0
+IsLastFrom units place (Some i) = (i < length units) × ((held_at units i).head.at ≤ place) × ((j : ℕ) → i < j → j < length units → place < (held_at units j).head.at)
+IsLastFrom units place None = (j : ℕ) → j < length units → place < (held_at units j).head.at
+
+-- what stands at a place of a unit
+abbrev pub IsTargetFound : Arena → ℕ → Option Target → Type 0
+IsTargetFound forest place (Some target) = IsTargetAt forest target place
+IsTargetFound forest place None = (target : Target) → IsTargetAt forest target place → ⊥
+
+-- what stands at a place of some unit
+abbrev pub IsSectionTargetFound : List HeadAndForest → ℕ → Option Link → Type 0
+IsSectionTargetFound units place (Some (Place unit target)) = (unit < length units) × IsTargetAt (held_at units unit).forest target place
+IsSectionTargetFound units place (Some link) = ⊥
+IsSectionTargetFound units place None = (unit : ℕ) (target : Target) → unit < length units → IsTargetAt (held_at units unit).forest target place → ⊥
+
+-- what a section offset of a class names
+abbrev pub IsOffsetFound : List Head → OffsetClass → ℕ → Option Link → Type 0
+IsOffsetFound programs LinePtr n (Some (Lines p)) = (p < length programs) × ((program_among programs p).at ≡ n)
+IsOffsetFound programs LinePtr n (Some link) = ⊥
+IsOffsetFound programs LinePtr n None = (p : ℕ) → p < length programs → (program_among programs p).at ≢ n
+IsOffsetFound programs AddrPtr n found = found ≡ Some (KeptPlace n)
+IsOffsetFound programs StrOffsetsPtr n found = found ≡ Some (KeptPlace n)
+IsOffsetFound programs MacPtr n found = found ≡ Some (KeptPlace n)
+IsOffsetFound programs class n found = found ≡ None

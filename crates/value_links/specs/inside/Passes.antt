@@ -1,0 +1,26 @@
+-- What the passes of the reader of a file give.
+use Rattle.std.specs.Prelude.{ℕ, List, map}
+use Rattle.dw_base.specs.declared.fault.Reach.{Reach}
+use Rattle.dw_base.specs.declared.fault.Refusal.{Refusal}
+use Rattle.entry_read.specs.Units.{HeadAndForest}
+use Rattle.value_links.specs.declared.parts.Parts.{Parts}
+use Rattle.value_links.specs.Reading.{Linkable}
+use Rattle.value_links.specs.Faults.{NamesFault}
+use Rattle.value_links.specs.Parts.{HoldsParts, AreLinked}
+use Rattle.value_links.specs.Laws.{HaveFewRows, AreBuilt, IsImageInOrder}
+
+-- where units begin
+abbrev pub starts_of : List HeadAndForest → List ℕ
+starts_of units = map (λ (u : HeadAndForest). u.head.at) units
+
+-- These parts are what is read of the file up to links, and all that the values of the units refer to is there.
+pub record ArePartsInOrder (file : List ℕ) (parts : Parts) : Type 0 where
+  pub r : Linkable
+  pub holds : HoldsParts file r parts
+  pub few : HaveFewRows r.programs
+  pub built : AreBuilt r.units
+  pub linked : AreLinked r
+
+-- the refusal names a fault of the file, where its image is in order within the limits
+abbrev pub NamesLaterFault : List ℕ → Reach → Refusal → Type 0
+NamesLaterFault file reach refusal = IsImageInOrder file reach → NamesFault file reach refusal
