@@ -11,6 +11,8 @@ import argparse
 import random
 import struct
 
+from elf_files import uleb
+
 STRP, DATA1, DATA2, DATA4, DATA8, ADDR = 0x0E, 0x0B, 0x05, 0x06, 0x07, 0x01
 REF4, EXPR, OFFSET, PRESENT, CONSTANT, TEXT, SDATA = 0x13, 0x18, 0x17, 0x19, 0x21, 0x08, 0x0D
 
@@ -29,14 +31,6 @@ DECLARATIONS = {
     CALL: (0x48, 1, [(0x7D, ADDR), (0x7F, REF4)]),
     INLINED: (0x49, 0, [(0x02, EXPR), (0x7E, EXPR)]),
 }
-
-
-def uleb(value):
-    out = bytearray()
-    while value > 127:
-        out.append(value & 127 | 128)
-        value >>= 7
-    return bytes(out) + bytes([value])
 
 
 def table(declarations):

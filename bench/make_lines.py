@@ -13,26 +13,7 @@ import argparse
 import random
 import struct
 
-
-def uleb(value, padded=False):
-    out = bytearray()
-    while value > 127:
-        out.append(value & 127 | 128)
-        value >>= 7
-    if padded:
-        return bytes(out) + bytes([value | 128, 0])
-    return bytes(out) + bytes([value])
-
-
-def sleb(value):
-    out = bytearray()
-    while True:
-        byte = value & 127
-        value >>= 7
-        if (value == 0 and not byte & 64) or (value == -1 and byte & 64):
-            out.append(byte)
-            return bytes(out)
-        out.append(byte | 128)
+from elf_files import elf_file, sleb, uleb
 
 
 def program(rng, size, padding, wide):
@@ -83,21 +64,6 @@ def unit(rng, size, padding, wide):
     return struct.pack("<IHBBI", 8 + len(head) + len(body), 5, 8, 0, len(head)) + head + body
 
 
-def elf(name, body):
-    names = b"\0" + name + b"\0.shstrtab\0"
-    at = 64 + len(body)
-    pad = -(at + len(names)) % 8
-
-    def header(offset, kind, place, size):
-        return struct.pack("<IIQQQQIIQQ", offset, kind, 0, 0, place, size, 0, 0, 1, 0)
-
-    headers = bytes(64) + header(1, 1, 64, len(body)) + header(2 + len(name), 3, at, len(names))
-    start = struct.pack(
-        "<16sHHIQQQIHHHHHH", b"\x7fELF\x02\x01\x01", 2, 62, 1, 0, 0, at + len(names) + pad, 0, 64, 0, 0, 64, 3, 2
-    )
-    return start + body + names + bytes(pad) + headers
-
-
 def main():
     parser = argparse.ArgumentParser(description=__doc__, formatter_class=argparse.RawDescriptionHelpFormatter)
     parser.add_argument("file")
@@ -115,7 +81,7 @@ def main():
         block = b"".join(unit(rng, 1 << 20, options.padded, options.wide) for _ in range(min(4, options.megabytes)))
         section = block * max(1, options.megabytes // 4)
     with open(options.file, "wb") as handle:
-        handle.write(elf(b".debug_line", section) if options.elf else section)
+        handle.write(elf_file([(b".debug_line", section)]) if options.elf else section)
 
 
 if __name__ == "__main__":

@@ -16,16 +16,7 @@ as CodeMissing; read table by table, the number has N bytes for the first of the
 import argparse
 import struct
 
-FIRST_BODY = 64
-
-
-def uleb(number):
-    out = bytearray()
-    while True:
-        number, low = number >> 7, number & 127
-        out.append(low | 128 if number else low)
-        if not number:
-            return bytes(out)
+from elf_files import elf_file, uleb
 
 
 def sections(count, used):
@@ -55,24 +46,6 @@ def sections_inside(count, columns):
 def sections_of_padding(count):
     """The same for tables inside a padded number 0."""
     return b"".join(struct.pack("<IHBBI", 9, 5, 1, 8, unit) + b"\1" for unit in range(count)), b"\x80" * (count - 1) + b"\0"
-
-
-def elf_file(bodies):
-    """A file with these sections, given by their names, and their names' own."""
-    names = b"\0" + b"".join(name + b"\0" for name, _ in bodies) + b".shstrtab\0"
-    parts = [*((name, 1, body) for name, body in bodies), (b".shstrtab", 3, names)]
-    end = FIRST_BODY + sum(len(body) for _, _, body in parts)
-    headers_at = -(-end // 8) * 8
-    head = bytearray(64)
-    head[:7] = b"\x7fELF\x02\x01\x01"
-    struct.pack_into("<HHI", head, 16, 2, 62, 1)
-    struct.pack_into("<Q", head, 40, headers_at)
-    struct.pack_into("<6H", head, 52, 64, 0, 0, 64, len(parts) + 1, len(parts))
-    headers, at = bytes(64), FIRST_BODY
-    for name, kind, body in parts:
-        headers += struct.pack("<IIQQQQIIQQ", names.index(name + b"\0"), kind, 0, 0, at, len(body), 0, 0, 1, 0)
-        at += len(body)
-    return bytes(head) + b"".join(body for _, _, body in parts) + bytes(headers_at - end) + headers
 
 
 def main():

@@ -12,9 +12,10 @@ import argparse
 import random
 import struct
 
+from elf_files import elf_file, uleb
 from make_entries import DECLARATIONS as OF_ENTRIES
 from make_entries import BASE, BLOCK, CONSTANT, DATA1, EXPR, FUNCTION, MEMBER, PARAMETER, POINTER, REF4, STRP, STRUCTURE, TEXT, UNIT, VARIABLE
-from make_entries import ADDR, DATA2, DATA8, PRESENT, table, uleb
+from make_entries import ADDR, DATA2, DATA8, PRESENT, table
 
 REFADDR = 0x10
 IMPORT = 10
@@ -80,22 +81,6 @@ class Unit:
         return self
 
 
-def elf(sections):
-    names, body, headers = b"\0", b"", bytes(64)
-    sections = sections + [(".shstrtab", None)]
-    for name, _ in sections:
-        names += name.encode() + b"\0"
-    at, out = 64, [None]
-    for name, bytes_ in sections:
-        bytes_ = names if bytes_ is None else bytes_
-        headers += struct.pack("<IIQQQQIIQQ", names.index(b"\0" + name.encode() + b"\0") + 1, 3 if name == ".shstrtab" else 1, 0, 0, at, len(bytes_), 0, 0, 1, 0)
-        out.append(bytes_)
-        at += len(bytes_)
-    out.append(bytes(-at % 8))
-    out[0] = struct.pack("<16sHHIQQQIHHHHHH", b"\x7fELF\2\1\1", 2, 62, 1, 0, 0, at + -at % 8, 0, 64, 0, 0, 64, len(sections) + 1, len(sections))
-    return out + [headers]
-
-
 def main():
     parser = argparse.ArgumentParser(description=__doc__, formatter_class=argparse.RawDescriptionHelpFormatter)
     parser.add_argument("file")
@@ -114,8 +99,7 @@ def main():
             struct.pack_into("<I", one.out, at, other + one.entries[k % len(one.entries)])
         info += one.out
     with open(options.file, "wb") as out:
-        for piece in elf([(".debug_info", bytes(info)), (".debug_abbrev", abbrevs * options.tables), (".debug_line", PROGRAM * options.units)]):
-            out.write(piece)
+        out.write(elf_file([(b".debug_info", info), (b".debug_abbrev", abbrevs * options.tables), (b".debug_line", PROGRAM * options.units)]))
 
 
 if __name__ == "__main__":

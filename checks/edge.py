@@ -1,0 +1,468 @@
+#!/usr/bin/env python3
+"""Runs the built program on real files, and tests what no clause can reach: the system's files, its standard output and words, and
+files that are too large for a test in memory.
+
+  checks/edge.py [PROGRAM]                 left out, it is crates/shrink_app/out/shrink_app
+
+What has to be written is known without the program: the wanted files are made here, by the rules of docs/FORMATS.md. Each test
+prints one line. The last line is `N passed, M failed`, and the exit status is 1 where one failed.
+"""
+import argparse
+import itertools
+import os
+import random
+import re
+import resource
+import shutil
+import struct
+import subprocess
+import sys
+import tempfile
+import time
+
+sys.dont_write_bytecode = True
+TOP = os.path.dirname(os.path.dirname(os.path.abspath(__file__)))
+sys.path.insert(0, os.path.join(TOP, "bench"))
+from elf_files import Section, aligned, elf_file, names_of, placed, sleb, uleb
+
+# A run of the program has to end in this time.
+SECONDS = 60
+LIMIT = 1 << 30
+SHRINK = ["shrink", "in", "out"]
+TESTS = []
+
+
+class Failure(Exception):
+    """What a test found to be wrong."""
+
+
+class Skipped(Exception):
+    """Why a test can't be run here."""
+
+
+def test(function):
+    TESTS.append(function)
+    return function
+
+
+def difference(found, wanted):
+    """In which bytes two files differ, as words, or nothing."""
+    if found == wanted:
+        return ""
+    at = next((i for i, (a, b) in enumerate(zip(found, wanted)) if a != b), min(len(found), len(wanted)))
+    return f"{len(found)} bytes and not {len(wanted)}, which differ first at {at}"
+
+
+class Place:
+    """A folder for one test, in which the program runs."""
+
+    def __init__(self, program, folder):
+        self.program, self.folder = program, folder
+
+    def path(self, name):
+        return os.path.join(self.folder, name)
+
+    def write(self, name, body):
+        with open(self.path(name), "wb") as file:
+            file.write(body)
+
+    def read(self, name):
+        with open(self.path(name), "rb") as file:
+            return file.read()
+
+    def files(self):
+        """The bytes of each file, by its name, and None for a folder."""
+        return {name: None if os.path.isdir(self.path(name)) else self.read(name) for name in os.listdir(self.folder)}
+
+    def answers(self, words, status, said, stdout=subprocess.PIPE, prepare=None):
+        """Fails where the program doesn't answer these words with this status and this on standard output."""
+        try:
+            run = subprocess.run(
+                [self.program, *words], cwd=self.folder, stdout=stdout, stderr=subprocess.PIPE, timeout=SECONDS, preexec_fn=prepare
+            )
+        except subprocess.TimeoutExpired:
+            raise Failure(f"{words}: no answer in {SECONDS} seconds") from None
+        found = (run.returncode, run.stdout or b"", run.stderr)
+        if found != (status, said, b""):
+            raise Failure(f"{words}: status {found[0]}, {found[1]!r} and {found[2]!r} said, and not {status} and {said!r}")
+
+    def keeps(self, words, status, said=b"", **how):
+        """Fails where the program doesn't answer so, or where a file differs then, was made or is missing."""
+        self.leaves(words, status, said, self.files(), **how)
+
+    def writes(self, words, written):
+        """Fails where the program doesn't write these bytes to OUT and leave all other files as they are."""
+        self.leaves(words, 0, b"", {**self.files(), words[2]: written})
+
+    def leaves(self, words, status, said, wanted, **how):
+        self.answers(words, status, said, **how)
+        found = self.files()
+        for name in found.keys() | wanted.keys():
+            if name not in found or name not in wanted:
+                raise Failure(f"{words}: {name} is {'made' if name in found else 'missing'}")
+            if found[name] != wanted[name]:
+                raise Failure(f"{words}: {name} has {difference(found[name], wanted[name])}")
+
+
+def unit(entries, table=0):
+    """A compilation unit with these bytes behind its header, whose abbreviation table begins at this place."""
+    return struct.pack("<IHBBI", 8 + len(entries), 5, 1, 8, table) + entries
+
+
+def file_of_units(units, table):
+    """A file with these units by one abbreviation table, and an empty set of address ranges for each."""
+    places = itertools.accumulate(map(len, units[:-1]), initial=0)
+    sets = b"".join(struct.pack("<IHIBB", 28, 2, place, 8, 0) + bytes(20) for place in places)
+    return elf_file([(b".debug_info", b"".join(units)), (b".debug_abbrev", table), (b".debug_aranges", sets)])
+
+
+# A unit of IN has codes from 5 on and bytes 0 behind its tree: its root, a variable that refers to the type behind it, and
+# the type, whose size of 4 stands in the entry.
+TABLE_IN = b"\5\x11\1\0\0" + b"\6\x34\0\x49\x13\3\x08\0\0" + b"\7\x24\0\x0b\x0b\0\0" + b"\0"
+
+
+def unit_in(number):
+    name = b"v%d\0" % number
+    return unit(b"\5\6" + struct.pack("<I", 18 + len(name)) + name + b"\7\4" + b"\0" + bytes(number % 4))
+
+
+# In OUT the codes begin at 1, nothing follows the tree, and the size, which is the same in all units, stands in the table, as
+# DW_FORM_implicit_const.
+TABLE_OUT = b"\1\x11\1\0\0" + b"\2\x34\0\x49\x13\3\x08\0\0" + b"\3\x24\0\x0b\x21\4\0\0" + b"\0"
+
+
+def unit_out(number):
+    name = b"v%d\0" % number
+    return unit(b"\1\2" + struct.pack("<I", 18 + len(name)) + name + b"\3" + b"\0")
+
+
+def pair_of_units(count):
+    """A file with so many units, and what has to be written for it."""
+    return file_of_units(list(map(unit_in, range(count))), TABLE_IN), file_of_units(list(map(unit_out, range(count))), TABLE_OUT)
+
+
+@test
+def wrong_words(place):
+    """wrong words, none and not UTF-8 ones too, are answered by `words`, and no file differs"""
+    place.write("in", pair_of_units(2)[0])
+    for words in (
+        [],
+        ["shrink"],
+        ["shrink", "in"],
+        ["in", "out"],
+        ["shrink", "in", "in"],
+        ["shrink", "in", "out", "more"],
+        ["grow", "in", "out"],
+        ["", "in", "out"],
+        [b"shrink\xff", "in", "out"],
+        ["shrink", b"in\xff", "out"],
+        ["shrink", "in", b"out\xc3"],
+    ):
+        place.keeps(words, 2, b"words\n")
+
+
+@test
+def inputs_that_cannot_be_read(place):
+    """IN that is missing or a folder has the status 4, and OUT isn't touched"""
+    os.mkdir(place.path("folder"))
+    place.keeps(["shrink", "missing", "out"], 4)
+    place.keeps(["shrink", "folder", "out"], 4)
+    place.keeps(["shrink", "", "out"], 4)
+    place.write("out", b"before")
+    place.keeps(["shrink", "missing", "out"], 4)
+    place.keeps(["shrink", "folder", "out"], 4)
+
+
+@test
+def outputs_that_cannot_be_written(place):
+    """OUT in a folder that isn't there, or a folder, or on a full device has the status 5"""
+    place.write("in", pair_of_units(2)[0])
+    os.mkdir(place.path("folder"))
+    place.keeps(["shrink", "in", "missing/out"], 5)
+    place.keeps(["shrink", "in", "folder"], 5)
+    place.keeps(["shrink", "in", ""], 5)
+    if os.path.exists("/dev/full"):
+        place.keeps(["shrink", "in", "/dev/full"], 5)
+
+
+@test
+def messages_that_cannot_be_written(place):
+    """a message that standard output doesn't take has the status 5"""
+    if not os.path.exists("/dev/full"):
+        raise Skipped("there is no /dev/full")
+    place.write("in", b"")
+    with open("/dev/full", "wb") as full:
+        place.keeps([], 5, stdout=full)
+        place.keeps(SHRINK, 5, stdout=full)
+
+
+@test
+def refused_files(place):
+    """a refused file has the status 3 and one line, at places with up to seven digits, and OUT isn't made"""
+    whole = pair_of_units(2)[0]
+    old = [unit_in(number) for number in range(40_000)]
+    last = 64 + sum(map(len, old[:-1]))
+    old[-1] = old[-1][:4] + b"\4" + old[-1][5:]
+    for body, line in (
+        (b"", b"refused NotElf64 at 0\n"),
+        (b"\x7fELF\1" + whole[5:], b"refused NotElf64 at 0\n"),
+        (whole[:16] + b"\1" + whole[17:], b"refused FileType at 16\n"),
+        (elf_file([(b".text", b"1234567"), (b".debug_macro", b"")]), b"refused Companion at 71\n"),
+        (file_of_units(old, TABLE_IN), b"refused UnitHead at %d\n" % last),
+    ):
+        place.write("in", body)
+        place.keeps(SHRINK, 3, line)
+    place.write("out", b"before")
+    place.keeps(SHRINK, 3, line)
+
+
+@test
+def longer_output_is_emptied(place):
+    """OUT that is there and longer than what is written has none of its old bytes"""
+    source, written = pair_of_units(2)
+    place.write("in", source)
+    for size in (len(written) + 1, 1_000_000):
+        place.write("out", b"\xff" * size)
+        place.writes(SHRINK, written)
+
+
+@test
+def names_of_files(place):
+    """names with spaces, other letters than ASCII's and a leading - are names like all others"""
+    source, written = pair_of_units(2)
+    for name in ("a b", "größer", "-", "--help"):
+        place.write(name, source)
+        place.writes(["shrink", name, name + ".new"], written)
+
+
+# The header of a file that has no sections and no segments.
+ALONE = struct.pack("<16sHHIQQQIHHHHHH", b"\x7fELF\2\1\1", 2, 62, 1, 0, 0, 0, 0, 64, 0, 0, 0, 0, 0)
+
+
+@test
+def file_without_sections(place):
+    """a file without sections is written as it stands, at 64 KB, at one byte less and more, and at 2 MB"""
+    file = ALONE + random.Random(1).randbytes(2_000_000)
+    for size in (64, 65_535, 65_536, 65_537, 131_072, 2_000_000):
+        place.write("in", file[:size])
+        place.writes(SHRINK, file[:size])
+
+
+@test
+def sections_laid_out(place):
+    """a file with a loaded section of 1.5 MB is laid out anew behind it, byte for byte"""
+    text = random.Random(2).randbytes(1_500_000)
+    comment, other = b"made by hand\0", b"12345"
+
+    def laid_out(at_comment, at_other, at_names, at_headers):
+        loaded = Section(b".text", 4_096, text, flags=6, alignment=4_096)
+        movable = [Section(b".comment", at_comment, comment), Section(b".other", at_other, other, alignment=64)]
+        file = placed([loaded, *movable], at_names, at_headers)
+        return file[:64] + b"kept" + file[68:]
+
+    # the loaded section ends at 1,504,096, which is no multiple of 64
+    source = bytearray(laid_out(1_504_500, 1_504_450, 1_504_700, 1_504_104))
+    source[1_504_600:1_504_605] = b"a gap"
+    names_end = 1_504_146 + len(names_of([b".text", b".comment", b".other"]))
+    place.write("in", source)
+    place.writes(SHRINK, laid_out(1_504_133, 1_504_128, 1_504_146, aligned(names_end, 8)))
+
+
+def readelf(place, what, name):
+    """What readelf shows of a file; of units without the places, lengths and codes, which may differ, and without the codes 0, since
+    padding after a unit's tree is shown as such."""
+    command = ["readelf", f"--debug-dump={what}", name]
+    shown = subprocess.run(command, cwd=place.folder, stdout=subprocess.PIPE, stderr=subprocess.DEVNULL).stdout
+    if what != "info":
+        return shown
+    changed = rb"^ *(?:Length|Abbrev Offset):.*$|Abbrev Number: \d+|<(?:0x)?[0-9a-f]+>|@ offset (?:0x)?[0-9a-f]+"
+    shown = re.sub(rb"^.*: Abbrev Number: 0\n", b"", shown, flags=re.M)
+    return re.sub(changed, b"", shown, flags=re.M)
+
+
+def shows_the_same(place, what, lines):
+    """Fails where readelf is there and shows IN and OUT to differ, or shows fewer lines than these."""
+    if not shutil.which("readelf"):
+        return
+    shown = readelf(place, what, "in")
+    if shown.count(b"\n") < lines or shown != readelf(place, what, "out"):
+        raise Failure(f"readelf --debug-dump={what} shows IN and OUT to differ, or little of them")
+
+
+@test
+def units_written(place):
+    """a file of 40,000 units, 2.5 MB, is written as is wanted, twice the same, and so again from OUT"""
+    source, written = pair_of_units(40_000)
+    place.write("in", source)
+    place.writes(SHRINK, written)
+    place.writes(["shrink", "in", "other"], written)
+    place.writes(["shrink", "out", "again"], written)
+    shows_the_same(place, "info", 400_000)
+
+
+@test
+def memory_wanting(place):
+    """where the program gets less memory than IN has bytes the status is 6, and OUT isn't made"""
+    size = 32 << 20
+    place.write("in", ALONE + bytes(size))
+    place.keeps(SHRINK, 6, prepare=lambda: resource.setrlimit(resource.RLIMIT_AS, (size, size)))
+
+
+@test
+def file_past_the_limit(place):
+    """a file of 1,000 bytes more than 2^30 is refused as Limit, and OUT isn't made"""
+    with open("/proc/meminfo") as file:
+        free = int(re.search(r"MemAvailable:\s+(\d+) kB", file.read())[1]) << 10
+    if free < 3 * LIMIT:
+        raise Skipped("there are less than 3 GB of memory")
+    with open(place.path("in"), "wb") as file:
+        file.truncate(LIMIT + 1_000)
+    place.answers(SHRINK, 3, b"refused Limit at 0\n")
+    if os.listdir(place.folder) != ["in"] or os.path.getsize(place.path("in")) != LIMIT + 1_000:
+        raise Failure("another file than IN is there, or IN has changed")
+
+
+def pair_of_tables(count):
+    """A file with so many units and tables, each table with a declaration that no entry has, and what has to be written for it."""
+    table_in = uleb(2, 1) + b"\x34\0\3\x08\0\0" + uleb(129) + b"\x11\0\3\x08\0\0" + b"\0"
+    table_out = b"\1\x11\0\3\x08\0\0" + b"\0"
+    pair = ((uleb(129), table_in), (uleb(1), table_out))
+    return [
+        elf_file([
+            (b".debug_info", b"".join(unit(code + b"%d\0" % number, number * len(table)) for number in range(count))),
+            (b".debug_abbrev", table * count),
+        ])
+        for code, table in pair
+    ]
+
+
+@test
+def many_tables(place):
+    """70,000 abbreviation tables, one for each unit, are written as is wanted, and so again from OUT"""
+    # readelf takes time with the square of the tables
+    for count in (2_000, 70_000):
+        source, written = pair_of_tables(count)
+        place.write("in", source)
+        place.writes(SHRINK, written)
+        place.writes(["shrink", "out", "again"], written)
+        if count < 10_000:
+            shows_the_same(place, "info", 7 * count)
+
+
+# The tables of directories and files of a line number program: /, a and b.
+FILES = b"\1\1\x08\1/\0\1\1\x08\2a\0b\0"
+COUNTS = bytes([0, 1, 1, 1, 1, 0, 0, 0, 1, 0, 0, 1])
+
+
+def line_program(opcodes, line_base, line_range):
+    head = bytes([1, 1, 1, line_base & 255, line_range, 13]) + COUNTS + FILES
+    return struct.pack("<IHBBI", 8 + len(head) + len(opcodes), 5, 8, 0, len(head)) + head + opcodes
+
+
+def drawn_lines(count):
+    """So many rows in sequences of 1,024, as pairs of an address and a line, with None as the line of an end row, and opcodes that
+    give them: each number is padded, and no special opcode is used."""
+    rng, rows, opcodes = random.Random(3), [], []
+    steps = [(rng.randrange(40), rng.randrange(-4, 12)) for _ in range(1_023)]
+    pieces = [b"\2" + uleb(address, 1) + b"\3" + sleb(line) + b"\1" for address, line in steps]
+    block = b"".join(pieces) + b"\2\x90\0" + b"\0\1\1"
+    for sequence in range(count // 1_024):
+        address, line = 0x400000 + 0x10000 * sequence, 1_000
+        opcodes.append(b"\0\x09\2" + struct.pack("<Q", address) + b"\3" + sleb(999) + block)
+        for address_step, line_step in steps:
+            address, line = address + address_step, line + line_step
+            rows.append((address, line))
+        rows.append((address + 16, None))
+    return rows, b"".join(opcodes)
+
+
+def number_at(bytes_, at, signed=False):
+    """The LEB128 number that stands there, and where it ends."""
+    value = shift = 0
+    while True:
+        byte = bytes_[at]
+        value, shift, at = value | (byte & 127) << shift, shift + 7, at + 1
+        if byte < 128:
+            return value - (1 << shift) * (signed and byte >> 6), at
+
+
+def rows_of(program):
+    """The rows of a program with the opcode_base 13 and no opcodes for other columns than address and line."""
+    line_base, line_range = struct.unpack_from("<bB", program, 15)
+    at, rows, address, line = 12 + struct.unpack_from("<I", program, 8)[0], [], 0, 1
+    while at < len(program):
+        code, at = program[at], at + 1
+        if code >= 13:
+            address, line = address + (code - 13) // line_range, line + line_base + (code - 13) % line_range
+            rows.append((address, line))
+        elif code == 1:
+            rows.append((address, line))
+        elif code == 2:
+            step, at = number_at(program, at)
+            address += step
+        elif code == 3:
+            step, at = number_at(program, at, signed=True)
+            line += step
+        elif code == 8:
+            address += 242 // line_range
+        elif code == 9:
+            address, at = address + struct.unpack_from("<H", program, at)[0], at + 2
+        elif program[at - 1 : at + 2] == b"\0\x09\2":
+            address, at = struct.unpack_from("<Q", program, at + 2)[0], at + 10
+        elif program[at - 1 : at + 2] == b"\0\1\1":
+            rows.append((address, None))
+            at, address, line = at + 2, 0, 1
+        else:
+            raise Failure(f"the opcode {code} wasn't asked for")
+    return rows
+
+
+@test
+def many_rows(place):
+    """a line number program of 2^20 rows keeps its rows in at most half the bytes, and OUT is written again as it stands"""
+    rows, opcodes = drawn_lines(1 << 20)
+    before = line_program(opcodes, -3, 12)
+    place.write("in", elf_file([(b".debug_line", before)]))
+    place.answers(SHRINK, 0, b"")
+    written = place.read("out")
+    size = 4 + struct.unpack_from("<I", written, 64)[0]
+    after = written[64 : 64 + size]
+    if written != elf_file([(b".debug_line", after)]) or size > len(before) // 2:
+        raise Failure(f"OUT has a program of {size} bytes, or something else")
+    if line_program(after[30 + len(FILES) :], *struct.unpack_from("<bB", after, 15)) != after or rows_of(after) != rows:
+        raise Failure("the header or the rows differ")
+    place.writes(["shrink", "out", "again"], written)
+    shows_the_same(place, "decodedline", len(rows))
+
+
+def outcome(function, program):
+    """Whether a test passed, None where it can't be run here, and what is to be said of it."""
+    with tempfile.TemporaryDirectory() as folder:
+        try:
+            function(Place(program, folder))
+        except Skipped as why:
+            return None, f": {why}"
+        except Exception as wrong:
+            return False, f": {wrong!r}"
+    return True, ""
+
+
+def main():
+    parser = argparse.ArgumentParser(description=__doc__, formatter_class=argparse.RawDescriptionHelpFormatter)
+    parser.add_argument("program", nargs="?", default=os.path.join(TOP, "crates/shrink_app/out/shrink_app"))
+    program = os.path.abspath(parser.parse_args().program)
+    if not os.access(program, os.X_OK):
+        sys.exit(f"{program} isn't there: ./mikadocherry builds it, and so does rt ci")
+    counts = {True: 0, False: 0, None: 0}
+    for function in TESTS:
+        start = time.monotonic()
+        passed, why = outcome(function, program)
+        counts[passed] += 1
+        word = {True: "passed", False: "FAILED", None: "left out"}[passed]
+        print(f"{word}: {function.__doc__} ({time.monotonic() - start:.1f} s){why}", flush=True)
+    print(f"{counts[True]} passed, {counts[False]} failed")
+    return 1 if counts[False] else 0
+
+
+if __name__ == "__main__":
+    sys.exit(main())
