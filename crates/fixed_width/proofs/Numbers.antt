@@ -1,11 +1,12 @@
 -- Numbers of fixed width, read where they were written and where nothing was.
-use Rattle.std.proofs.Common.{◌≡◌, ◌≤◌, ◌<◌, ◌+◌, ◌^◌, ◌++◌, ◌∙◌, ℕ, zero, suc, List, length, take, drop, sym, ap, refl, arith}
+use Rattle.std.proofs.Common.{◌≡◌, ◌≤◌, ◌<◌, ◌+◌, ◌^◌, ◌++◌, ◌∙◌, ℕ, zero, suc, List, length, take, drop, get_or, sym, ap, refl, arith, inl, inr}
 use Rattle.std.specs.Prelude.{slice_index}
 use Rattle.std.specs.Int.{bytes_low_first}
-use Rattle.std.proofs.lemmas.List.{get_or-drop, length-take-le, drop_at, append_assoc}
+use Rattle.std.proofs.lemmas.List.{get_or-drop, get_or_past, length-take-le, drop_at, append_assoc}
+use Rattle.std.proofs.lemmas.Bool.{cases_lt}
 use borrow.Rule.Slice.PartMut.{put_mid, post_of}
 use Rattle.byteorder.specs.Endian.{little_from}
-use Rattle.byteorder.specs.Numbers.{little_number-reads_back}
+use Rattle.byteorder.specs.Numbers.{little_number-reads_back, little_from-lt}
 use Rattle.fixed_width.specs.Numbers.{number, number_at}
 
 from_same : (i n : ℕ) (xs ys : List ℕ) → ((k : ℕ) → i ≤ k → k < i + n → slice_index xs k ≡ slice_index ys k) → little_from i n xs ≡ little_from i n ys
@@ -37,3 +38,13 @@ number_put n at value xs ys inside rest e fits =
     let tail : drop at (put_mid at n xs ys) ≡ ys ++ post_of at n xs = drop_at (take at xs) (ys ++ post_of at n xs) at front in
     let whole : ys ++ post_of at n xs ≡ bytes_low_first 0 n value ++ (rest ++ post_of at n xs) = ap (λ zs. zs ++ post_of at n xs) e ∙ append_assoc (bytes_low_first 0 n value) rest (post_of at n xs) in
     ap (number n) (tail ∙ whole) ∙ number_back n value (rest ++ post_of at n xs) fits
+
+-- bytes, and the 0 that stands for those past the end
+pub all_small : (bytes : List ℕ) → ((k : ℕ) → k < length bytes → slice_index bytes k < 256) → (k : ℕ) → get_or bytes k 0 < 256
+all_small bytes small k =
+    elim (cases_lt k (length bytes)) [ inl inside ↦ small k inside | inr past ↦ rw (get_or_past bytes k 0 past) (omega arith) ]
+
+-- a number in n bytes is below 256 ^ n
+pub number_small : (n : ℕ) (bytes : List ℕ) → ((k : ℕ) → k < length bytes → slice_index bytes k < 256) → number n bytes < 256 ^ n
+unfolding number
+number_small n bytes small = little_from-lt 0 n bytes (all_small bytes small)

@@ -1,10 +1,10 @@
 -- What is written of a value spells it, and nothing shorter does.
 use Rattle.std.proofs.Common.{◌≡◌, ◌≤◌, ◌<◌, ◌+◌, ◌-◌, ◌^◌, ℕ, zero, suc, List, [], ◌∷◌, length, get_or, leb, true, false, ◌∙◌, sym, ap, refl, subst, arith, inl, inr}
-use Rattle.std.proofs.lemmas.List.{append-nil, length-append, get_or_append_left, get_or_past}
+use Rattle.std.proofs.lemmas.List.{append-nil, length-append, get_or_append_left}
 use Rattle.std.proofs.lemmas.Bool.{cases_lt, le-leb}
 use Rattle.std.specs.Prelude.{ℤ, FitsSigned}
 use Rattle.std.specs.Int.{w64, bytes_low_first, byte_at}
-use Rattle.byteorder.specs.Numbers.{length-bytes_low_first, little_from-lt}
+use Rattle.byteorder.specs.Numbers.{length-bytes_low_first}
 use Rattle.dw_base.specs.declared.fault.Span.{Span}
 use Rattle.spelled.specs.Spelled.{AreBytes}
 use Rattle.spelled.proofs.Parts.{length_part, bytes_part, bytes_append}
@@ -22,7 +22,7 @@ use Rattle.form_codec.specs.declared.value.Value.{Value}
 use Rattle.form_codec.specs.declared.value.Value.TheVariants as value
 use Rattle.form_codec.specs.declared.encoding.Encoding.TheVariants as encoding
 use Rattle.fixed_width.specs.Numbers.{number}
-use Rattle.fixed_width.proofs.Numbers.{number_back}
+use Rattle.fixed_width.proofs.Numbers.{all_small, number_back, number_small}
 use Rattle.form_codec.specs.Forms.{size_of, in_role, of_content}
 use Rattle.form_codec.specs.Forms.Meaning.{Whole, SixteenBytes, IsSet, Data, Text}
 use Rattle.form_codec.specs.Values.{meant_in, bytes_in, LiesIn}
@@ -45,14 +45,6 @@ pub low_small : (i m n : ℕ) → AreBytes (bytes_low_first i m n)
 low_small i zero n k lt = absurd (omega arith)
 low_small i (suc m) n zero lt = byte_small i n
 low_small i (suc m) n (suc k) lt = low_small (suc i) m n k (omega arith)
-
-all_small : (bytes : List ℕ) → AreBytes bytes → (k : ℕ) → get_or bytes k 0 < 256
-all_small bytes small k =
-    elim (cases_lt k (length bytes)) [ inl inside ↦ small k inside | inr past ↦ rw (get_or_past bytes k 0 past) (omega arith) ]
-
-number_small : (n : ℕ) (bytes : List ℕ) → AreBytes bytes → number n bytes < 256 ^ n
-unfolding number
-number_small n bytes small = little_from-lt 0 n bytes (all_small bytes small)
 
 zero_small : AreBytes (0 ∷ [])
 zero_small zero lt = omega arith

@@ -1,15 +1,13 @@
 -- A section offset that was read fits 32 bits.
-use Rattle.std.proofs.Common.{◌≡◌, ◌<◌, ◌^◌, inl, inr, ℕ, zero, suc, List, [], ◌∷◌, length, get_or, true, sym, subst, arith}
+use Rattle.std.proofs.Common.{◌≡◌, ◌<◌, ◌^◌, ℕ, zero, suc, List, [], ◌∷◌, true, sym, subst, arith}
 use Rattle.std.specs.Prelude.{ℤ}
-use Rattle.std.proofs.lemmas.Bool.{cases_lt}
-use Rattle.std.proofs.lemmas.List.{get_or_past}
-use Rattle.byteorder.specs.Numbers.{little_from-lt}
 use Rattle.spelled.specs.Spelled.{AreBytes}
 use Rattle.form_codec.specs.declared.form.Form.{Form}
 use Rattle.form_codec.specs.declared.form.Form.TheVariants as form
 use Rattle.form_codec.specs.declared.value.Value.{Value}
 use Rattle.form_codec.specs.declared.value.Value.TheVariants as value
 use Rattle.fixed_width.specs.Numbers.{number}
+use Rattle.fixed_width.proofs.Numbers.{number_small}
 use Rattle.form_codec.specs.Forms.{SpellsShape, SpellsValue, shape_of}
 use Rattle.form_codec.specs.Forms.Meaning.{SectionPlace}
 use Rattle.form_codec.specs.Values.{meant_in}
@@ -19,17 +17,6 @@ use Rattle.entry_arena.specs.Trees.{ValuesBetween}
 use Rattle.unit_write.specs.inside.Puts.{shape_moves}
 use Rattle.unit_write.proofs.ValueLaws.{shape_is}
 use Rattle.rewriter.specs.inside.Held.{FitsOffset}
-
--- the number in 4 bytes
-number_small : (bytes : List ℕ) → AreBytes bytes → number 4 bytes < 2 ^ 32
-unfolding number
-number_small bytes small =
-    let all : (k : ℕ) → get_or bytes k 0 < 256 = λ k. elim (cases_lt k (length bytes)) [
-      | inl inside ↦ small k inside
-      | inr past ↦ subst (λ (z : ℕ). z < 256) (sym (get_or_past bytes k 0 past)) (omega arith)
-    ] in
-    let low = little_from-lt 0 4 bytes all in
-    omega (arith, low)
 
 -- only DW_FORM_sec_offset spells a section offset
 place_small : (f : Form) (c : ℤ) (n : ℕ) (bytes : List ℕ) → AreBytes bytes → shape_moves (shape_of f c) ≡ true → SpellsShape (shape_of f c) (SectionPlace n) bytes → n < 2 ^ 32
@@ -41,7 +28,7 @@ place_small form.RefUdata c n bytes small e p = absurd (cc (p.2))
 place_small form.RefAddr c n bytes small e p = absurd (cc (p.1))
 place_small form.SecOffset c n bytes small e p =
     let same : n ≡ number 4 bytes = cc (p.1) in
-    subst (λ (z : ℕ). z < 2 ^ 32) (sym same) (number_small bytes small)
+    subst (λ (z : ℕ). z < 2 ^ 32) (sym same) (number_small 4 bytes small)
 place_small f c n bytes small e p = absurd (cc (e))
 
 offset_fits : (section : List ℕ) (v : Value) (code : ℕ) (c : ℤ) (bytes : List ℕ) → SpellsValue code c (meant_in section v) bytes → FitsOffset v
