@@ -1,6 +1,7 @@
 -- Contributions that tile a section.
 use Rattle.std.proofs.Common.{◌≡◌, ◌≤◌, ◌<◌, ◌+◌, ◌*◌, ◌++◌, ◌∙◌, ℕ, zero, suc, List, [], ◌∷◌, length, get_or, sym, ap, refl, subst, arith, inl, inr}
 use Rattle.std.specs.List.{All, Contains}
+use Rattle.std.proofs.lemmas.List.{get_or_default}
 use Rattle.std.proofs.lemmas.List.Elements.{All-nil, All-cons}
 use Rattle.std.proofs.lemmas.Bool.{cases_lt}
 use Rattle.dw_base.specs.declared.fault.Kind.{Kind}
@@ -107,18 +108,12 @@ from_there section (p ∷ parts) d a end (suc i) f inside =
     omega arith
 
 -- of two contributions, the one with the lower number ends before the other
-before : (section : List ℕ) (parts : List Contribution) (c d : Contribution) (a end i j : ℕ) → ContributionsFollow section parts a end → i < j → j < length parts → part_end (get_or parts i c) ≤ (get_or parts j d).at
+pub before : (section : List ℕ) (parts : List Contribution) (c d : Contribution) (a end i j : ℕ) → ContributionsFollow section parts a end → i < j → j < length parts → part_end (get_or parts i c) ≤ (get_or parts j d).at
 before section [] c d a end i j f less inside = absurd (omega arith)
 before section (p ∷ parts) c d a end zero zero f less inside = absurd (omega arith)
 before section (p ∷ parts) c d a end zero (suc j) f less inside = from_there section parts d (part_end p) end j f.2 (omega (arith, inside))
 before section (p ∷ parts) c d a end (suc i) zero f less inside = absurd (omega arith)
 before section (p ∷ parts) c d a end (suc i) (suc j) f less inside = before section parts c d (part_end p) end i j f.2 (omega (arith, less)) (omega (arith, inside))
-
--- what stands inside doesn't depend on what stands for the rest
-same_there : (parts : List Contribution) (c d : Contribution) (i : ℕ) → i < length parts → get_or parts i c ≡ get_or parts i d
-same_there [] c d i inside = absurd (omega arith)
-same_there (p ∷ parts) c d zero inside = refl
-same_there (p ∷ parts) c d (suc i) inside = same_there parts c d i (omega (arith, inside))
 
 -- a contribution that ends before another one holds no list that the other one holds
 apart : (part other : Contribution) (at : ℕ) → part_end part ≤ other.at → HoldsList part at → HoldsList other at → ⊥
@@ -133,6 +128,6 @@ one_holder section parts part other at tile (i, inside, e) (j, within, d) h k =
       | inl x ↦ absurd (apart part other at (subst (λ (z : Contribution). part_end part ≤ z.at) d (subst (λ (z : Contribution). part_end z ≤ (get_or parts j other).at) e (before section parts part other 0 (length section) i j tile x within))) h k)
       | inr x ↦ elim (cases_lt j i) [
         | inl y ↦ absurd (apart other part at (subst (λ (z : Contribution). part_end other ≤ z.at) e (subst (λ (z : Contribution). part_end z ≤ (get_or parts i part).at) d (before section parts other part 0 (length section) j i tile y inside))) k h)
-        | inr y ↦ let same : i ≡ j = omega (arith, x, y) in sym e ∙ same_there parts part other i inside ∙ ap (λ (z : ℕ). get_or parts z other) same ∙ d
+        | inr y ↦ let same : i ≡ j = omega (arith, x, y) in sym e ∙ get_or_default parts i part other inside ∙ ap (λ (z : ℕ). get_or parts z other) same ∙ d
       ]
     ]

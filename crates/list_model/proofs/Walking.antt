@@ -11,7 +11,7 @@ use Rattle.list_model.specs.declared.tables.AddrTable.{AddrTable}
 use Rattle.fixed_width.specs.InitialLengths.{unit_length, unit_end, IsWhole, least_reserved}
 use Rattle.list_model.specs.Headers.{IsHeader}
 use Rattle.list_model.specs.Addresses.{table_header_size, IsAddrTable, TablesFollow, IsReached, HasBase}
-use Rattle.list_model.specs.Faults.{FaultTable, FaultBefore}
+use Rattle.list_model.specs.Faults.{FaultTable, FaultTables, FaultBefore}
 
 -- a number of one byte
 pub byte_at : (section : List ℕ) (at : ℕ) → number_at 1 at section ≡ slice_index section at
@@ -114,6 +114,12 @@ base_whole section base table h =
     let begins : table.at + 8 ≡ base = h.begins in
     let bound : table.at + 8 ≤ unit_end section table.at = h.stands.header.fits in
     walked_whole section base (unit_end section table.at) (reached_next section table table.at h.reached refl h.stands) (inr (omega arith))
+
+-- where tables fill a section, none has a fault
+pub filled_whole : (section : List ℕ) (tables : List AddrTable) → TablesFollow section tables 0 (length section) → ¬ IsFaulty (FaultTables section)
+filled_whole section tables filled = λ (f : IsFaulty (FaultTables section)).
+    let x = f.2 in
+    table_whole section x.at f.0 f.1 (below section x.tables tables 0 x.at (length section) x.front filled x.inside).0 x.fault
 
 -- a base is that of one table
 pub one_table : (section : List ℕ) (base : ℕ) (table other : AddrTable) → HasBase section base table → HasBase section base other → table ≡ other

@@ -4,9 +4,10 @@ use Rattle.dw_base.specs.declared.fault.Kind.{Kind}
 use Rattle.dw_base.specs.declared.fault.Kind.TheVariants.{Short, ListEntry}
 use Rattle.fixed_width.specs.InitialLengths.{unit_end, IsWhole, LeavesSection}
 use Rattle.list_model.specs.Headers.{IsHeader, IsHeaderCut}
-use Rattle.list_model.specs.Addresses.{table_header_size, address_place, IsMet}
+use Rattle.list_model.specs.Addresses.{table_header_size, address_place, TablesFollow, IsMet}
 use Rattle.list_model.specs.Contributions.{part_header_size, offset_size, offset_entry_count, offset_place, ContributionsFollow}
 use Rattle.list_model.specs.declared.contribution.Contribution.{Contribution}
+use Rattle.list_model.specs.declared.tables.AddrTable.{AddrTable}
 
 -- The header at a place, which has so many bytes, has a fault. It is Short where the thing leaves the section or ends inside its
 -- header, and ListEntry where the thing is whole and its header isn't one that is understood.
@@ -31,6 +32,14 @@ FaultTable section at kind place = FaultHeader table_header_size section at kind
 pub record FaultBefore (section : List ℕ) (base : ℕ) (kind : Kind) (place : ℕ) : Type 0 where
   pub at : ℕ
   pub met : IsMet section base at
+  pub fault : FaultTable section at kind place
+
+-- After tables that are the section's front, another begins at a place and has a fault.
+pub record FaultTables (section : List ℕ) (kind : Kind) (place : ℕ) : Type 0 where
+  pub tables : List AddrTable
+  pub at : ℕ
+  pub front : TablesFollow section tables 0 at
+  pub inside : at < length section
   pub fault : FaultTable section at kind place
 
 -- An offset of the contribution at a place would begin inside it or at its end, at the other place, and ends past it.

@@ -1,5 +1,5 @@
 -- Laws of address tables, contributions, entries and items.
-use Rattle.std.specs.Prelude.{◌≡◌, ◌∷◌, ◌++◌, ◌⊎◌, ℕ, List, false}
+use Rattle.std.specs.Prelude.{◌≡◌, ◌∷◌, ◌++◌, ◌⊎◌, ℕ, List, length, false}
 use Rattle.std.specs.List.{Contains}
 use Rattle.spelled.specs.Spelled.{HasUniqueFronts, NeverBoth, EndsApart}
 use Rattle.dw_base.specs.Refusals.{IsFaulty}
@@ -8,9 +8,9 @@ use Rattle.list_model.specs.declared.contribution.Contribution.{Contribution}
 use Rattle.list_model.specs.declared.context.Context.{Context}
 use Rattle.list_model.specs.declared.entry.ListKind.{ListKind}
 use Rattle.list_model.specs.declared.entry.RawEntry.{RawEntry}
-use Rattle.list_model.specs.Addresses.{HasBase}
+use Rattle.list_model.specs.Addresses.{TablesFollow, HasBase}
 use Rattle.list_model.specs.Contributions.{ContributionsTile, HoldsList}
-use Rattle.list_model.specs.Faults.{FaultBefore, FaultContributions}
+use Rattle.list_model.specs.Faults.{FaultBefore, FaultTables, FaultContributions}
 use Rattle.list_model.specs.Entries.{Entry, SpellsEntry, IsListEnd, BeginsWithEnd, FaultEntry, AreSaid}
 use Rattle.list_model.specs.Items.{Bounds, sets_base, IsItemBehind, Give, FaultIndexes}
 
@@ -21,6 +21,10 @@ OneTable = (section : List ℕ) (base : ℕ) (table other : AddrTable) → HasBa
 -- Where a base is that of a table, no table that is met on the way to it has a fault, nor has this one.
 abbrev pub TablesWhole : Type 0
 TablesWhole = (section : List ℕ) (base : ℕ) (table : AddrTable) → HasBase section base table → ¬ IsFaulty (FaultBefore section base)
+
+-- Tables that fill a section have no fault.
+abbrev pub FilledWhole : Type 0
+FilledWhole = (section : List ℕ) (tables : List AddrTable) → TablesFollow section tables 0 (length section) → ¬ IsFaulty (FaultTables section)
 
 -- Contributions tile a section in one way.
 abbrev pub OneTiling : Type 0

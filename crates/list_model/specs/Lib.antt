@@ -1,10 +1,14 @@
 pub mod Addresses
 pub mod Contributions
+pub mod Costs
 pub mod Entries
 pub mod Faults
+pub mod Filled
 pub mod Headers
 pub mod Items
 pub mod Laws
+pub mod Members
+pub mod Potentials
 pub mod Reading
 pub mod Steps
 pub mod inside

@@ -1,11 +1,12 @@
 // Laws of the definitions.
-ghost use Rattle.list_model.specs.Laws.{OneTable, TablesWhole, OneTiling, ContributionsWhole, OneHolder, EntriesEnd, EntriesApart, EntriesWhole, EndsWhole, OneSaying, OneWalk, ClosestBase, WalksWhole, WalksSettled};
+ghost use Rattle.list_model.specs.Laws.{OneTable, TablesWhole, FilledWhole, OneTiling, ContributionsWhole, OneHolder, EntriesEnd, EntriesApart, EntriesWhole, EndsWhole, OneSaying, OneWalk, ClosestBase, WalksWhole, WalksSettled};
 
 /// Laws of address tables: a base is that of at most one table, and where it is that of one, no table up to there has a fault,
-/// this one included.
+/// this one included. Where tables fill the section, none has a fault.
 pub fn addresses_have_one_table()
     ensures unique { OneTable }
     ensures whole { TablesWhole }
+    ensures filled { FilledWhole }
 {}
 
 /// Laws of contributions: they tile a section in one way, and then it has no fault, and a list can begin at a place in one of

@@ -20,6 +20,6 @@ pub use contribution::{Contribution, contributions};
 pub use entry::{EntryKind, ListKind, Operand, RawEntry};
 pub use item::{Item, Items, Meaning};
 pub use laws::{addresses_have_one_table, contributions_tile, entries_end, entries_say};
-pub use read::{ReadEntry, kind_of, list_entry_limit, read_entry};
-pub use tables::{AddrTable, addr_table, addr_tables, address, table_with_base};
+pub use read::{ReadEntry, first_operand, kind_of, list_entry_limit, read_entry, second_operand};
+pub use tables::{AddrTable, AddrTables, addr_table, addr_tables, address, table_with_base};
 pub use walk::{Step, entry_step};

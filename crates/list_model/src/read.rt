@@ -58,8 +58,8 @@ pub fn list_entry_limit(reach: Reach) -> usize
     }
 }
 
-// What the first operand of a kind is.
-fn first_operand(kind: EntryKind) -> Operand
+/// What the first operand of a kind of entry is (DWARF 5 sections 2.6.2 and 2.17.3).
+pub fn first_operand(kind: EntryKind) -> Operand
     ensures { result ≡ first_of kind }
 {
     match kind {
@@ -69,8 +69,8 @@ fn first_operand(kind: EntryKind) -> Operand
     }
 }
 
-// What the second operand of a kind is.
-fn second_operand(kind: EntryKind) -> Operand
+/// What the second operand of a kind of entry is (DWARF 5 sections 2.6.2 and 2.17.3).
+pub fn second_operand(kind: EntryKind) -> Operand
     ensures { result ≡ second_of kind }
 {
     match kind {

@@ -1,8 +1,8 @@
 // Address tables, and the addresses in them.
 ghost use Rattle.std.specs.Prelude.{◌≡◌, ◌≤◌, ◌<◌, ◌+◌, ◌^◌, ◌++◌, ◌∷◌, [], List, ℕ, length, OnOk, IfOk, IfErr, MatchOption};
 ghost use Rattle.dw_base.specs.Refusals.{IsFaultOf, IsFaulty};
-ghost use Rattle.list_model.specs.Addresses.{address_place, address_of, IsAddrTable, AreAllTables, HasBase};
-ghost use Rattle.list_model.specs.Faults.{FaultTable, FaultBefore};
+ghost use Rattle.list_model.specs.Addresses.{address_place, address_of, IsAddrTable, TablesFollow, AreAllTables, HasBase};
+ghost use Rattle.list_model.specs.Faults.{FaultTable, FaultTables, FaultBefore};
 
 use crate::header::{ADDRESS_SIZE, fault_at, has_header};
 use dw_base::{Fault, Kind, NoMemory};
@@ -90,22 +90,42 @@ fn push(tables: &mut Vec<AddrTable>, table: AddrTable) -> Result<(), NoMemory>
     Ok(())
 }
 
+/// The address tables of a section, one after the other from its first byte on.
+#[derive(Drop)]
+pub struct AddrTables {
+    /// Those up to the section's end, or up to a table that has a fault.
+    pub tables: Vec<AddrTable>,
+    /// That fault, or None where the tables fill the section.
+    pub fault: Option<Fault>,
+}
+
 /// The address tables of `addr`, the body of .debug_addr (DWARF 5 section 7.27), one after the other from its first byte on, up
-/// to its end or to a table that has one of the faults that `addr_table` tells. The only error is want of memory.
-pub fn addr_tables(alloc: Global, addr: &[u8]) -> Result<Vec<AddrTable>, NoMemory>
-    requires room { length addr.now < 2 ^ 64 }
-    ensures { IfOk result (λ tables. AreAllTables addr.now tables.items) }
+/// to its end or to a table that has one of the faults that `addr_table` tells, which counts from the section's file offset
+/// `origin`. The only error is want of memory.
+pub fn addr_tables(alloc: Global, addr: &[u8], origin: u64) -> Result<AddrTables, NoMemory>
+    requires room { origin + length addr.now < 2 ^ 64 }
+    ensures all { IfOk result (λ read. AreAllTables addr.now read.tables.items) }
+    ensures fault { IfOk result (λ read. MatchOption read.fault (TablesFollow addr.now read.tables.items 0 (length addr.now)) (IsFaultOf (FaultTables addr.now) origin)) }
 {
     let mut tables = Vec::new(alloc);
     let mut at = 0;
     while at < addr.len() {
-        let Ok(table) = table_at(addr, at, 0) else {
-            break;
+        let table = match table_at(addr, at, origin) {
+            Ok(table) => table,
+            Err(fault) => {
+                return Ok(AddrTables {
+                    tables,
+                    fault: Some(fault),
+                });
+            }
         };
         push(&mut tables, table)?;
         at = place_of(&table, table.count);
     }
-    Ok(tables)
+    Ok(AddrTables {
+        tables,
+        fault: None,
+    })
 }
 
 /// The one of all tables of a section whose addresses begin at the place `base`, or None exactly where there is none. It takes no

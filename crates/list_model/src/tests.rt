@@ -43,8 +43,11 @@ fn address_in(addr: &[u8], base: u64, index: u64) -> Option<u64> {
 
 #[test]
 fn a_table_has_one_base(rt: HostRuntime) -> Result<(), Fail> {
-    let all = addr_tables(rt.alloc(), &PAIR).ok().ok_or("no memory")?;
-    assert_eq!(rt; all.as_slice(), [FIRST, SECOND].as_slice());
+    let all = addr_tables(rt.alloc(), &PAIR, ORIGIN)
+        .ok()
+        .ok_or("no memory")?;
+    assert_eq!(rt; all.tables.as_slice(), [FIRST, SECOND].as_slice());
+    assert_eq!(rt; all.fault, None);
     let found = [
         (8, Some(FIRST)),
         (32, Some(SECOND)),
@@ -62,14 +65,21 @@ fn a_table_has_one_base(rt: HostRuntime) -> Result<(), Fail> {
     ];
     for (base, table) in found {
         assert_eq!(rt; addr_table(&PAIR, base, ORIGIN), Ok(table), "at {base}");
-        assert_eq!(rt; table_with_base(&all, base), table, "at {base}");
+        assert_eq!(rt; table_with_base(&all.tables, base), table, "at {base}");
     }
     assert_eq!(rt; addr_table(&[], 8, ORIGIN), Ok(None));
     // The second table is cut.
-    let front = addr_tables(rt.alloc(), &PAIR[..39])
+    let front = addr_tables(rt.alloc(), &PAIR[..39], ORIGIN)
         .ok()
         .ok_or("no memory")?;
-    assert_eq!(rt; front.as_slice(), [FIRST].as_slice());
+    assert_eq!(rt; front.tables.as_slice(), [FIRST].as_slice());
+    assert_eq!(rt;
+        front.fault,
+        Some(Fault {
+            kind: Kind::Short,
+            place: 124
+        })
+    );
     Ok(())
 }
 

@@ -17,7 +17,7 @@ use Rattle.list_model.specs.declared.entry.RawEntry.{RawEntry}
 use Rattle.list_model.specs.declared.item.Meaning.{Meaning}
 use Rattle.list_model.specs.declared.item.Meaning.TheVariants.{Live, Dead}
 use Rattle.list_model.specs.Contributions.{bytes_from}
-use Rattle.list_model.specs.Entries.{code_of, Entry, SpellsEntry, SpellsList, IsListEnd, FaultEntry, AreSaid}
+use Rattle.list_model.specs.Entries.{code_of, Entry, SpellsEntry, SpellsList, IsListEnd, FaultEntry, AreSaid, no_expr}
 use Rattle.list_model.specs.Reading.{AreReadFrom, list_entry_limit, PassesLimit}
 use Rattle.list_model.specs.Items.{Bounds, Give, FaultIndexes}
 use Rattle.list_model.specs.Laws.{EntriesEnd, EntriesApart, EntriesWhole, EndsWhole, OneSaying, OneWalk, WalksWhole}
@@ -47,6 +47,19 @@ ended section part at raws h = h.whole ∙ ap (λ (z : List ℕ). h.front ++ (z 
 pub spelled : (section : List ℕ) (part : Contribution) (at : ℕ) (raws : List RawEntry) → IsRangeList section part at raws → (entries : List Entry) × (bytes : List ℕ) × (rest : List ℕ) × AreSaid Ranges raws entries × SpellsList Ranges entries bytes × (bytes_from section part at ≡ bytes ++ rest)
 spelled section part at raws h =
     (h.entries, h.front ++ h.end, h.rest, said at raws h.entries h.front h.read, (h.front, h.end, joined at raws h.entries h.front h.read, h.ended, refl), h.whole ∙ sym (append_assoc h.front h.end h.rest))
+
+-- entries that are spelled from a place on are read from there
+read_spelled : (at : ℕ) (entries : List Entry) (bytes : List ℕ) → Joined (SpellsEntry Ranges) entries bytes → (raws : List RawEntry) × AreReadFrom IsRead at raws entries bytes
+read_spelled at [] bytes e = ([], e)
+read_spelled at (entry ∷ entries) bytes (first, rest, s, j, e) =
+    let raw : RawEntry = record { at = at; code = s.code; a = entry.a; b = entry.b; expr = no_expr } in
+    let more = read_spelled (at + length first) entries rest j in
+    (raw ∷ more.0, (first, rest, record { place = refl; says = record { of_code = s.known; of_a = refl; of_b = refl }; without = refl; spelled = s }, more.1, e))
+
+pub written : (section : List ℕ) (part : Contribution) (at : ℕ) (entries : List Entry) (bytes rest : List ℕ) → bytes_from section part at ≡ bytes ++ rest → SpellsList Ranges entries bytes → (raws : List RawEntry) × IsRangeList section part at raws × AreSaid Ranges raws entries
+written section part at entries bytes rest whole (front, end, j, is, e) =
+    let read = read_spelled at entries front j in
+    (read.0, record { entries = entries; front = front; end = end; rest = rest; read = read.1; ended = is; whole = whole ∙ ap (λ z. z ++ rest) e ∙ append_assoc front end rest }, said at read.0 entries front read.1)
 
 pub counted : (at : ℕ) (raws : List RawEntry) (entries : List Entry) (bytes : List ℕ) → AreReadFrom IsRead at raws entries bytes → length raws ≡ length entries
 counted at [] [] bytes e = refl

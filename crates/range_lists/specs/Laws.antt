@@ -26,6 +26,10 @@ OneRangeList = (section : List ℕ) (part : Contribution) (at : ℕ) (raws other
 abbrev pub RangesSpelled : Type 0
 RangesSpelled = (section : List ℕ) (part : Contribution) (at : ℕ) (raws : List RawEntry) → IsRangeList section part at raws → (entries : List Entry) × (bytes : List ℕ) × (rest : List ℕ) × AreSaid Ranges raws entries × SpellsList Ranges entries bytes × (bytes_from section part at ≡ bytes ++ rest)
 
+-- A list that is spelled at a place is read there.
+abbrev pub RangesWritten : Type 0
+RangesWritten = (section : List ℕ) (part : Contribution) (at : ℕ) (entries : List Entry) (bytes rest : List ℕ) → bytes_from section part at ≡ bytes ++ rest → SpellsList Ranges entries bytes → (raws : List RawEntry) × IsRangeList section part at raws × AreSaid Ranges raws entries
+
 -- A list that is read has no fault, where its entries keep the limit.
 abbrev pub RangesWhole : Type 0
 RangesWhole = (section : List ℕ) (part : Contribution) (at : ℕ) (reach : Reach) (raws : List RawEntry) → IsRangeList section part at raws → length raws ≤ list_entry_limit reach → ¬ IsFaulty (FaultRangeList section part at reach)

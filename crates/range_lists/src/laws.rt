@@ -1,5 +1,5 @@
 // Laws of the definitions.
-ghost use Rattle.range_lists.specs.Laws.{RangesEnd, OneRangeList, RangesSpelled, RangesWhole, OneMeaning, ItemsWhole};
+ghost use Rattle.range_lists.specs.Laws.{RangesEnd, OneRangeList, RangesSpelled, RangesWritten, RangesWhole, OneMeaning, ItemsWhole};
 
 use list_model::{entries_end, entries_say};
 
@@ -13,6 +13,11 @@ pub fn ranges_end()
 {
     entries_end();
 }
+
+/// A law of the bytes of range lists: where the bytes of entries and an end stand at a place, they are read there.
+pub fn ranges_written()
+    ensures { RangesWritten }
+{}
 
 /// Laws of what range lists say: one thing in a context, and then no index that they ask for is one that can't be looked up.
 pub fn ranges_mean()

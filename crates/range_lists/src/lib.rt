@@ -8,5 +8,5 @@ mod read;
 mod tests;
 
 pub use items::range_items;
-pub use laws::{ranges_end, ranges_mean};
+pub use laws::{ranges_end, ranges_mean, ranges_written};
 pub use read::read_ranges;
