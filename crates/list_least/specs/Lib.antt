@@ -1,0 +1,5 @@
+pub mod Laws
+pub mod Maps
+pub mod Plans
+pub mod Shortest
+pub mod inside
