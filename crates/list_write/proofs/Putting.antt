@@ -1,0 +1,114 @@
+-- What is put behind other bytes.
+use Rattle.std.proofs.Common.{◌≡◌, ◌<◌, ◌+◌, ◌-◌, ◌*◌, ◌∙◌, ℕ, List, [], ◌∷◌, ◌++◌, length, get_or, take, sym, ap, refl, subst, arith, inl, inr}
+use Rattle.std.specs.Prelude.{Some}
+use Rattle.std.proofs.lemmas.Bool.{cases_lt}
+use Rattle.std.proofs.lemmas.List.{append_assoc, length-append, take_more}
+use Rattle.spelled.specs.Spelled.{Joined, Appends}
+use Rattle.spelled.proofs.Joins.{appends_more}
+use Rattle.leb_codec.specs.Digits.{Extends}
+use Rattle.form_codec.specs.declared.form.Width.TheVariants.{Four, Eight}
+use Rattle.form_codec.specs.Written.{low_bytes}
+use Rattle.form_codec.proofs.WriteLaws.{low_len, number_low, low_small}
+use Rattle.list_model.specs.declared.entry.EntryKind.{EntryKind}
+use Rattle.list_model.specs.declared.entry.ListKind.{ListKind}
+use Rattle.list_model.specs.declared.entry.Operand.{Operand}
+use Rattle.list_model.specs.declared.entry.Operand.TheVariants.{Absent, Number, Address}
+use Rattle.list_model.specs.Entries.{Entry, code_of, first_operand, second_operand}
+use Rattle.list_model.proofs.EntryLaws.{one_kind}
+use Rattle.list_least.specs.declared.pick.Pick.{Pick}
+use Rattle.list_least.specs.Plans.{entries_bytes, IsPick, ArePicks}
+use Rattle.list_least.specs.Shortest.{FitsOperand, ShortestEntry, ShortestList}
+use Rattle.list_least.proofs.Shortest.{shortest_lists}
+use Rattle.list_write.specs.declared.image.Moved.{Moved}
+use Rattle.list_write.specs.Written.{ToWrite, list_at}
+use Rattle.list_write.specs.inside.Places.{list_sizes}
+use Rattle.list_write.specs.inside.Puts.{ShortestOperand, told_at, IsMovedFrom, IsSlotPut, AreSlotsPut, ListStands, AreListsPut, IsSized}
+use Rattle.list_write.proofs.Entries.{no_entry, picked_at, picked_count}
+use Rattle.list_write.proofs.Placing.{sizes_more}
+use Rattle.list_write.proofs.Standing.{extends_none, extends_more, stand_last, stand_more}
+
+-- ---- entries
+
+-- an address
+pub address_put : (operand : Operand) (value : ℕ) (old new : List ℕ) → operand ≡ Address → new ≡ old ++ low_bytes Eight value → FitsOperand operand value → Appends (ShortestOperand operand) value old new
+address_put Address value old new is e fits =
+    (low_bytes Eight value, (record { size = low_len Eight value; bounded = low_small 0 8 value; is = sym (number_low Eight value fits) }, low_len Eight value), e)
+address_put Absent value old new is e fits = absurd (cc is)
+address_put Number value old new is e fits = absurd (cc is)
+
+-- the code of an entry, and its operands
+pub entry_put : (kind : ListKind) (pick : Pick) (entry : Entry) (of_code : EntryKind) (old a b new : List ℕ) → code_of kind of_code ≡ Some pick.code → IsPick kind pick entry → a ≡ old ++ pick.code ∷ [] → (FitsOperand (first_operand of_code) pick.a → Appends (ShortestOperand (first_operand of_code)) pick.a a b) → (FitsOperand (second_operand of_code) pick.b → Appends (ShortestOperand (second_operand of_code)) pick.b b new) → Appends (ShortestEntry kind) entry old new
+entry_put kind pick entry of_code old a b new known is e first second =
+    let same : of_code ≡ entry.kind = one_kind kind of_code entry.kind pick.code known is.code in
+    let fits = is.operands in
+    let x : Appends (ShortestOperand (first_operand entry.kind)) entry.a a b = subst (λ (z : ℕ). Appends (ShortestOperand (first_operand entry.kind)) z a b) is.a (subst (λ (z : EntryKind). FitsOperand (first_operand z) pick.a → Appends (ShortestOperand (first_operand z)) pick.a a b) same first (subst (λ (z : ℕ). FitsOperand (first_operand entry.kind) z) (sym is.a) fits.first)) in
+    let y : Appends (ShortestOperand (second_operand entry.kind)) entry.b b new = subst (λ (z : ℕ). Appends (ShortestOperand (second_operand entry.kind)) z b new) is.b (subst (λ (z : EntryKind). FitsOperand (second_operand z) pick.b → Appends (ShortestOperand (second_operand z)) pick.b b new) same second (subst (λ (z : ℕ). FitsOperand (second_operand entry.kind) z) (sym is.b) fits.second)) in
+    let whole : new ≡ old ++ pick.code ∷ (x.0 ++ y.0) = y.2 ∙ ap (λ z. z ++ y.0) (x.2 ∙ ap (λ z. z ++ x.0) e) ∙ append_assoc (old ++ pick.code ∷ []) x.0 y.0 ∙ append_assoc old (pick.code ∷ []) (x.0 ++ y.0) in
+    let size : length (x.0 ++ y.0) ≡ length x.0 + length y.0 = length-append x.0 y.0 in
+    (pick.code ∷ (x.0 ++ y.0), (record { code = pick.code; operands = x.0 ++ y.0; known = is.code; spelled = (x.0, y.0, x.1.0, y.1.0, refl); whole = refl }, omega (arith, size, x.1.1, y.1.1)), whole)
+
+-- the entries so far, and one more
+pub entries_put : (kind : ListKind) (picks : List Pick) (entries : List Entry) (d : Pick) (i : ℕ) (old mid new : List ℕ) → i < length picks → ArePicks kind picks entries → Appends (Joined (ShortestEntry kind)) (take i entries) old mid → ((entry : Entry) → IsPick kind (get_or picks i d) entry → Appends (ShortestEntry kind) entry mid new) → Appends (Joined (ShortestEntry kind)) (take (i + 1) entries) old new
+entries_put kind picks entries d i old mid new inside picked so_far more =
+    let count = picked_count kind picks entries picked in
+    let e = take_more entries i no_entry (omega (arith, count)) in
+    subst (λ (z : List Entry). Appends (Joined (ShortestEntry kind)) z old new) (sym e) (appends_more (ShortestEntry kind) (take i entries) (get_or entries i no_entry) old mid new so_far (more (get_or entries i no_entry) (picked_at kind picks entries picked i d no_entry inside)))
+
+-- the entries, and the end
+pub list_put : (kind : ListKind) (entries : List Entry) (old mid new : List ℕ) → Appends (Joined (ShortestEntry kind)) entries old mid → new ≡ mid ++ 0 ∷ [] → Appends (ShortestList kind) entries old new
+list_put kind entries old mid new (front, joined, e) f =
+    (front ++ 0 ∷ [], (front, 0 ∷ [], joined, refl, refl), f ∙ ap (λ z. z ++ 0 ∷ []) e ∙ append_assoc old front (0 ∷ []))
+
+-- ---- lists
+
+pub lists_none : (kind : ListKind) (lists : List ToWrite) (old : List ℕ) → AreListsPut kind lists 0 old old
+lists_none kind lists old = record { extends = extends_none old; size = omega arith; each = λ k less. absurd (omega arith) }
+
+-- a list has stood since it was put, or it is the last one
+list_stands : (kind : ListKind) (lists : List ToWrite) (count : ℕ) (old mid new : List ℕ) → AreListsPut kind lists count old mid → ((entries : List Entry) → ArePicks kind (list_at lists count).picks entries → Appends (ShortestList kind) entries mid new) → Extends mid new → (k : ℕ) → k < count + 1 → ListStands kind (list_at lists k) (length old + list_sizes lists k) new
+list_stands kind lists count old mid new so_far more extends k less =
+    elim (cases_lt k count) [
+      | inl before ↦ λ entries picked.
+          let there = so_far.each k before entries picked in
+          (there.0, there.1, stand_more (length old + list_sizes lists k) there.0 mid new extends there.2)
+      | inr past ↦
+          let same : count ≡ k = omega arith in
+          subst (λ (z : ℕ). ListStands kind (list_at lists z) (length old + list_sizes lists z) new) same (λ entries picked.
+          let put = more entries picked in
+          (put.0, put.1, stand_last mid put.0 new (length old + list_sizes lists count) put.2 so_far.size))
+    ]
+
+pub lists_more : (kind : ListKind) (lists : List ToWrite) (count : ℕ) (old mid new : List ℕ) → count < length lists → AreListsPut kind lists count old mid → IsSized kind (list_at lists count) → ((entries : List Entry) → ArePicks kind (list_at lists count).picks entries → Appends (ShortestList kind) entries mid new) → AreListsPut kind lists (count + 1) old new
+lists_more kind lists count old mid new inside so_far sized more =
+    let put = more sized.entries sized.picked in
+    let extends : Extends mid new = (put.0, put.2) in
+    let bytes : length put.0 ≡ entries_bytes sized.entries + 1 = shortest_lists.size kind sized.entries put.0 put.1 in
+    let all : length new ≡ length mid + length put.0 = ap length put.2 ∙ length-append mid put.0 in
+    let sizes : list_sizes lists (count + 1) ≡ list_sizes lists count + (list_at lists count).size = sizes_more lists count inside in
+    let own : (list_at lists count).size ≡ entries_bytes sized.entries + 1 = sized.bytes in
+    let before : length mid ≡ length old + list_sizes lists count = so_far.size in
+    record { extends = extends_more old mid new so_far.extends extends; size = omega arith; each = list_stands kind lists count old mid new so_far more extends }
+
+-- ---- slots
+
+pub slots_none : (section : List ℕ) (offsets new_offsets : ℕ) (lists : List Moved) (old : List ℕ) → AreSlotsPut section offsets new_offsets lists 0 old old
+slots_none section offsets new_offsets lists old = record { extends = extends_none old; size = omega arith; each = λ k less. absurd (omega arith) }
+
+pub slots_more : (section : List ℕ) (offsets new_offsets : ℕ) (lists : List Moved) (list : Moved) (count : ℕ) (old mid new : List ℕ) → AreSlotsPut section offsets new_offsets lists count old mid → IsMovedFrom lists (told_at section offsets (offsets + 4 * count)) list → new ≡ mid ++ low_bytes Four (list.new - new_offsets) → AreSlotsPut section offsets new_offsets lists (count + 1) old new
+slots_more section offsets new_offsets lists list count old mid new so_far moved e =
+    let extends : Extends mid new = (low_bytes Four (list.new - new_offsets), e) in
+    let few : length (low_bytes Four (list.new - new_offsets)) ≡ 4 = low_len Four (list.new - new_offsets) in
+    let all : length new ≡ length mid + length (low_bytes Four (list.new - new_offsets)) = ap length e ∙ length-append mid (low_bytes Four (list.new - new_offsets)) in
+    let before : length mid ≡ length old + 4 * count = so_far.size in
+    record {
+      extends = extends_more old mid new so_far.extends extends;
+      size = omega arith;
+      each = λ slot less. elim (cases_lt slot count) [
+        | inl x ↦
+            let there = so_far.each slot x in
+            record { list = there.list; moved = there.moved; stands = stand_more (length old + 4 * slot) (low_bytes Four (there.list.new - new_offsets)) mid new extends there.stands }
+        | inr y ↦
+            let same : count ≡ slot = omega arith in
+            subst (λ (z : ℕ). IsSlotPut section offsets new_offsets lists z (length old + 4 * z) new) same (record { list = list; moved = moved; stands = stand_last mid (low_bytes Four (list.new - new_offsets)) new (length old + 4 * count) e before })
+      ];
+    }

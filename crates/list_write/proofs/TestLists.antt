@@ -1,0 +1,44 @@
+-- What tests find ready to be written.
+use Rattle.std.proofs.Common.{◌≡◌, ◌<◌, ◌+◌, ◌-◌, ℕ, zero, suc, List, [], ◌∷◌, ◌++◌, length, get_or, take, sym, ap, subst, arith}
+use Rattle.std.proofs.lemmas.List.{take_more}
+use Rattle.std.proofs.lemmas.List.Elements.{All-push}
+use Rattle.list_model.specs.declared.entry.ListKind.{ListKind}
+use Rattle.list_model.specs.declared.entry.RawEntry.{RawEntry}
+use Rattle.list_model.specs.Entries.{Entry, Says, AreSaid}
+use Rattle.list_least.specs.Shortest.{FitOperands}
+use Rattle.list_write.specs.Written.{ToWrite, list_at}
+use Rattle.list_write.specs.inside.TestLists.{IsEntry, AreEntries, AtsRise}
+
+said_more : (kind : ListKind) (raws : List RawEntry) (entries : List Entry) (raw : RawEntry) (entry : Entry) → AreSaid kind raws entries → Says kind raw entry → AreSaid kind (raws ++ raw ∷ []) (entries ++ entry ∷ [])
+said_more kind [] [] raw entry said says = (says, tt)
+said_more kind (r ∷ raws) (e ∷ entries) raw entry said says = (said.0, said_more kind raws entries raw entry said.1 says)
+said_more kind [] (e ∷ entries) raw entry said says = absurd said
+said_more kind (r ∷ raws) [] raw entry said says = absurd said
+
+-- one more entry
+pub entries_more : (kind : ListKind) (raws : List RawEntry) (i : ℕ) (d : RawEntry) → i < length raws → AreEntries kind (take i raws) → IsEntry kind (get_or raws i d) → AreEntries kind (take (i + 1) raws)
+entries_more kind raws i d inside so_far one =
+    subst (AreEntries kind) (sym (take_more raws i d inside)) (record {
+      entries = so_far.entries ++ one.entry ∷ [];
+      said = said_more kind (take i raws) so_far.entries (get_or raws i d) one.entry so_far.said one.says;
+      fit = All-push (λ (entry : Entry). FitOperands entry.kind entry.a entry.b) so_far.entries one.entry so_far.fit one.fit;
+    })
+
+-- places that rise one by one
+rise_to : (lists : List ToWrite) (j n : ℕ) → ((k : ℕ) → 0 < k → k < length lists → (list_at lists (k - 1)).at < (list_at lists k).at) → j + n + 1 < length lists → (list_at lists j).at < (list_at lists (j + n + 1)).at
+rise_to lists j zero each inside =
+    let step = each (j + 0 + 1) (omega arith) inside in
+    let same : (j + 0 + 1) - 1 ≡ j = omega arith in
+    let from : (list_at lists ((j + 0 + 1) - 1)).at ≡ (list_at lists j).at = ap (λ (z : ℕ). (list_at lists z).at) same in
+    omega (arith, step, from)
+rise_to lists j (suc n) each inside =
+    let before = rise_to lists j n each (omega arith) in
+    let step = each (j + suc n + 1) (omega arith) inside in
+    let same : (j + suc n + 1) - 1 ≡ j + n + 1 = omega arith in
+    let from : (list_at lists ((j + suc n + 1) - 1)).at ≡ (list_at lists (j + n + 1)).at = ap (λ (z : ℕ). (list_at lists z).at) same in
+    omega (arith, before, step, from)
+
+pub ats_rise : (lists : List ToWrite) → ((k : ℕ) → 0 < k → k < length lists → (list_at lists (k - 1)).at < (list_at lists k).at) → AtsRise lists
+ats_rise lists each j k less inside =
+    let place : j + (k - j - 1) + 1 ≡ k = omega arith in
+    subst (λ (z : ℕ). (list_at lists j).at < (list_at lists z).at) place (rise_to lists j (k - j - 1) each (omega arith))

@@ -1,0 +1,20 @@
+// A section of lists that is written anew.
+use list_model::Contribution;
+
+/// Where a list began, and where it begins now. Both places count from the first byte of their section.
+#[derive(Clone, Copy, Debug, PartialEq, Eq)]
+pub struct Moved {
+    pub old: u64,
+    pub new: u64,
+}
+
+/// A section of lists that is written anew.
+#[derive(Drop)]
+pub struct ListImage {
+    /// The body of the section.
+    pub bytes: Vec<u8>,
+    /// Its contributions, in the order of the old ones.
+    pub parts: Vec<Contribution>,
+    /// Where its lists stand, in the order in which they were given.
+    pub lists: Vec<Moved>,
+}

@@ -1,0 +1,292 @@
+// Sections of lists written anew, by hand from the layouts of DWARF 5 sections 7.7.3, 7.25, 7.28 and 7.29.
+ghost use Rattle.std.specs.Prelude.{◌≤◌, length, map, IsTrue, OnOk};
+ghost use Rattle.std.specs.List.{All};
+ghost use Rattle.list_model.specs.Contributions.{lists_at, IsContribution};
+ghost use Rattle.list_least.specs.Shortest.{FitsOperand};
+ghost use Rattle.list_write.specs.Written.{to_write, AllAreTold};
+ghost use Rattle.list_write.specs.inside.TestLists.{AreSized, IsEntry, AreEntries, AtsRise, IsHeld, AreHeld, HasList, AreTold, HasRoom};
+
+use crate::part::{HEADER_SIZE, OFFSET_SIZE};
+use crate::places::front_size;
+use crate::{ListImage, Moved, NamedList, kept_plan, write_lists};
+use dw_base::Span;
+use fixed_width::u32_at;
+use list_model::{
+    Contribution, ListKind, Operand, RawEntry, contributions, first_operand, kind_of,
+    second_operand,
+};
+use std::alloc::Global;
+use std::process::Abort;
+use std::test::Fail;
+
+// ---- what can be written
+
+// Whether some bytes spell an operand.
+fn fits(operand: Operand, value: u64) -> bool
+    ensures { IsTrue result → FitsOperand operand value }
+{
+    match operand {
+        Operand::Absent => value == 0,
+        Operand::Number | Operand::Address => true,
+    }
+}
+
+// Whether some bytes spell an entry.
+fn is_entry(kind: ListKind, raw: &RawEntry) -> bool
+    ensures { IsTrue result → IsEntry kind raw.now }
+{
+    let Some(entry_kind) = kind_of(kind, raw.code) else {
+        return false;
+    };
+    fits(first_operand(entry_kind), raw.a) && fits(second_operand(entry_kind), raw.b)
+}
+
+// Whether some bytes spell entries.
+fn are_entries(kind: ListKind, raws: &Vec<RawEntry>) -> bool
+    ensures { IsTrue result → AreEntries kind raws.now.items }
+{
+    for raw in raws {
+        if !is_entry(kind, raw) {
+            return false;
+        }
+    }
+    true
+}
+
+// Whether lists stand by rising places.
+fn are_rising(lists: &Vec<NamedList>) -> bool
+    ensures { IsTrue result → AtsRise (map to_write lists.now.items) }
+{
+    for number in 1..lists.len() {
+        if lists[number].at <= lists[number - 1].at {
+            return false;
+        }
+    }
+    true
+}
+
+// Whether a list begins in its contribution.
+fn is_held(parts: &[Contribution], list: &NamedList) -> bool
+    ensures { IsTrue result → IsHeld parts.now (to_write list.now) }
+{
+    let number = list.part as usize;
+    if number >= parts.len() {
+        return false;
+    }
+    let part = parts[number];
+    list.at >= part.at && list.at - part.at >= front_size(&part) && list.at - part.at < part.len
+}
+
+// Whether each list begins in its contribution.
+fn are_held(parts: &[Contribution], lists: &Vec<NamedList>) -> bool
+    ensures { IsTrue result → AreHeld parts.now (map to_write lists.now.items) }
+{
+    for list in lists {
+        if !is_held(parts, list) {
+            return false;
+        }
+    }
+    true
+}
+
+// Whether a list begins at a place.
+fn has_list(lists: &Vec<NamedList>, at: u64) -> bool
+    ensures { IsTrue result → HasList (map to_write lists.now.items) at }
+{
+    for list in lists {
+        if list.at == at {
+            return true;
+        }
+    }
+    false
+}
+
+// Whether each offset of a contribution tells a list.
+fn are_told(section: &[u8], part: &Contribution, lists: &Vec<NamedList>) -> bool
+    requires { lists_at part.now ≤ length section.now }
+    ensures { IsTrue result → AreTold section.now part.now (map to_write lists.now.items) }
+{
+    let offsets = part.at as usize + HEADER_SIZE;
+    for slot in 0..part.slots as usize {
+        let told = u32_at(section, offsets + OFFSET_SIZE * slot);
+        if !has_list(lists, offsets as u64 + u64::from(told)) {
+            return false;
+        }
+    }
+    true
+}
+
+// Whether each offset of contributions tells a list.
+fn all_are_told(section: &[u8], parts: &[Contribution], lists: &Vec<NamedList>) -> bool
+    requires { All (IsContribution section.now) parts.now }
+    ensures { IsTrue result → AllAreTold section.now parts.now (map to_write lists.now.items) }
+{
+    for part in parts {
+        if !are_told(section, part, lists) {
+            return false;
+        }
+    }
+    true
+}
+
+// The first of the lengths that are reserved.
+const FIRST_RESERVED: u64 = 0xffff_fff0;
+
+// Whether all that is written fits.
+fn has_room(section: &[u8], lists: &Vec<NamedList>) -> bool
+    ensures { IsTrue result → HasRoom section.now (map to_write lists.now.items) }
+{
+    let mut size = section.len() as u64;
+    for list in lists {
+        let Some(more) = size.checked_add(list.plan.size) else {
+            return false;
+        };
+        size = more;
+    }
+    size < FIRST_RESERVED
+}
+
+// The image of a section with lists, which it names.
+fn written(
+    alloc: Global,
+    kind: ListKind,
+    section: &[u8],
+    lists: &Vec<NamedList>,
+) -> Result<ListImage, Fail>
+    requires { AreSized kind (map to_write lists.now.items) }
+{
+    let Ok(all) = contributions(alloc, section, 0) else {
+        return Err("no contributions")?;
+    };
+    let parts = all.as_slice();
+    if !are_rising(lists)
+        || !are_held(parts, lists)
+        || !all_are_told(section, parts, lists)
+        || !has_room(section, lists)
+    {
+        return Err("lists that can't be written")?;
+    }
+    match write_lists(alloc, kind, section, parts, lists) {
+        Ok(image) => Ok(image),
+        Err(_) => Err("no memory")?,
+    }
+}
+
+// ---- tests
+
+// An entry.
+fn entry(code: u8, a: u64, b: u64) -> RawEntry {
+    RawEntry {
+        at: 0,
+        code,
+        a,
+        b,
+        expr: Span { at: 0, len: 0 },
+    }
+}
+
+// Appends a list that keeps these entries.
+fn push_kept(
+    lists: &mut Vec<NamedList>,
+    alloc: Global,
+    kind: ListKind,
+    part: u32,
+    at: u64,
+    raws: &[RawEntry],
+) -> Result<(), Fail>
+    requires { AreSized kind (map to_write lists.old.items) }
+    ensures { OnOk result (AreSized kind (map to_write lists.new.items)) }
+{
+    let raws = raws.to_vec(alloc)?;
+    if raws.len() > 100 || !are_entries(kind, &raws) {
+        return Err("no entries")?;
+    }
+    let Ok(plan) = kept_plan(alloc, kind, &raws) else {
+        return Err("no memory")?;
+    };
+    lists.push(NamedList { part, at, plan })?;
+    Ok(())
+}
+
+#[test]
+fn a_shared_end_is_written_twice(rt: HostRuntime) -> Result<(), Fail> {
+    let alloc = rt.alloc();
+    let kind = ListKind::Ranges;
+    let section = [
+        0x0f, 0, 0, 0, 5, 0, 8, 0, 0, 0, 0, 0, 4, 0, 4, 4, 8, 0x0c, 0,
+    ];
+    let mut lists = Vec::new(alloc);
+    let entries = [entry(4, 0, 4), entry(4, 8, 0x0c)];
+    push_kept(&mut lists, alloc, kind, 0, 12, &entries)?;
+    push_kept(&mut lists, alloc, kind, 0, 15, &entries[1..])?;
+    let image = written(alloc, kind, &section, &lists)?;
+    let expected = [
+        0x13, 0, 0, 0, 5, 0, 8, 0, 0, 0, 0, 0, 4, 0, 4, 4, 8, 0x0c, 0, 4, 8, 0x0c, 0,
+    ];
+    assert_eq!(rt; image.bytes.as_slice(), expected.as_slice());
+    assert_eq!(rt;
+        image.lists.as_slice(),
+        [Moved { old: 12, new: 12 }, Moved { old: 15, new: 19 }].as_slice()
+    );
+    let part = Contribution {
+        at: 0,
+        len: 23,
+        slots: 0,
+    };
+    assert_eq!(rt; image.parts.as_slice(), [part].as_slice());
+    Ok(())
+}
+
+#[test]
+fn an_offset_tells_a_list_behind_its_contribution(rt: HostRuntime) -> Result<(), Fail> {
+    let alloc = rt.alloc();
+    let kind = ListKind::Ranges;
+    // The second contribution has a list with a padded number.
+    let section = [
+        0x17, 0, 0, 0, 5, 0, 8, 0, 2, 0, 0, 0, 0x0b, 0, 0, 0, 0x1b, 0, 0, 0, 4, 1, 2, 4, 3, 4, 0,
+        0x0d, 0, 0, 0, 5, 0, 8, 0, 0, 0, 0, 0, 4, 0x80, 0, 8, 0,
+    ];
+    let mut lists = Vec::new(alloc);
+    let entries = [entry(4, 1, 2), entry(4, 3, 4)];
+    push_kept(&mut lists, alloc, kind, 0, 20, &entries)?;
+    push_kept(&mut lists, alloc, kind, 0, 23, &entries[1..])?;
+    push_kept(&mut lists, alloc, kind, 1, 39, &[entry(4, 0, 8)])?;
+    let image = written(alloc, kind, &section, &lists)?;
+    let expected = [
+        0x1b, 0, 0, 0, 5, 0, 8, 0, 2, 0, 0, 0, 0x0f, 0, 0, 0, 0x1f, 0, 0, 0, 4, 1, 2, 4, 3, 4, 0,
+        4, 3, 4, 0, 0x0c, 0, 0, 0, 5, 0, 8, 0, 0, 0, 0, 0, 4, 0, 8, 0,
+    ];
+    assert_eq!(rt; image.bytes.as_slice(), expected.as_slice());
+    let moved = [
+        Moved { old: 20, new: 20 },
+        Moved { old: 23, new: 27 },
+        Moved { old: 39, new: 43 },
+    ];
+    assert_eq!(rt; image.lists.as_slice(), moved.as_slice());
+    Ok(())
+}
+
+#[test]
+fn entries_keep_their_kinds(rt: HostRuntime) -> Result<(), Fail> {
+    let alloc = rt.alloc();
+    let kind = ListKind::Locations;
+    // A default location, an index that sets the base, and an address with a padded length.
+    let section = [
+        0x18, 0, 0, 0, 5, 0, 8, 0, 0, 0, 0, 0, 5, 1, 0x7f, 8, 0, 0x10, 0x40, 0, 0, 0, 0, 0, 0x80,
+        0xa0, 0, 0,
+    ];
+    let entries = [
+        entry(5, 0, 0),
+        entry(1, 0x7f, 0),
+        entry(8, 0x40_1000, 0x1000),
+    ];
+    let mut lists = Vec::new(alloc);
+    push_kept(&mut lists, alloc, kind, 0, 12, &entries)?;
+    let image = written(alloc, kind, &section, &lists)?;
+    let expected = [
+        0x17, 0, 0, 0, 5, 0, 8, 0, 0, 0, 0, 0, 5, 1, 0x7f, 8, 0, 0x10, 0x40, 0, 0, 0, 0, 0, 0x80,
+        0x20, 0,
+    ];
+    assert_eq!(rt; image.bytes.as_slice(), expected.as_slice());
+    Ok(())
+}
