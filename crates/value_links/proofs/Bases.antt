@@ -7,7 +7,7 @@ use Rattle.form_codec.specs.Forms.{Meaning}
 use Rattle.form_codec.specs.Forms.Meaning.{SectionPlace}
 use Rattle.value_links.specs.Values.{IsFirstBase}
 
-abbrev is_place : Meaning → Bool
+abbrev pub is_place : Meaning → Bool
 is_place (SectionPlace n) = true
 is_place meaning = false
 
@@ -51,7 +51,7 @@ first_or_none (a ∷ attributes) name = elim (is_base a name) [
   ]
 ]
 
-abbrev place_in : Meaning → ℕ
+abbrev pub place_in : Meaning → ℕ
 place_in (SectionPlace n) = n
 place_in meaning = 0
 

@@ -12,13 +12,14 @@ use Rattle.form_codec.specs.declared.value.Value.TheVariants as value
 use Rattle.form_codec.specs.Forms.Meaning.{InUnit, InSection, SectionPlace, LocationList, RangeList, Expression}
 use Rattle.form_codec.specs.Values.{meant_in}
 use Rattle.entry_arena.specs.Arena.{value_at}
+use Rattle.list_model.specs.declared.entry.ListKind.TheVariants.{Ranges, Locations}
 use Rattle.value_links.specs.Attributes.{OffsetClass, offset_class, is_among, loclists_base, rnglists_base}
 use Rattle.value_links.specs.Attributes.OffsetClass.{LinePtr, RngList, LocList, RngListsPtr, LocListsPtr, AddrPtr, StrOffsetsPtr, MacPtr, Views, NoOffset}
 use Rattle.value_links.specs.Reading.{Linkable, unit_at}
 use Rattle.value_links.specs.Values.{root_of}
-use Rattle.value_links.specs.Linked.{Linked, OffsetLinks, Links}
-use Rattle.value_links.specs.Linked.Linked.{Itself, Refers, Program, Kept}
-use Rattle.value_links.specs.Faults.{NamesNothing, unread_opcodes, IsUnread, FaultValue}
+use Rattle.value_links.specs.Linked.{Linked, IndexLinks, OffsetLinks, Links}
+use Rattle.value_links.specs.Linked.Linked.{Itself, Refers, Program, ListAt, BaseOf, Kept}
+use Rattle.value_links.specs.LinkFaults.{NamesNothing, unread_opcodes, IsUnread, FaultValue}
 use Rattle.value_links.specs.inside.Checks.{IsBaseCause, IsCause}
 
 -- EXPRESSIONS
@@ -72,31 +73,31 @@ own_count values first count inside = let size : length (drop first values) ≡ 
 module _ (r : Linkable) (u id name : ℕ) where
   offset_cause : (class : OffsetClass) (n : ℕ) → ((w : Linked) → OffsetLinks r u id class n w → ⊥) → NamesNothing r u id class n
   offset_cause LinePtr n none = λ (p, here). none (Program p) (p, here, refl)
-  offset_cause RngList n none = tt
-  offset_cause LocList n none = tt
-  offset_cause RngListsPtr n none = tt
-  offset_cause LocListsPtr n none = tt
-  offset_cause AddrPtr n none = none (Kept n) refl
+  offset_cause RngList n none = λ here. none (ListAt Ranges n) (here, refl)
+  offset_cause LocList n none = λ here. none (ListAt Locations n) (here, refl)
+  offset_cause RngListsPtr n none = λ (p, here). none (BaseOf Ranges p) (p, here, refl)
+  offset_cause LocListsPtr n none = λ (p, here). none (BaseOf Locations p) (p, here, refl)
+  offset_cause AddrPtr n none = λ here. none (Kept n) (here, refl)
   offset_cause StrOffsetsPtr n none = none (Kept n) refl
   offset_cause MacPtr n none = none (Kept n) refl
   offset_cause Views n none = tt
   offset_cause NoOffset n none = tt
 
-  location_cause : (i : ℕ) (kind : Kind) → IsBaseCause (root_of (unit_at r u)).attributes loclists_base kind → FaultValue r u id name (LocationList i) kind
-  location_cause i Pointer base = base
-  location_cause i NoBase none = none
-  location_cause i kind other = absurd other
+  location_cause : (i : ℕ) (kind : Kind) → ((w : Linked) → IndexLinks r u Locations i w → ⊥) → IsBaseCause (root_of (unit_at r u)).attributes loclists_base kind → FaultValue r u id name (LocationList i) kind
+  location_cause i Pointer none base = (base, λ (w, links). none w links)
+  location_cause i NoBase none other = other
+  location_cause i kind none other = absurd other
 
-  range_cause : (i : ℕ) (kind : Kind) → IsBaseCause (root_of (unit_at r u)).attributes rnglists_base kind → FaultValue r u id name (RangeList i) kind
-  range_cause i Pointer base = base
-  range_cause i NoBase none = none
-  range_cause i kind other = absurd other
+  range_cause : (i : ℕ) (kind : Kind) → ((w : Linked) → IndexLinks r u Ranges i w → ⊥) → IsBaseCause (root_of (unit_at r u)).attributes rnglists_base kind → FaultValue r u id name (RangeList i) kind
+  range_cause i Pointer none base = (base, λ (w, links). none w links)
+  range_cause i NoBase none other = other
+  range_cause i kind none other = absurd other
 
   -- the cause is the fault of a value that refers to nothing
   pub cause_is : (section : List ℕ) (v : Value) (kind : Kind) → ((w : Linked) → Links r u id name (meant_in section v) w → ⊥) → IsCause (root_of (unit_at r u)).attributes v kind → FaultValue r u id name (meant_in section v) kind
   cause_is section (value.LocalRef n) kind none is = subst (λ (z : Kind). FaultValue r u id name (InUnit n) z) (sym is) (λ (target, here). none (Refers u target) (target, here, refl))
   cause_is section (value.SectionRef n) kind none is = subst (λ (z : Kind). FaultValue r u id name (InSection n) z) (sym is) (λ (unit, target, here). none (Refers unit target) (unit, target, here, refl))
   cause_is section (value.Offset n) kind none is = subst (λ (z : Kind). FaultValue r u id name (SectionPlace n) z) (sym is) (offset_cause (offset_class name) n none)
-  cause_is section (value.LocIndex i) kind none is = location_cause i kind is
-  cause_is section (value.RangeIndex i) kind none is = range_cause i kind is
+  cause_is section (value.LocIndex i) kind none is = location_cause i kind none is
+  cause_is section (value.RangeIndex i) kind none is = range_cause i kind none is
   cause_is section v kind none is = absurd (none (Itself (meant_in section v)) refl)

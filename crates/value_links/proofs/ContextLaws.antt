@@ -1,5 +1,5 @@
 -- The contexts of units, by what is held of them.
-use Rattle.std.proofs.Common.{◌≡◌, ◌<◌, ◌+◌, ◌++◌, ◌∙◌, inl, inr, ℕ, suc, List, [], ◌∷◌, length, get_or, sym, ap, subst, arith}
+use Rattle.std.proofs.Common.{◌≡◌, ◌<◌, ◌+◌, ◌++◌, ◌∙◌, inl, inr, ℕ, zero, suc, List, [], ◌∷◌, length, get_or, sym, ap, subst, arith}
 use Rattle.std.specs.Prelude.{Option, Some, None, IfSome, MatchOption}
 use Rattle.std.specs.List.{AllZip}
 use Rattle.std.proofs.Math.Seq.{get_or-append_seam}
@@ -43,6 +43,12 @@ zip_each R [] (y ∷ ys) d e size each = absurd (omega arith)
 zip_each R (x ∷ xs) [] d e size each = absurd (omega arith)
 zip_each R (x ∷ xs) (y ∷ ys) d e size each = (each 0 (omega arith), zip_each R xs ys d e (omega arith) (λ i inside. each (suc i) (omega arith)))
 
+pub zip_at : {A B : Type 0} (R : A → B → Type 0) (xs : List A) (ys : List B) (i : ℕ) (d : A) (e : B) → AllZip R xs ys → i < length xs → R (get_or xs i d) (get_or ys i e)
+zip_at R [] ys i d e all inside = absurd (omega arith)
+zip_at R (x ∷ xs) [] i d e all inside = absurd all
+zip_at R (x ∷ xs) (y ∷ ys) zero d e all inside = all.0
+zip_at R (x ∷ xs) (y ∷ ys) (suc i) d e all inside = zip_at R xs ys i d e all.1 (omega arith)
+
 -- the contexts by what is held are those by what was read
 pub contexts_read : (addr : List ℕ) (read : List UnitRead) (held : Units) (contexts : List Context) → HoldUnits read held → AreContextsHeld addr held contexts → AreContexts addr read contexts
 contexts_read addr read held contexts holds are =
@@ -56,12 +62,12 @@ contexts_read addr read held contexts holds are =
         subst (λ (z : Listing). IsContext addr (root_attributes (unit_among read u).forest (declarations_of z)) (get_or contexts u no_context)) (table_is read held u holds known)
         (subst (λ (z : HeadAndForest). IsContext addr (root_attributes z.forest (declarations_of (table_held held u))) (get_or contexts u no_context)) (held_is read held.units.items holds.units u known) here)
 
--- one more context
-pub one_more : (P : ℕ → Context → Type 0) (contexts : List Context) (context : Context) (n : ℕ) → length contexts ≡ n → ((u : ℕ) → u < n → P u (get_or contexts u no_context)) → P n context → (u : ℕ) → u < n + 1 → P u (get_or (contexts ++ context ∷ []) u no_context)
-one_more P contexts context n size each new u inside = elim (cases_lt u n) [
-  | inl before ↦ subst (P u) (sym (get_or_append_left contexts (context ∷ []) no_context u (omega arith))) (each u before)
+-- one more of what is held of each unit
+pub one_more : {X : Type 0} (P : ℕ → X → Type 0) (d : X) (xs : List X) (x : X) (n : ℕ) → length xs ≡ n → ((u : ℕ) → u < n → P u (get_or xs u d)) → P n x → (u : ℕ) → u < n + 1 → P u (get_or (xs ++ x ∷ []) u d)
+one_more P d xs x n size each new u inside = elim (cases_lt u n) [
+  | inl before ↦ subst (P u) (sym (get_or_append_left xs (x ∷ []) d u (omega arith))) (each u before)
   | inr here ↦
-      let same : length contexts ≡ u = omega arith in
-      let there : get_or (contexts ++ context ∷ []) u no_context ≡ context = ap (λ (i : ℕ). get_or (contexts ++ context ∷ []) i no_context) (sym same) ∙ get_or-append_seam contexts context [] no_context in
-      subst (λ (i : ℕ). P i (get_or (contexts ++ context ∷ []) u no_context)) (sym size ∙ same) (subst (P n) (sym there) new)
+      let same : length xs ≡ u = omega arith in
+      let there : get_or (xs ++ x ∷ []) u d ≡ x = ap (λ (i : ℕ). get_or (xs ++ x ∷ []) i d) (sym same) ∙ get_or-append_seam xs x [] d in
+      subst (λ (i : ℕ). P i (get_or (xs ++ x ∷ []) u d)) (sym size ∙ same) (subst (P n) (sym there) new)
 ]

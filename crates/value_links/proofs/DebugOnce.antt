@@ -6,15 +6,18 @@ use Rattle.form_codec.specs.Forms.{Meaning}
 use Rattle.entry_arena.specs.Forests.{Described}
 use Rattle.line_write.specs.Meaning.{ProgramMeaning}
 use Rattle.line_write.proofs.Tiling.{meaning_once as one_lines}
+use Rattle.list_model.specs.declared.entry.ListKind.{ListKind}
+use Rattle.list_model.specs.declared.entry.ListKind.TheVariants.{Ranges}
 use Rattle.value_links.specs.Sections.{debug_line}
 use Rattle.value_links.specs.Reading.{Reading, line_heads, unit_at}
 use Rattle.value_links.specs.Whole.{IsReading}
-use Rattle.value_links.specs.Resolved.{Resolved}
-use Rattle.value_links.specs.Debug.{EntryMeaning, UnitMeaning, SetMeaning, Debug, described, MeansAttribute, MeansEntry, MeansType, MeansUnit, MeansDebug}
+use Rattle.value_links.specs.Resolved.{Resolved, ListMeaning, MeansList}
+use Rattle.value_links.specs.Debug.{EntryMeaning, UnitMeaning, SetMeaning, PartMeaning, Debug, described, MeansAttribute, MeansEntry, MeansType, MeansUnit, MeansSlot, MeansPart, MeanParts, MeansDebug}
 use Rattle.value_links.specs.Laws.{OneDebug}
 use Rattle.value_links.proofs.Targets.{entry_once}
-use Rattle.value_links.proofs.LinkedOnce.{targets}
+use Rattle.value_links.proofs.LinkedOnce.{targets, slot_once}
 use Rattle.value_links.proofs.MeaningLaws.{meaning_once}
+use Rattle.value_links.proofs.ListMeanings.{list_means_once}
 use Rattle.value_links.proofs.ReadingOnce.{zip_once, reading_once}
 
 module _ (file : List ℕ) (r : Reading) (read : IsReading file r) (u : ℕ) (inside : u < length r.links.units) where
@@ -48,6 +51,23 @@ module _ (file : List ℕ) (r : Reading) (read : IsReading file r) (u : ℕ) (in
       ∙ ap (λ (z : Option ℕ). record { unit_type = y.unit_type; signature = y.signature; type_entry = z; forest = x.forest }) (type_once x.type_entry y.type_entry p.type_entry q.type_entry)
       ∙ ap (λ (z : List EntryMeaning). record { unit_type = y.unit_type; signature = y.signature; type_entry = y.type_entry; forest = z }) forest
 
+module _ (file : List ℕ) (r : Reading) (read : IsReading file r) where
+  slot_means_once : (kind : ListKind) (p i : ℕ) (x y : ListMeaning) → MeansSlot r kind p i x → MeansSlot r kind p i y → x ≡ y
+  slot_means_once kind p i x y (a, here, means) (b, there, other) =
+      let same : a ≡ b = slot_once r.links kind p i a b here there in
+      list_means_once file r read kind b x y (subst (λ (z : ℕ). MeansList r kind z x) same means) other
+
+  part_once : (kind : ListKind) (n : ℕ) (x y : PartMeaning) → MeansPart r kind n x → MeansPart r kind n y → x ≡ y
+  part_once kind n x y p q =
+      let size : length x.slots ≡ length y.slots = p.count ∙ sym q.count in
+      let slots : x.slots ≡ y.slots = same_lists x.slots y.slots size (λ i d known. slot_means_once kind n i (get_or x.slots i d) (get_or y.slots i d) (p.each i d known) (q.each i d (subst (λ (z : ℕ). i < z) size known))) in
+      ap (λ (z : List ListMeaning). record { slots = z }) slots
+
+  parts_once : (kind : ListKind) (xs ys : List PartMeaning) → MeanParts r kind xs → MeanParts r kind ys → xs ≡ ys
+  parts_once kind xs ys p q =
+      let size : length xs ≡ length ys = p.count ∙ sym q.count in
+      same_lists xs ys size (λ n d known. part_once kind n (get_or xs n d) (get_or ys n d) (p.each n d known) (q.each n d (subst (λ (z : ℕ). n < z) size known)))
+
 -- what is read means one thing
 meant_once : (file : List ℕ) (r : Reading) (a b : Debug) → IsReading file r → MeansDebug file r a → MeansDebug file r b → a ≡ b
 meant_once file r a b read p q =
@@ -55,9 +75,11 @@ meant_once file r a b read p q =
     let units : a.units ≡ b.units = same_lists a.units b.units size (λ u d inside. unit_once file r read u (subst (λ (z : ℕ). u < z) p.units.count inside) (get_or a.units u d) (get_or b.units u d) (p.units.each u d inside) (q.units.each u d (subst (λ (z : ℕ). u < z) size inside))) in
     let tiled = read.links.programs.tiled in
     let programs : a.programs ≡ b.programs = one_lines (debug_line file) a.programs b.programs (line_heads r.links.programs, tiled, p.programs) (line_heads r.links.programs, tiled, q.programs) in
-    ap (λ (z : List ProgramMeaning). record { programs = z; units = a.units; aranges = a.aranges }) programs
-    ∙ ap (λ (z : List UnitMeaning). record { programs = b.programs; units = z; aranges = a.aranges }) units
-    ∙ ap (λ (z : List SetMeaning). record { programs = b.programs; units = b.units; aranges = z }) (p.aranges ∙ sym q.aranges)
+    let ranges : a.ranges ≡ b.ranges = parts_once file r read Ranges a.ranges b.ranges p.ranges q.ranges in
+    ap (λ (z : List ProgramMeaning). record { programs = z; units = a.units; ranges = a.ranges; aranges = a.aranges }) programs
+    ∙ ap (λ (z : List UnitMeaning). record { programs = b.programs; units = z; ranges = a.ranges; aranges = a.aranges }) units
+    ∙ ap (λ (z : List PartMeaning). record { programs = b.programs; units = b.units; ranges = z; aranges = a.aranges }) ranges
+    ∙ ap (λ (z : List SetMeaning). record { programs = b.programs; units = b.units; ranges = b.ranges; aranges = z }) (p.aranges ∙ sym q.aranges)
 
 pub debug_once : OneDebug
 debug_once file a b (r, r_read, a_means) (s, s_read, b_means) =

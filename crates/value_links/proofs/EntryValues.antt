@@ -10,9 +10,10 @@ use Rattle.form_codec.specs.Values.{meant_in}
 use Rattle.abbrev_tables.specs.declared.decl.Spec.{Spec}
 use Rattle.abbrev_tables.specs.Listings.{spec_at}
 use Rattle.entry_arena.specs.Arena.{value_at}
-use Rattle.entry_arena.proofs.StepLaws.{values_counted}
+use Rattle.entry_arena.proofs.StepLaws.{values_counted, values_front}
 use Rattle.entry_read.specs.Places.{HaveOwners, StandsAtColumn}
-use Rattle.value_links.specs.Reading.{UnitRead, declarations}
+use Rattle.entry_read.proofs.PlaceLaws.{entry_stands}
+use Rattle.value_links.specs.Reading.{UnitRead, declarations, IsUnitRead}
 use Rattle.value_links.specs.Values.{entry_of, declaration_of, values_of, HasValueAt}
 use Rattle.value_links.proofs.Causes.{own_value, own_count}
 
@@ -65,3 +66,10 @@ module _ (unit : UnitRead) (owned : HaveOwners (declarations unit) unit.forest) 
   unfolding column_of
   column_numbered number name meaning place h =
       h.numbered ∙ ap (λ (z : ℕ). (entry_of unit id).first + z) (values_counted unit.forest.section h.earlier_columns h.earlier h.values_at place h.valued)
+
+-- each column of an entry of a unit that was read has a value that stands somewhere
+pub column_stands : (info abbrevs : List ℕ) (unit : UnitRead) → IsUnitRead info abbrevs unit → HaveOwners (declarations unit) unit.forest → (id k : ℕ) → id < length unit.forest.entries → k < (entry_of unit id).count → (place : ℕ) × HasValueAt unit id ((entry_of unit id).first + k) (spec_at (declaration_of unit id).columns k).name (meant_in unit.forest.section (value_at unit.forest.values ((entry_of unit id).first + k))) place
+column_stands info abbrevs unit is owned id k known inside =
+    let s = entry_stands info unit.head (declarations unit) unit.forest is.section is.entries id known in
+    let front = values_front unit.forest.section (declaration_of unit id).columns (values_of unit id) s.values_at ((entry_of unit id).at + (entry_of unit id).len) k s.valued in
+    (front.0, stands_at unit owned id known k front.0 inside (record { values_at = s.values_at; coded = s.coded; valued = front.1 }))

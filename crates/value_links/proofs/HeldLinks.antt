@@ -1,5 +1,5 @@
 -- What values refer to is known from what is held: rows of programs don't tell, and the units are those that are held.
-use Rattle.std.proofs.Common.{◌≡◌, ◌<◌, ◌+◌, ◌^◌, ◌∙◌, ℕ, suc, List, [], ◌∷◌, length, get_or, sym, ap, subst, refl, arith}
+use Rattle.std.proofs.Common.{◌≡◌, ◌<◌, ◌+◌, ◌∙◌, ℕ, suc, List, [], ◌∷◌, length, get_or, sym, ap, subst, refl, arith}
 use Rattle.std.specs.Prelude.{map, Option, Some, None}
 use Rattle.std.proofs.lemmas.List.{get_or-map, length-map}
 use Rattle.std.proofs.lemmas.Slice.Zip.{AllZip-long}
@@ -8,22 +8,30 @@ use Rattle.form_codec.specs.Forms.{Meaning}
 use Rattle.form_codec.specs.Forms.Meaning.{InUnit, InSection, SectionPlace, LocationList, RangeList}
 use Rattle.dw_base.specs.declared.fault.Reach.{Reach}
 use Rattle.entry_read.specs.Units.{HeadAndForest}
-use Rattle.companions.specs.declared.set.ArangeSet.{ArangeSet}
+use Rattle.entry_arena.specs.Arena.{IsEntryAt}
+use Rattle.entry_read.specs.Heads.{type_unit}
+use Rattle.list_model.specs.declared.contribution.Contribution.{Contribution}
+use Rattle.list_model.specs.declared.entry.ListKind.TheVariants.{Ranges}
+use Rattle.list_model.specs.declared.tables.AddrTable.{AddrTable}
+use Rattle.list_model.specs.Addresses.{HasBase}
 use Rattle.value_links.specs.declared.link.Link.{Link}
 use Rattle.value_links.specs.declared.parts.Parts.{Parts}
 use Rattle.value_links.specs.declared.units.NamedTable.{NamedTable}
-use Rattle.value_links.specs.Attributes.{OffsetClass, offset_class}
-use Rattle.value_links.specs.Attributes.OffsetClass.{LinePtr}
-use Rattle.value_links.specs.Reading.{ProgramRead, UnitRead, Linkable, Reading, line_heads, no_program, unit_among}
+use Rattle.value_links.specs.Sections.{debug_addr, debug_rnglists}
+use Rattle.value_links.specs.Attributes.{OffsetClass, offset_class, rnglists_base}
+use Rattle.value_links.specs.Attributes.OffsetClass.{LinePtr, RngList, RngListsPtr, AddrPtr}
+use Rattle.value_links.specs.Reading.{ProgramRead, UnitRead, ListSection, Linkable, Reading, line_heads, no_program, unit_at, unit_among, part_at}
+use Rattle.value_links.specs.ListPlaces.{IsListPlace, IsOffsetsAt, NamesPart, IsBaseOf}
 use Rattle.list_model.specs.declared.context.Context.{Context}
-use Rattle.value_links.specs.Values.{root_of}
+use Rattle.value_links.specs.Values.{HasValueAt, root_of}
 use Rattle.value_links.specs.Contexts.{IsContext}
 use Rattle.value_links.specs.Linked.{Linked, IsTargetAt, OffsetLinks, Links}
+use Rattle.value_links.specs.Laws.{AreLinked}
 use Rattle.value_links.specs.Links.{IsLinkFound}
 use Rattle.value_links.specs.Parts.{HoldsParts}
 use Rattle.value_links.specs.World.{World, head_and_forest, AreTablesOf, Holds, IsWorldOf}
 use Rattle.value_links.proofs.HeldUnits.{held_count}
-use Rattle.value_links.proofs.WorldLaws.{world_by, few_of_valid}
+use Rattle.value_links.specs.inside.World.{IsHeldIn}
 
 -- UNITS
 
@@ -60,46 +68,78 @@ program_held a b p e inside =
 
 -- LINKS
 
-module _ (u id name : ℕ) (r s : Linkable) (heads : line_heads r.programs ≡ line_heads s.programs) (units : r.units ≡ s.units) where
-  offset_held : (class : OffsetClass) (n : ℕ) (linked : Linked) → OffsetLinks r u id class n linked → OffsetLinks s u id class n linked
-  offset_held LinePtr n linked (p, (inside, here), is) =
-      let (known, head) = program_held r.programs s.programs p heads inside in
+-- what is held of both is the same
+pub record AreAlike (r s : Linkable) : Type 0 where
+  pub heads : line_heads r.programs ≡ line_heads s.programs
+  pub units : r.units ≡ s.units
+  pub contexts : r.contexts ≡ s.contexts
+  pub addresses : r.addresses ≡ s.addresses
+  pub ranges : r.ranges ≡ s.ranges
+
+pub alike_back : (r s : Linkable) → AreAlike r s → AreAlike s r
+alike_back r s same = record { heads = sym same.heads; units = sym same.units; contexts = sym same.contexts; addresses = sym same.addresses; ranges = sym same.ranges }
+
+module _ (r s : Linkable) (same : AreAlike r s) where
+  offset_held : (u id : ℕ) (class : OffsetClass) (n : ℕ) (linked : Linked) → OffsetLinks r u id class n linked → OffsetLinks s u id class n linked
+  offset_held u id LinePtr n linked (p, (inside, here), is) =
+      let (known, head) = program_held r.programs s.programs p same.heads inside in
       (p, (known, sym (ap (λ (h : Head). h.at) head) ∙ here), is)
-  offset_held class n linked f = f
+  offset_held u id RngList n linked (here, is) = (subst (λ (z : ListSection). (p : ℕ) × IsListPlace z p n) same.ranges here, is)
+  offset_held u id RngListsPtr n linked (p, here, is) = (p, subst (λ (z : ListSection). IsOffsetsAt z n p) same.ranges here, is)
+  offset_held u id AddrPtr n linked (here, is) = (subst (λ (z : List ℕ). (table : AddrTable) × HasBase z n table) same.addresses here, is)
+  offset_held u id class n linked f = f
 
-  links_held : (meaning : Meaning) (linked : Linked) → Links r u id name meaning linked → Links s u id name meaning linked
-  links_held (InUnit n) linked (target, here, is) = (target, subst (λ (us : List UnitRead). IsTargetAt (unit_among us u).forest target ((unit_among us u).head.at + n)) units here, is)
-  links_held (InSection n) linked (unit, target, here, is) = (unit, target, subst (λ (us : List UnitRead). (unit < length us) × IsTargetAt (unit_among us unit).forest target n) units here, is)
-  links_held (SectionPlace n) linked f = offset_held (offset_class name) n linked f
-  links_held (LocationList i) linked f = absurd f
-  links_held (RangeList i) linked f = absurd f
-  links_held meaning linked f = f
+  base_held : (u p : ℕ) → IsBaseOf r u Ranges p → IsBaseOf s u Ranges p
+  base_held u p named = subst (λ (us : List UnitRead). NamesPart s.ranges (root_of (unit_among us u)).attributes rnglists_base p) same.units (subst (λ (z : ListSection). NamesPart z (root_of (unit_at r u)).attributes rnglists_base p) same.ranges named)
 
-link_by_heads : (r s : Linkable) (u id name : ℕ) (meaning : Meaning) (found : Option Link) → line_heads r.programs ≡ line_heads s.programs → r.units ≡ s.units → IsLinkFound r u id name meaning found → IsLinkFound s u id name meaning found
-link_by_heads r s u id name meaning None heads units f = λ linked g. f linked (links_held u id name s r (sym heads) (sym units) meaning linked g)
-link_by_heads r s u id name meaning (Some link) heads units (linked, f, told) = (linked, links_held u id name r s heads units meaning linked f, told)
+  links_held : (u id name : ℕ) (meaning : Meaning) (linked : Linked) → Links r u id name meaning linked → Links s u id name meaning linked
+  links_held u id name (InUnit n) linked (target, here, is) = (target, subst (λ (us : List UnitRead). IsTargetAt (unit_among us u).forest target ((unit_among us u).head.at + n)) same.units here, is)
+  links_held u id name (InSection n) linked (unit, target, here, is) = (unit, target, subst (λ (us : List UnitRead). (unit < length us) × IsTargetAt (unit_among us unit).forest target n) same.units here, is)
+  links_held u id name (SectionPlace n) linked f = offset_held u id (offset_class name) n linked f
+  links_held u id name (LocationList i) linked (p, (n, first, (inside, at)), less, is) = absurd (omega (arith, inside))
+  links_held u id name (RangeList i) linked (p, named, less, is) = (p, base_held u p named, subst (λ (z : ListSection). i < (part_at z p).slots) same.ranges less, is)
+  links_held u id name meaning linked f = f
+
+  value_held : (u id number name : ℕ) (meaning : Meaning) (place : ℕ) → HasValueAt (unit_at s u) id number name meaning place → HasValueAt (unit_at r u) id number name meaning place
+  value_held u id number name meaning place here = subst (λ (us : List UnitRead). HasValueAt (unit_among us u) id number name meaning place) (sym same.units) here
+
+  known_held : (u : ℕ) → u < length s.units → u < length r.units
+  known_held u inside = subst (λ (us : List UnitRead). u < length us) (sym same.units) inside
+
+  -- where all values of one are linked, those of the other are
+  pub linked_held : AreLinked r → AreLinked s
+  linked_held linked = record {
+    values = λ u id number name meaning place inside here. let (to, links) = linked.values u id number name meaning place (known_held u inside) (value_held u id number name meaning place here) in (to, links_held u id name meaning to links);
+    read = λ u id number name meaning place inside here. linked.read u id number name meaning place (known_held u inside) (value_held u id number name meaning place here);
+    types = λ u inside is_type.
+        let (id, here) = linked.types u (known_held u inside) (subst (λ (us : List UnitRead). (unit_among us u).head.kind ≡ type_unit) (sym same.units) is_type) in
+        (id, subst (λ (us : List UnitRead). IsEntryAt (unit_among us u).forest id ((unit_among us u).head.at + (unit_among us u).head.type_at)) same.units here);
+  }
+
+link_alike : (r s : Linkable) (u id name : ℕ) (meaning : Meaning) (found : Option Link) → AreAlike r s → IsLinkFound r u id name meaning found → IsLinkFound s u id name meaning found
+link_alike r s u id name meaning None same f = λ linked g. f linked (links_held s r (alike_back r s same) u id name meaning linked g)
+link_alike r s u id name meaning (Some link) same (linked, f, told) = (linked, links_held r s same u id name meaning linked f, told)
+
+-- what is read of which these are the parts is alike
+pub parts_alike : (file other : List ℕ) (r s : Linkable) (parts : Parts) → HoldsParts file r parts → HoldsParts other s parts → AreAlike r s
+parts_alike file other r s parts p q = record {
+  heads = sym p.programs ∙ q.programs;
+  units = units_held_once r.units s.units parts.units.units.items parts.units.tables.items parts.units.table_of.items p.units.units q.units.units p.units.tables q.units.tables;
+  contexts = sym p.contexts ∙ q.contexts;
+  addresses = sym p.addresses ∙ q.addresses;
+  ranges = sym p.ranges ∙ q.ranges;
+}
+
+-- so where all values of one are linked, those of each are
+pub each_linked : (file : List ℕ) (r : Linkable) (parts : Parts) → HoldsParts file r parts → AreLinked r → (other : List ℕ) (s : Linkable) → HoldsParts other s parts → AreLinked s
+each_linked file r parts holds linked other s held = linked_held r s (parts_alike file other r s parts holds held) linked
 
 -- THE WORLD
 
-module _ (world : World) (reach : Reach) (is : IsWorldOf world.image reach world) where
-  -- the parts of a world are those of what was read
-  world_holds : (image : List ℕ) (parts : Parts) (sets : List ArangeSet) → world_by image parts sets ≡ world → HoldsParts world.image is.r.links parts
-  world_holds image parts sets same =
-      let own = is.holds in
-      let programs : parts.programs.items ≡ line_heads is.r.links.programs = ap (λ (w : World). w.programs) same ∙ own.programs in
-      let count : length parts.programs.items ≡ length is.r.links.programs = ap length programs ∙ length-map is.r.links.programs (λ (x : ProgramRead). x.head) in
-      let few : length is.r.links.programs < 2 ^ 32 = few_of_valid world.image reach is.r.links.programs is.valid is.read.links.programs in
-      record {
-        read = is.read.links;
-        programs = programs;
-        units = record {
-          units = ap (λ (w : World). w.units) same ∙ own.units;
-          tables = subst (λ (w : World). AreTablesOf is.r.links.units w.tables w.table_of) (sym same) own.tables;
-        };
-        contexts = ap (λ (w : World). w.contexts) same ∙ own.contexts;
-        few = subst (λ (n : ℕ). n < 2 ^ 32) (sym count) few;
-      }
+section_same : (a b : ListSection) → a.section ≡ b.section → a.parts ≡ b.parts → a ≡ b
+section_same a b section parts = ap (λ (z : List ℕ). record { section = z; parts = a.parts }) section ∙ ap (λ (z : List Contribution). record { section = b.section; parts = z }) parts
 
+module _ (world : World) (reach : Reach) (is : IsWorldOf world.image reach world) where
   -- each unit has a context
   pub contexts_counted : length world.contexts ≡ length world.units
   contexts_counted =
@@ -108,16 +148,23 @@ module _ (world : World) (reach : Reach) (is : IsWorldOf world.image reach world
       ap length is.holds.contexts ∙ each ∙ sym (held_count links.units world.units is.holds.units)
 
   module _ (file : List ℕ) (r : Reading) (holds : Holds file world r) where
-    -- what is held tells the units, the heads of programs and the contexts
+    -- what is held tells the units, the heads of programs, the contexts, the addresses and the contributions
+    pub world_alike : AreAlike is.r.links r.links
+    world_alike = record {
+      heads = sym is.holds.programs ∙ holds.programs;
+      units = units_held_once is.r.links.units r.links.units world.units world.tables world.table_of is.holds.units holds.units is.holds.tables holds.tables;
+      contexts = sym is.holds.contexts ∙ holds.contexts;
+      addresses = is.holds.addresses ∙ ap debug_addr holds.image ∙ sym holds.addresses;
+      ranges = section_same is.r.links.ranges r.links.ranges (is.holds.ranges ∙ ap debug_rnglists holds.image ∙ sym holds.ranges) (sym is.holds.contributions ∙ holds.contributions);
+    }
+
     pub units_held : is.r.links.units ≡ r.links.units
-    units_held = units_held_once is.r.links.units r.links.units world.units world.tables world.table_of is.holds.units holds.units is.holds.tables holds.tables
+    units_held = world_alike.units
 
-    pub heads_held : line_heads is.r.links.programs ≡ line_heads r.links.programs
-    heads_held = sym is.holds.programs ∙ holds.programs
-
-    -- what the parts of a world give as the link of a value is it in each reading that is held so
-    pub link_held : (image : List ℕ) (parts : Parts) (sets : List ArangeSet) → world_by image parts sets ≡ world → (u id name : ℕ) (meant : List UnitRead → Meaning) (found : Option Link) → ((f : List ℕ) (s : Linkable) → HoldsParts f s parts → IsLinkFound s u id name (meant s.units) found) → IsLinkFound r.links u id name (meant r.links.units) found
-    link_held image parts sets same u id name meant found each =
-        let here : IsLinkFound is.r.links u id name (meant is.r.links.units) found = each world.image is.r.links (world_holds image parts sets same) in
-        let moved : IsLinkFound is.r.links u id name (meant r.links.units) found = subst (λ (us : List UnitRead). IsLinkFound is.r.links u id name (meant us) found) units_held here in
-        link_by_heads is.r.links r.links u id name (meant r.links.units) found heads_held units_held moved
+-- what the parts of a world give as the link of a value is it in each reading that is held so
+pub link_held : (world : World) (parts : Parts) (held : IsHeldIn world.image parts world) (file : List ℕ) (r : Reading) → Holds file world r → (u id name : ℕ) (meant : List UnitRead → Meaning) (found : Option Link) → ((f : List ℕ) (s : Linkable) → HoldsParts f s parts → IsLinkFound s u id name (meant s.units) found) → IsLinkFound r.links u id name (meant r.links.units) found
+link_held world parts held file r holds u id name meant found each =
+    let own : Linkable = held.is.r.links in
+    let same : AreAlike own r.links = world_alike world held.reach held.is file r holds in
+    let here : IsLinkFound own u id name (meant own.units) found = each world.image own held.parts_are in
+    link_alike own r.links u id name (meant r.links.units) found same (subst (λ (us : List UnitRead). IsLinkFound own u id name (meant us) found) same.units here)

@@ -5,17 +5,23 @@ use Rattle.form_codec.specs.Forms.{Meaning}
 use Rattle.form_codec.specs.Forms.Meaning.{InUnit, InSection, SectionPlace, LocationList, RangeList}
 use Rattle.entry_arena.specs.declared.entry.Target.{Target}
 use Rattle.entry_read.specs.Units.{entries_at, end_of}
+use Rattle.list_model.specs.declared.contribution.Contribution.{Contribution}
+use Rattle.list_model.specs.declared.entry.ListKind.{ListKind}
+use Rattle.list_model.specs.declared.entry.ListKind.TheVariants.{Ranges, Locations}
 use Rattle.value_links.specs.Sections.{debug_info, debug_abbrev, debug_line}
 use Rattle.value_links.specs.Attributes.{OffsetClass, offset_class}
 use Rattle.value_links.specs.Attributes.OffsetClass.{LinePtr, RngList, LocList, RngListsPtr, LocListsPtr, AddrPtr, StrOffsetsPtr, MacPtr, Views, NoOffset}
-use Rattle.value_links.specs.Reading.{ProgramRead, UnitRead, Linkable, no_program, program_at, no_unit, unit_at, declarations, IsUnitRead}
+use Rattle.value_links.specs.Reading.{ProgramRead, UnitRead, Linkable, no_program, program_at, no_unit, unit_at, of_kind, part_at, declarations, IsUnitRead}
+use Rattle.value_links.specs.Values.{root_of}
+use Rattle.value_links.specs.ListPlaces.{IsOffsetsAt, SlotNames, IsBaseOf, base_of}
 use Rattle.value_links.specs.Whole.{IsReadToLinks}
-use Rattle.value_links.specs.Linked.{Linked, IsTargetAt, IsSectionTarget, IsProgramAt, OffsetLinks, Links}
-use Rattle.value_links.specs.Linked.Linked.{Refers, Program}
+use Rattle.value_links.specs.Linked.{Linked, IsTargetAt, IsSectionTarget, IsProgramAt, OffsetLinks, IndexLinks, Links}
+use Rattle.value_links.specs.Linked.Linked.{Refers, Program, SlotAt, BaseOf}
 use Rattle.value_links.specs.Laws.{OneLinked}
 use Rattle.value_links.proofs.Targets.{HasTargets, held_targets, target_once}
 use Rattle.entry_read.proofs.Chained.{has_bytes, lies_once}
-use Rattle.value_links.proofs.Tiles.{units_chained, programs_chained}
+use Rattle.value_links.proofs.Tiles.{units_chained, programs_chained, parts_chained, tiled_of}
+use Rattle.value_links.proofs.Bases.{one_base}
 
 module _ (file : List ℕ) (r : Linkable) (read : IsReadToLinks file r) where
   unit_read : (u : ℕ) → u < length r.units → IsUnitRead (debug_info file) (debug_abbrev file) (unit_at r u)
@@ -56,13 +62,36 @@ module _ (file : List ℕ) (r : Linkable) (read : IsReadToLinks file r) where
       let q_some : 0 < (program_at r q).head.len = has_bytes at len r.programs 0 (length (debug_line file)) q no_program chained q_in in
       lies_once at len r.programs 0 (length (debug_line file)) p q n no_program chained p_in q_in (omega arith) (omega arith) (omega arith) (omega arith)
 
+  -- so is the contribution whose offsets begin at a place
+  part_once : (kind : ListKind) (n p q : ℕ) → IsOffsetsAt (of_kind r kind) n p → IsOffsetsAt (of_kind r kind) n q → p ≡ q
+  part_once kind n p q (p_in, p_at) (q_in, q_at) =
+      let section = of_kind r kind in
+      let at : Contribution → ℕ = λ x. x.at in
+      let len : Contribution → ℕ = λ x. x.len in
+      let none : Contribution = record { at = 0; len = 0; slots = 0 } in
+      let chained = parts_chained section.section section.parts 0 (length section.section) (tiled_of file r read kind) in
+      let p_some : 0 < (part_at section p).len = has_bytes at len section.parts 0 (length section.section) p none chained p_in in
+      let q_some : 0 < (part_at section q).len = has_bytes at len section.parts 0 (length section.section) q none chained q_in in
+      let p_here : (part_at section p).at + 12 ≡ n = p_at in
+      let q_here : (part_at section q).at + 12 ≡ n = q_at in
+      lies_once at len section.parts 0 (length section.section) p q (part_at section p).at none chained p_in q_in (omega arith) (omega arith) (omega arith) (omega arith)
+
+  -- and the contribution whose slots the indexes of a unit count
+  pub base_once : (u : ℕ) (kind : ListKind) (p q : ℕ) → IsBaseOf r u kind p → IsBaseOf r u kind q → p ≡ q
+  base_once u kind p q (n, first, here) (m, other, there) =
+      let same : n ≡ m = one_base (root_of (unit_at r u)).attributes (base_of kind) n m first other in
+      part_once kind m p q (subst (λ (z : ℕ). IsOffsetsAt (of_kind r kind) z p) same here) there
+
+  index_once : (u : ℕ) (kind : ListKind) (i : ℕ) (v w : Linked) → IndexLinks r u kind i v → IndexLinks r u kind i w → v ≡ w
+  index_once u kind i v w (p, here, less, e) (q, there, more, f) = e ∙ ap (λ (z : ℕ). SlotAt kind z i) (base_once u kind p q here there) ∙ sym f
+
   offset_once : (u id : ℕ) (class : OffsetClass) (n : ℕ) (v w : Linked) → OffsetLinks r u id class n v → OffsetLinks r u id class n w → v ≡ w
   offset_once u id LinePtr n v w (p, here, e) (q, there, f) = e ∙ ap (λ (z : ℕ). Program z) (program_once n p q here there) ∙ sym f
-  offset_once u id RngList n v w a b = absurd a
-  offset_once u id LocList n v w a b = absurd a
-  offset_once u id RngListsPtr n v w a b = absurd a
-  offset_once u id LocListsPtr n v w a b = absurd a
-  offset_once u id AddrPtr n v w a b = a ∙ sym b
+  offset_once u id RngList n v w (_, e) (_, f) = e ∙ sym f
+  offset_once u id LocList n v w (_, e) (_, f) = e ∙ sym f
+  offset_once u id RngListsPtr n v w (p, here, e) (q, there, f) = e ∙ ap (λ (z : ℕ). BaseOf Ranges z) (part_once Ranges n p q here there) ∙ sym f
+  offset_once u id LocListsPtr n v w (p, here, e) (q, there, f) = e ∙ ap (λ (z : ℕ). BaseOf Locations z) (part_once Locations n p q here there) ∙ sym f
+  offset_once u id AddrPtr n v w (_, e) (_, f) = e ∙ sym f
   offset_once u id StrOffsetsPtr n v w a b = a ∙ sym b
   offset_once u id MacPtr n v w a b = a ∙ sym b
   offset_once u id Views n v w a b = absurd a
@@ -74,9 +103,13 @@ module _ (file : List ℕ) (r : Linkable) (read : IsReadToLinks file r) where
       e ∙ ap (λ (z : Target). Refers u z) target ∙ sym f
   value_once u id name (InSection n) v w inside (x, a, here, e) (y, b, there, f) = e ∙ section_once x y a b n here there ∙ sym f
   value_once u id name (SectionPlace n) v w inside a b = offset_once u id (offset_class name) n v w a b
-  value_once u id name (LocationList i) v w inside a b = absurd a
-  value_once u id name (RangeList i) v w inside a b = absurd a
+  value_once u id name (LocationList i) v w inside a b = index_once u Locations i v w a b
+  value_once u id name (RangeList i) v w inside a b = index_once u Ranges i v w a b
   value_once u id name meaning v w inside a b = a ∙ sym b
 
 pub linked_once : OneLinked
 linked_once file r u id name meaning v w read inside a b = value_once file r read u id name meaning v w inside a b
+
+-- a slot tells one place
+pub slot_once : (r : Linkable) (kind : ListKind) (p i a b : ℕ) → SlotNames (of_kind r kind) p i a → SlotNames (of_kind r kind) p i b → a ≡ b
+slot_once r kind p i a b (here, _) (there, _) = here.tells ∙ sym there.tells

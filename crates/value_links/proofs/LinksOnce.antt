@@ -8,18 +8,19 @@ use Rattle.abbrev_tables.specs.Listings.{spec_at}
 use Rattle.entry_arena.specs.Arena.{value_at}
 use Rattle.entry_read.specs.Places.{HaveOwners}
 use Rattle.value_links.specs.declared.link.Link.{Link}
+use Rattle.value_links.specs.declared.link.Link.TheVariants.{Plain, Place, Lines, List as AtList, Slot, Base, Kept as KeptPlace}
 use Rattle.value_links.specs.Sections.{debug_info, debug_abbrev}
 use Rattle.value_links.specs.Reading.{UnitRead, Linkable, no_unit, declarations, unit_at}
 use Rattle.value_links.specs.Values.{entry_of, declaration_of, HasValueAt}
 use Rattle.value_links.specs.inside.Values.{meaning_at}
 use Rattle.value_links.specs.Linked.{Linked, Links}
-use Rattle.value_links.specs.Linked.Linked.{Itself, Refers, Program, Kept}
-use Rattle.value_links.specs.Links.{IsLinkOf}
+use Rattle.value_links.specs.Linked.Linked.{Itself, Refers, Program, ListAt, SlotAt, BaseOf, Kept}
+use Rattle.value_links.specs.Links.{IsLinkOf, IsFollowed}
 use Rattle.value_links.specs.inside.Owners.{IsOwner, name_with}
 use Rattle.value_links.specs.Laws.{OneLinkedValue, OneLink}
 use Rattle.value_links.proofs.HeldUnits.{unit_owners}
 use Rattle.value_links.proofs.EntryValues.{column_of, column_numbered}
-use Rattle.value_links.proofs.LinkedOnce.{linked_once}
+use Rattle.value_links.proofs.LinkedOnce.{slot_once, linked_once}
 use Rattle.value_links.proofs.Owning.{owner_once}
 
 -- the number of a value tells its entry, the name of its attribute and what it says
@@ -67,9 +68,23 @@ told_once : (linked : Linked) (a b : Link) → IsLinkOf linked a → IsLinkOf li
 told_once (Itself meaning) a b e f = e ∙ sym f
 told_once (Refers unit target) a b e f = e ∙ sym f
 told_once (Program program) a b e f = e ∙ sym f
+told_once (ListAt kind place) a b e f = e ∙ sym f
+told_once (SlotAt kind part slot) a b e f = e ∙ sym f
+told_once (BaseOf kind part) a b e f = e ∙ sym f
 told_once (Kept place) a b e f = e ∙ sym f
 
+-- and it is followed to one
+followed_once : (r : Linkable) (told a b : Link) → IsFollowed r told a → IsFollowed r told b → a ≡ b
+followed_once r (Slot kind part slot) a b (x, here, e) (y, there, f) = e ∙ ap (λ (z : ℕ). AtList kind z) (slot_once r kind part slot x y here there) ∙ sym f
+followed_once r Plain a b e f = e ∙ sym f
+followed_once r (Place unit target) a b e f = e ∙ sym f
+followed_once r (Lines program) a b e f = e ∙ sym f
+followed_once r (AtList kind place) a b e f = e ∙ sym f
+followed_once r (Base kind part) a b e f = e ∙ sym f
+followed_once r (KeptPlace place) a b e f = e ∙ sym f
+
 pub link_once : OneLink
-link_once file r u number a b read (v, here, told) (w, there, other) =
+link_once file r u number a b read (v, s, here, told, followed) (w, t, there, other, behind) =
     let same : v ≡ w = linked_value_once file r u number v w read here there in
-    told_once w a b (subst (λ (z : Linked). IsLinkOf z a) same told) other
+    let one : s ≡ t = told_once w s t (subst (λ (z : Linked). IsLinkOf z s) same told) other in
+    followed_once r t a b (subst (λ (z : Link). IsFollowed r z a) one followed) behind

@@ -1,30 +1,89 @@
--- What a value refers to means one thing.
-use Rattle.std.proofs.Common.{◌≡◌, ◌∙◌, sym, subst, refl}
-use Rattle.value_links.specs.Linked.{Linked}
-use Rattle.value_links.specs.Linked.Linked.{Itself as LinkItself, Refers as LinkRefers, Program as LinkProgram, Kept as LinkKept}
-use Rattle.value_links.specs.Resolved.{Resolved, ResolvesLink}
-use Rattle.value_links.specs.Resolved.Resolved.{Itself, Refers, Program, Kept}
+-- What a value refers to means one thing, and means something where all is told of lists.
+use Rattle.std.proofs.Common.{◌≡◌, ◌<◌, ◌∙◌, inl, inr, ℕ, List, length, sym, ap, subst, refl, arith}
+use Rattle.form_codec.specs.Forms.{Meaning}
+use Rattle.form_codec.specs.Forms.Meaning.{InUnit, InSection, SectionPlace, LocationList, RangeList}
+use Rattle.list_model.specs.declared.entry.ListKind.{ListKind}
+use Rattle.list_model.specs.declared.entry.ListKind.TheVariants.{Ranges, Locations}
+use Rattle.value_links.specs.Attributes.{OffsetClass, offset_class}
+use Rattle.value_links.specs.Attributes.OffsetClass.{LinePtr, RngList, LocList, RngListsPtr, LocListsPtr, AddrPtr, StrOffsetsPtr, MacPtr, Views, NoOffset}
+use Rattle.value_links.specs.Reading.{Linkable, Reading, of_kind, part_at}
+use Rattle.value_links.specs.Linked.{Linked, IsListAt, OffsetLinks, IndexLinks, Links, IsLinked}
+use Rattle.value_links.specs.Linked.Linked.{Itself as LinkItself, Refers as LinkRefers, Program as LinkProgram, ListAt, SlotAt, BaseOf, Kept as LinkKept}
+use Rattle.value_links.specs.Lists.{AreTold}
+use Rattle.value_links.specs.Whole.{IsReading}
+use Rattle.value_links.specs.Resolved.{ListMeaning, MeansList, Resolved, ResolvesLink}
+use Rattle.value_links.specs.Resolved.Resolved.{Itself, Refers, Program, AList, Indexed, PartOf, Kept}
 use Rattle.value_links.specs.Laws.{OneMeaning, LinkedMean}
-use Rattle.value_links.proofs.LinkedOnce.{linked_once}
+use Rattle.value_links.proofs.LinkedOnce.{slot_once, linked_once}
+use Rattle.value_links.proofs.ListMeanings.{list_means_once, named_means}
 
-resolved_once : (linked : Linked) (v w : Resolved) → ResolvesLink linked v → ResolvesLink linked w → v ≡ w
-resolved_once (LinkItself meaning) v w a b = a ∙ sym b
-resolved_once (LinkRefers unit target) v w a b = a ∙ sym b
-resolved_once (LinkProgram p) v w a b = a ∙ sym b
-resolved_once (LinkKept n) v w a b = a ∙ sym b
+-- ONE THING
+
+resolved_once : (file : List ℕ) (r : Reading) → IsReading file r → (linked : Linked) (v w : Resolved) → ResolvesLink r linked v → ResolvesLink r linked w → v ≡ w
+resolved_once file r read (LinkItself meaning) v w a b = a ∙ sym b
+resolved_once file r read (LinkRefers unit target) v w a b = a ∙ sym b
+resolved_once file r read (LinkProgram p) v w a b = a ∙ sym b
+resolved_once file r read (ListAt kind at) v w (a, p, e) (b, q, f) = e ∙ ap (λ (z : ListMeaning). AList z) (list_means_once file r read kind at a b p q) ∙ sym f
+resolved_once file r read (SlotAt kind n i) v w (x, a, here, p, e) (y, b, there, q, f) =
+    let same : x ≡ y = slot_once r.links kind n i x y here there in
+    e ∙ ap (λ (z : ListMeaning). Indexed i z) (list_means_once file r read kind y a b (subst (λ (z : ℕ). MeansList r kind z a) same p) q) ∙ sym f
+resolved_once file r read (BaseOf kind p) v w a b = a ∙ sym b
+resolved_once file r read (LinkKept n) v w a b = a ∙ sym b
 
 pub meaning_once : OneMeaning
 meaning_once file r u id name meaning v w read inside a b =
     let linked : a.linked ≡ b.linked = linked_once file r.links u id name meaning a.linked b.linked read.links inside a.links b.links in
-    resolved_once b.linked v w (subst (λ (z : Linked). ResolvesLink z v) linked a.resolves) b.resolves
+    resolved_once file r read b.linked v w (subst (λ (z : Linked). ResolvesLink r z v) linked a.resolves) b.resolves
 
-resolved_of : (linked : Linked) → (v : Resolved) × ResolvesLink linked v
-resolved_of (LinkItself meaning) = (Itself meaning, refl)
-resolved_of (LinkRefers unit target) = (Refers unit target, refl)
-resolved_of (LinkProgram p) = (Program p, refl)
-resolved_of (LinkKept n) = (Kept n, refl)
+-- SOMETHING
+
+-- what a link names may be named: a list begins at a place that one can have, and a slot is one of its contribution
+abbrev IsSound : Linkable → Linked → Type 0
+IsSound r (ListAt kind at) = IsListAt r kind at
+IsSound r (SlotAt kind p i) = (p < length (of_kind r kind).parts) × (i < (part_at (of_kind r kind) p).slots)
+IsSound r linked = Unit {0}
+
+index_sound : (r : Linkable) (u : ℕ) (kind : ListKind) (i : ℕ) (v : Linked) → IndexLinks r u kind i v → IsSound r v
+index_sound r u kind i v (p, (n, first, (known, begins)), less, e) = subst (λ (z : Linked). IsSound r z) (sym e) (known, less)
+
+offset_sound : (r : Linkable) (u id : ℕ) (class : OffsetClass) (n : ℕ) (v : Linked) → OffsetLinks r u id class n v → IsSound r v
+offset_sound r u id LinePtr n v (p, here, e) = subst (λ (z : Linked). IsSound r z) (sym e) tt
+offset_sound r u id RngList n v (here, e) = subst (λ (z : Linked). IsSound r z) (sym e) here
+offset_sound r u id LocList n v (here, e) = subst (λ (z : Linked). IsSound r z) (sym e) here
+offset_sound r u id RngListsPtr n v (p, here, e) = subst (λ (z : Linked). IsSound r z) (sym e) tt
+offset_sound r u id LocListsPtr n v (p, here, e) = subst (λ (z : Linked). IsSound r z) (sym e) tt
+offset_sound r u id AddrPtr n v (here, e) = subst (λ (z : Linked). IsSound r z) (sym e) tt
+offset_sound r u id StrOffsetsPtr n v e = subst (λ (z : Linked). IsSound r z) (sym e) tt
+offset_sound r u id MacPtr n v e = subst (λ (z : Linked). IsSound r z) (sym e) tt
+offset_sound r u id Views n v none = absurd none
+offset_sound r u id NoOffset n v none = absurd none
+
+links_sound : (r : Linkable) (u id name : ℕ) (meaning : Meaning) (v : Linked) → Links r u id name meaning v → IsSound r v
+links_sound r u id name (InUnit n) v (target, here, e) = subst (λ (z : Linked). IsSound r z) (sym e) tt
+links_sound r u id name (InSection n) v (unit, target, here, e) = subst (λ (z : Linked). IsSound r z) (sym e) tt
+links_sound r u id name (SectionPlace n) v links = offset_sound r u id (offset_class name) n v links
+links_sound r u id name (LocationList i) v links = index_sound r u Locations i v links
+links_sound r u id name (RangeList i) v links = index_sound r u Ranges i v links
+links_sound r u id name meaning v e = subst (λ (z : Linked). IsSound r z) (sym e) tt
+
+resolved_of : (file : List ℕ) (r : Reading) → IsReading file r → AreTold r.links Ranges r.range_lists → (u number : ℕ) → u < length r.links.units → (linked : Linked) → IsLinked r.links u number linked → IsSound r.links linked → (v : Resolved) × ResolvesLink r linked v
+resolved_of file r read told u number known (LinkItself meaning) here sound = (Itself meaning, refl)
+resolved_of file r read told u number known (LinkRefers unit target) here sound = (Refers unit target, refl)
+resolved_of file r read told u number known (LinkProgram p) here sound = (Program p, refl)
+resolved_of file r read told u number known (ListAt Ranges at) here sound =
+    let (meaning, means) = named_means file r read told at (inl (u, record { known = known; number = number; linked = ListAt Ranges at; links = here; names = (refl, refl) })) in
+    (AList meaning, (meaning, means, refl))
+resolved_of file r read told u number known (ListAt Locations at) here (p, (inside, place)) = absurd (omega arith)
+resolved_of file r read told u number known (SlotAt Ranges p i) here (inside, counted) =
+    let (at, names) = read.ranges.slots p i inside counted in
+    let (meaning, means) = named_means file r read told at (inr (p, i, names)) in
+    (Indexed i meaning, (at, meaning, names, means, refl))
+resolved_of file r read told u number known (SlotAt Locations p i) here (inside, counted) = absurd (omega arith)
+resolved_of file r read told u number known (BaseOf kind p) here sound = (PartOf kind p, refl)
+resolved_of file r read told u number known (LinkKept n) here sound = (Kept n, refl)
 
 pub links_mean : LinkedMean
-links_mean r u id name meaning linked links =
-    let (v, resolves) = resolved_of linked in
+links_mean file r u id number name meaning place linked read told known stands links =
+    let here : IsLinked r.links u number linked = record { id = id; name = name; meaning = meaning; place = place; stands = stands; links = links } in
+    let (v, resolves) = resolved_of file r read told u number known linked here (links_sound r.links u id name meaning linked links) in
     (v, record { linked = linked; links = links; resolves = resolves })

@@ -23,17 +23,20 @@ use Rattle.entry_read.specs.Heads.{type_unit}
 use Rattle.entry_read.proofs.Parts.{values_push}
 use Rattle.entry_read.proofs.PlaceLaws.{entry_stands}
 use Rattle.value_links.specs.Sections.{offset_named, debug_info, debug_abbrev, debug_line, info_name}
-use Rattle.value_links.specs.Reading.{ProgramRead, Linkable, Reading, line_heads, HasRows, no_unit, unit_at, declarations, IsUnitRead}
+use Rattle.list_model.specs.declared.entry.ListKind.TheVariants.{Ranges}
+use Rattle.value_links.specs.Reading.{ProgramRead, Linkable, Reading, line_heads, HasRows, no_unit, unit_at, part_at, declarations, IsUnitRead}
 use Rattle.value_links.specs.Whole.{IsReadToLinks, IsReading}
 use Rattle.value_links.specs.Values.{entry_of, declaration_of, values_of, HasValueAt}
 use Rattle.value_links.specs.Linked.{Linked, Links, IsTypeEntry}
-use Rattle.value_links.specs.Resolved.{Resolved, Resolves}
-use Rattle.value_links.specs.Debug.{EntryMeaning, UnitMeaning, Debug, described, set_meaning, MeansAttribute, MeansEntry, MeansType, MeanEntries, MeansUnit, MeansDebug}
+use Rattle.value_links.specs.Lists.{AreTold}
+use Rattle.value_links.specs.Resolved.{ListMeaning, Resolved, Resolves}
+use Rattle.value_links.specs.Debug.{EntryMeaning, UnitMeaning, PartMeaning, Debug, described, set_meaning, MeansAttribute, MeansEntry, MeansType, MeanEntries, MeansUnit, MeansSlot, MeansPart, MeansDebug}
 use Rattle.value_links.specs.Faults.{FaultLinks, IsValid}
 use Rattle.value_links.specs.Faults.Pass.{OfLinks}
 use Rattle.value_links.specs.Laws.{ValidFilesMean}
 use Rattle.value_links.specs.Parts.{LinkedFilesMean}
 use Rattle.value_links.proofs.LinkLaws.{search_below, linked_or_faulty}
+use Rattle.value_links.proofs.ListMeanings.{named_means}
 use Rattle.value_links.proofs.MeaningLaws.{links_mean}
 
 -- LISTS
@@ -77,12 +80,12 @@ ValuesLink r = (u id number name : ℕ) (meaning : Meaning) (place : ℕ) → u 
 abbrev TypesStand : Linkable → Type 0
 TypesStand r = (u : ℕ) → u < length r.units → (unit_at r u).head.kind ≡ type_unit → (id : ℕ) × IsTypeEntry r u id
 
-module _ (file : List ℕ) (r : Reading) (read : IsReading file r) (value_links : ValuesLink r.links) (type_stands : TypesStand r.links) where
+module _ (file : List ℕ) (r : Reading) (read : IsReading file r) (told : AreTold r.links Ranges r.range_lists) (value_links : ValuesLink r.links) (type_stands : TypesStand r.links) where
   -- so each means something
   value_means : (u id number name : ℕ) (meaning : Meaning) (place : ℕ) → u < length r.links.units → HasValueAt (unit_at r.links u) id number name meaning place → (v : Resolved) × Resolves r u id name meaning v
   value_means u id number name meaning place inside h =
       let (linked, links) = value_links u id number name meaning place inside h in
-      links_mean r u id name meaning linked links
+      links_mean file r u id number name meaning place linked read told inside h links
 
   entry_means : (u : ℕ) → u < length r.links.units → (id : ℕ) → id < length (unit_at r.links u).forest.entries → (e : EntryMeaning) × MeansEntry r u id (described_by (unit_at r.links u).forest.section (declarations (unit_at r.links u)) (unit_at r.links u).forest.values (entry_of (unit_at r.links u) id)) e
   entry_means u inside id known =
@@ -129,12 +132,25 @@ module _ (file : List ℕ) (r : Reading) (read : IsReading file r) (value_links 
       let (entry, is) = type_means u inside in
       (record { unit_type = unit.head.kind; signature = unit.head.extra; type_entry = entry; forest = forest }, record { unit_type = refl; signature = refl; type_entry = is; forest = entries })
 
+  -- each slot names a list, which means something
+  slot_means : (p : ℕ) → p < length r.links.ranges.parts → (i : ℕ) → i < (part_at r.links.ranges p).slots → (m : ListMeaning) × MeansSlot r Ranges p i m
+  slot_means p inside i counted =
+      let (at, names) = read.ranges.slots p i inside counted in
+      let (meaning, means) = named_means file r read told at (inr (p, i, names)) in
+      (meaning, (at, names, means))
+
+  part_means : (p : ℕ) → p < length r.links.ranges.parts → (m : PartMeaning) × MeansPart r Ranges p m
+  part_means p inside =
+      let (slots, count, each) = list_from (MeansSlot r Ranges p) (part_at r.links.ranges p).slots (slot_means p inside) in
+      (record { slots = slots }, record { count = count; each = each })
+
   file_means : (debug : Debug) × MeansDebug file r debug
   file_means =
       let (units, size, each) = list_from (MeansUnit r) (length r.links.units) unit_means in
       let (programs, meant) = programs_mean (debug_line file) r.links.programs read.links.programs.given in
-      let debug : Debug = record { programs = programs; units = units; aranges = map set_meaning r.sets } in
-      (debug, record { programs = meant; units = record { count = size; each = each }; aranges = refl })
+      let (parts, number, each_part) = list_from (MeansPart r Ranges) (length r.links.ranges.parts) part_means in
+      let debug : Debug = record { programs = programs; units = units; ranges = parts; aranges = map set_meaning r.sets } in
+      (debug, record { programs = meant; units = record { count = size; each = each }; ranges = record { count = number; each = each_part }; aranges = refl })
 
 -- VALID FILES
 
@@ -151,13 +167,13 @@ module _ (file : List ℕ) (reach : Reach) (r : Linkable) (read : IsReadToLinks 
   valid_types : TypesStand r
   valid_types u inside is_type = elim (search_below (λ i. (entry_at (unit_at r u).forest.entries i).at ≡ (unit_at r u).head.at + (unit_at r u).head.type_at) (λ i. cases_eq (entry_at (unit_at r u).forest.entries i).at ((unit_at r u).head.at + (unit_at r u).head.type_at)) (length (unit_at r u).forest.entries)) [
     | inl found ↦ (found.0, (found.1, found.2))
-    | inr none ↦ absurd (no_link_fault NoTarget ((unit_at r u).head.at + 20) (record { r = r; read = read; u = u; inside = inside; fault = inr (is_type, (λ (x : (id : ℕ) × IsTypeEntry r u id). none x.0 x.1.0 x.1.1), refl) }))
+    | inr none ↦ absurd (no_link_fault NoTarget ((unit_at r u).head.at + 20) (record { r = r; read = read; u = u; inside = inside; fault = inr (inl (is_type, (λ (x : (id : ℕ) × IsTypeEntry r u id). none x.0 x.1.0 x.1.1), refl)) }))
   ]
 
 pub valid_means : ValidFilesMean
-valid_means file reach r read valid = file_means file r read (valid_values file reach r.links read.links valid) (valid_types file reach r.links read.links valid)
+valid_means file reach r read told valid = file_means file r read told (valid_values file reach r.links read.links valid) (valid_types file reach r.links read.links valid)
 
 -- LINKED FILES
 
 pub linked_means : LinkedFilesMean
-linked_means file r read linked = (file_means file r read linked.values linked.types, linked.read)
+linked_means file r read told linked = (file_means file r read told linked.values linked.types, linked.read)

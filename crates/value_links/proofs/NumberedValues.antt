@@ -18,7 +18,7 @@ use Rattle.value_links.specs.Values.{entry_of, declaration_of, values_of, HasVal
 use Rattle.value_links.specs.inside.Values.{meaning_at}
 use Rattle.value_links.specs.Linked.{Linked, Links}
 use Rattle.value_links.specs.inside.Owners.{IsOwner, name_with}
-use Rattle.value_links.specs.Links.{held_at, HasLink, IsLinkFound}
+use Rattle.value_links.specs.Links.{held_at, IsFollowed, HasLink, IsLinkFound}
 use Rattle.value_links.specs.World.{World, head_and_forest, Holds, IsWorldOf}
 use Rattle.value_links.specs.inside.World.{own_table}
 use Rattle.value_links.proofs.HeldUnits.{unit_is, unit_owners, held_count, held_is}
@@ -100,7 +100,7 @@ module _ (world : World) (reach : Reach) (is : IsWorldOf world.image reach world
       value_there : value ≡ value_at (unit_at r.links u).forest.values number
       value_there = sym value_same ∙ ap (λ (z : List UnitRead). value_at (unit_among z u).forest.values number) units_same
 
-      pub value_linked : (link : Link) → IsLinkFound r.links u id name (meant_in (unit_at r.links u).forest.section value) (Some link) → HasLink r.links u number link
-      value_linked link (linked, links, told) =
+      pub value_linked : (told link : Link) → IsLinkFound r.links u id name (meant_in (unit_at r.links u).forest.section value) (Some told) → IsFollowed r.links told link → HasLink r.links u number link
+      value_linked told link (linked, links, is) followed =
           let own : Links r.links u id name (meaning_at (unit_at r.links u) number) linked = subst (λ (z : Value). Links r.links u id name (meant_in (unit_at r.links u).forest.section z) linked) value_there links in
-          (linked, record { id = id; name = name; meaning = meaning_at (unit_at r.links u) number; place = stands_there.0; stands = stands_there.1; links = own }, told)
+          (linked, told, record { id = id; name = name; meaning = meaning_at (unit_at r.links u) number; place = stands_there.0; stands = stands_there.1; links = own }, is, followed)

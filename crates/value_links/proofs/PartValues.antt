@@ -15,12 +15,14 @@ use Rattle.entry_read.specs.Places.{HaveOwners, StandsAtColumn}
 use Rattle.value_links.specs.declared.parts.Parts.{Parts}
 use Rattle.value_links.specs.Sections.{debug_info, debug_abbrev}
 use Rattle.value_links.specs.Reading.{Linkable, unit_at, declarations}
+use Rattle.value_links.specs.Whole.{AreFirstBases}
 use Rattle.value_links.specs.Values.{entry_of, declaration_of, HasValueAt}
 use Rattle.value_links.specs.World.{head_and_forest}
-use Rattle.value_links.specs.Linked.{Linked, Links}
-use Rattle.value_links.specs.Faults.{IsUnread, FaultValue, FaultAttribute, FaultType}
+use Rattle.value_links.specs.Linked.{Linked, Links, IsFirstLow, HasAddress}
+use Rattle.value_links.specs.LinkFaults.{IsUnread, FaultValue, FaultAttribute, FaultType}
 use Rattle.value_links.specs.Links.{held_at}
-use Rattle.value_links.specs.Parts.{HoldsParts, AreLinked}
+use Rattle.value_links.specs.Laws.{AreLinked}
+use Rattle.value_links.specs.Parts.{HoldsParts}
 use Rattle.value_links.specs.inside.Checks.{table_held, root_attributes, IsCause, IsTyped, IsChecked, AreColumnsLinked, AreEntriesLinked, IsUnitLinked}
 use Rattle.value_links.proofs.HeldUnits.{unit_owners}
 use Rattle.value_links.proofs.LinkedValues.{parts_count, part_is}
@@ -33,13 +35,13 @@ module _ (file : List ℕ) (r : Linkable) (parts : Parts) (holds : HoldsParts fi
     pub known_unit : u < length r.units
     known_unit = subst (λ (z : ℕ). u < z) (parts_count file r parts holds) inside
 
-    unit_same : held_at parts.units.units.items u ≡ head_and_forest (unit_at r u)
+    pub unit_same : held_at parts.units.units.items u ≡ head_and_forest (unit_at r u)
     unit_same = part_is file r parts holds u inside
 
-    table_same : table_held parts.units u ≡ (unit_at r u).table
+    pub table_same : table_held parts.units u ≡ (unit_at r u).table
     table_same = table_is r.units parts.units u holds.units known_unit
 
-    owned : HaveOwners (declarations (unit_at r u)) (unit_at r u).forest
+    pub owned : HaveOwners (declarations (unit_at r u)) (unit_at r u).forest
     owned = unit_owners (debug_info file) (debug_abbrev file) r.units holds.read.units u known_unit
 
     -- VALUES
@@ -104,10 +106,11 @@ module _ (file : List ℕ) (r : Linkable) (parts : Parts) (holds : HoldsParts fi
 
     -- UNITS
 
-    pub unit_linked : (n : ℕ) → n ≡ length (held_at parts.units.units.items u).forest.entries → AreEntriesLinked r u n → IsTyped (held_at parts.units.units.items u) true → IsUnitLinked r u
-    unit_linked n all linked typed = record {
+    pub unit_linked : (n : ℕ) → n ≡ length (held_at parts.units.units.items u).forest.entries → AreEntriesLinked r u n → IsTyped (held_at parts.units.units.items u) true → ((i place : ℕ) → IsFirstLow r u i place → HasAddress r u i) → IsUnitLinked r u
+    unit_linked n all linked typed based = record {
       entries = subst (AreEntriesLinked r u) (all ∙ ap (λ (z : HeadAndForest). length z.forest.entries) unit_same) linked;
       typed = subst (λ (z : HeadAndForest). IsTyped z true) unit_same typed;
+      based = based;
     }
 
     pub type_fault : IsTyped (held_at parts.units.units.items u) false → FaultType r u NoTarget ((held_at parts.units.units.items u).head.at + 20)
@@ -137,3 +140,6 @@ module _ (file : List ℕ) (r : Linkable) (parts : Parts) (holds : HoldsParts fi
     read = λ u id number name meaning place known h. (value_checked u (held_inside u known) (linked u (subst (λ (z : ℕ). u < z) (sym all) (held_inside u known))) id number name meaning place h).1;
     types = λ u known. (linked u (subst (λ (z : ℕ). u < z) (sym all) (held_inside u known))).typed;
   }
+
+  pub all_based : (n : ℕ) → n ≡ length parts.units.units.items → ((u : ℕ) → u < n → IsUnitLinked r u) → AreFirstBases r
+  all_based n all linked u i place known low = (linked u (subst (λ (z : ℕ). u < z) (sym all) (held_inside u known))).based i place low

@@ -16,7 +16,7 @@ use Rattle.entry_read.specs.Units.{HeadAndForest}
 use Rattle.value_links.specs.declared.link.Link.TheVariants.{Place}
 use Rattle.value_links.specs.Linked.{IsTargetAt}
 use Rattle.value_links.specs.Links.{held_at}
-use Rattle.value_links.specs.inside.Links.{program_among, IsLastFrom, IsTargetFound, IsSectionTargetFound, AreUnitsApart, AreProgramsApart}
+use Rattle.value_links.specs.inside.Links.{program_among, IsLastOf, IsLastFrom, IsTargetFound, IsSectionTargetFound, AreUnitsApart, AreProgramsApart}
 
 -- TARGETS
 
@@ -54,23 +54,30 @@ local_found unit forest head n found e f is = subst (λ (z : Arena). IsTargetFou
 
 -- UNITS
 
-pub starts_rise : (units : List HeadAndForest) → AreUnitsApart units → IsNonDecreasingBy (λ (u : HeadAndForest). u.head.at) units
-starts_rise units apart = IsNonDecreasingBy-from_default (λ (u : HeadAndForest). u.head.at) units (held_at [] 0) rising
-  where
-    rising : (i j : ℕ) → i ≤ j → j < length units → (held_at units i).head.at ≤ (held_at units j).head.at
-    rising i j le inside = elim (cases_lt i j) [
-      | inl less ↦ let behind : (held_at units i).head.at + (held_at units i).head.len ≤ (held_at units j).head.at = apart.rising i j less inside in omega arith
-      | inr more ↦ let same : i ≡ j = omega arith in let at : (held_at units i).head.at ≡ (held_at units j).head.at = ap (λ n. (held_at units n).head.at) same in omega arith
-    ]
+-- things whose places rise
+module _ {X : Type 0} (at : X → ℕ) (d : X) (xs : List X) where
+  pub places_rise : ((i j : ℕ) → i < j → j < length xs → at (get_or xs i d) ≤ at (get_or xs j d)) → IsNonDecreasingBy at xs
+  places_rise rising = IsNonDecreasingBy-from_default at xs d (λ i j le inside. elim (cases_lt i j) [
+    | inl less ↦ rising i j less inside
+    | inr more ↦
+        let same : i ≡ j = omega arith in
+        let here : at (get_or xs i d) ≡ at (get_or xs j d) = ap (λ n. at (get_or xs n d)) same in
+        omega arith
+  ])
 
-pub last_is : (units : List HeadAndForest) (place p : ℕ) (found : Option ℕ) → IsPartitionPoint (λ (u : HeadAndForest). leb u.head.at place ≡ true) (λ (u : HeadAndForest). leb u.head.at place ≡ false) units p → p ≤ length units → SomeIff found (1 ≤ p) (p - 1) → IsLastFrom units place found
-last_is units place p (Some i) (before, behind) bound (some, same) =
-    let here : leb (held_at units i).head.at place ≡ true = before i (held_at [] 0) (omega arith) (omega arith) in
-    let from : (held_at units i).head.at ≤ place = grind (arith, nat_tests) in
-    (omega arith, from, λ j less inside. let past : leb (held_at units j).head.at place ≡ false = behind j (held_at [] 0) (omega arith) inside in grind (arith, nat_tests))
-last_is units place p None (before, behind) bound none = λ j inside.
-    let past : leb (held_at units j).head.at place ≡ false = behind j (held_at [] 0) (omega arith) inside in
-    grind (arith, nat_tests)
+  pub last_is : (place p : ℕ) (found : Option ℕ) → IsPartitionPoint (λ (x : X). leb (at x) place ≡ true) (λ (x : X). leb (at x) place ≡ false) xs p → p ≤ length xs → SomeIff found (1 ≤ p) (p - 1) → IsLastOf at d xs place found
+  last_is place p (Some i) (before, behind) bound (some, same) =
+      let here : leb (at (get_or xs i d)) place ≡ true = before i d (omega arith) (omega arith) in
+      let from : at (get_or xs i d) ≤ place = grind (arith, nat_tests) in
+      (omega arith, from, λ j less inside. let past : leb (at (get_or xs j d)) place ≡ false = behind j d (omega arith) inside in grind (arith, nat_tests))
+  last_is place p None (before, behind) bound none = λ j inside.
+      let past : leb (at (get_or xs j d)) place ≡ false = behind j d (omega arith) inside in
+      grind (arith, nat_tests)
+
+pub starts_rise : (units : List HeadAndForest) → AreUnitsApart units → IsNonDecreasingBy (λ (u : HeadAndForest). u.head.at) units
+starts_rise units apart = places_rise (λ (u : HeadAndForest). u.head.at) (held_at [] 0) units (λ i j less inside.
+    let behind : (held_at units i).head.at + (held_at units i).head.len ≤ (held_at units j).head.at = apart.rising i j less inside in
+    omega arith)
 
 module _ (units : List HeadAndForest) (apart : AreUnitsApart units) (place : ℕ) where
   pub before_all : IsLastFrom units place None → IsSectionTargetFound units place None

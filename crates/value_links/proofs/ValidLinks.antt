@@ -3,7 +3,7 @@ use Rattle.std.proofs.Common.{◌≡◌, ◌<◌, ◌∙◌, ◌++◌, inl, inr,
 use Rattle.std.specs.Prelude.{Option, Some, None, Bool, true, false, map}
 use Rattle.std.specs.List.{AllZip}
 use Rattle.dw_base.specs.declared.fault.Kind.{Kind}
-use Rattle.dw_base.specs.declared.fault.Kind.TheVariants.{Target as NoTarget, Unbuilt}
+use Rattle.dw_base.specs.declared.fault.Kind.TheVariants.{Target as NoTarget, Pointer, NoBase, Unbuilt}
 use Rattle.form_codec.specs.declared.value.Value.{Value}
 use Rattle.form_codec.specs.Forms.{Meaning}
 use Rattle.form_codec.specs.Values.{meant_in}
@@ -13,21 +13,27 @@ use Rattle.entry_arena.specs.Forests.{Described, attributes_of, described_by}
 use Rattle.entry_arena.specs.Trees.{ValuesBetween}
 use Rattle.entry_read.specs.declared.head.UnitHead.{UnitHead}
 use Rattle.entry_read.proofs.Tiling.{one_tile}
+use Rattle.entry_read.specs.Heads.{type_unit}
+use Rattle.list_model.specs.Faults.{FaultTables as FaultTablesOf}
+use Rattle.list_model.proofs.Walking.{filled_whole}
+use Rattle.companions.specs.declared.set.ArangeSet.{ArangeSet}
+use Rattle.companions.specs.Aranges.{SetsTile}
 use Rattle.companions.specs.Faults.{FaultSets}
 use Rattle.companions.proofs.Tiling.{sets_whole}
 use Rattle.dw_base.specs.declared.fault.Reach.{Reach}
 use Rattle.std.proofs.lemmas.List.{get_or-map, length-map}
-use Rattle.value_links.specs.Sections.{debug_info, debug_aranges}
+use Rattle.value_links.specs.Sections.{debug_info, debug_abbrev, debug_aranges}
 use Rattle.value_links.specs.Reading.{UnitRead, Linkable, Reading, unit_heads, unit_starts, unit_at, declarations}
-use Rattle.value_links.specs.Whole.{IsReading}
+use Rattle.value_links.specs.Whole.{IsReadToLinks, HasAddrBase, AreRootsRead, IsReading}
 use Rattle.value_links.specs.Values.{entry_of, values_of, HasValueAt}
-use Rattle.value_links.specs.Linked.{Linked, Links}
+use Rattle.value_links.specs.Linked.{Linked, Links, IsTypeEntry, IsFirstLow}
 use Rattle.value_links.specs.Resolved.{Resolves}
 use Rattle.value_links.specs.Debug.{EntryMeaning, described, UnitMeaning, Debug, MeansAttribute, MeansEntry, MeansType, MeansUnit, MeansDebug}
-use Rattle.value_links.specs.Faults.{FaultValue, FaultType, FaultInUnit, FaultLinks, FaultAranges, FaultOfLinks}
-use Rattle.value_links.specs.Laws.{HasNoUnread}
+use Rattle.value_links.specs.LinkFaults.{FaultValue, FaultType, FaultNumber, FaultInUnit}
+use Rattle.value_links.specs.Faults.{FaultLinks, FaultAddresses, FaultAranges, FaultOfLinks}
+use Rattle.value_links.specs.Laws.{HasNoUnread, AreLinked}
 use Rattle.value_links.proofs.LinkLaws.{linked_faultless}
-use Rattle.value_links.proofs.ReadingOnce.{linkable_once}
+use Rattle.value_links.proofs.ReadingOnce.{units_once, linkable_once}
 
 -- what stands beside the attribute of a column, after those of the columns before it
 zip_attribute : {C : Type 0} (R : ℕ × Meaning → C → Type 0) (section : List ℕ) (cs : List Spec) (c : Spec) (ds : List Spec) (vs : List Value) (v : Value) (ws : List Value) (from to : ℕ) (ys : List C) → ValuesBetween section cs vs from to → AllZip R (attributes_of section (cs ++ c ∷ ds) (vs ++ v ∷ ws)) ys → (y : C) × R (c.name, meant_in section v) y
@@ -46,6 +52,8 @@ is_unbuilt kind = false
 pub heads_begin : (units : List UnitRead) → map (λ (h : UnitHead). h.at) (unit_heads units) ≡ unit_starts units
 heads_begin [] = refl
 heads_begin (u ∷ units) = ap (λ z. u.head.at ∷ z) (heads_begin units)
+
+-- WHAT MEANS SOMETHING
 
 module _ (file : List ℕ) (r : Reading) (debug : Debug) (read : IsReading file r) (means : MeansDebug file r debug) (can : HasNoUnread r.links) where
   unit_means : (u : ℕ) → u < length r.links.units → (m : UnitMeaning) × MeansUnit r u m
@@ -76,40 +84,63 @@ module _ (file : List ℕ) (r : Reading) (debug : Debug) (read : IsReading file 
       let resolves : Resolves r u id name meaning attribute.1 = subst (λ (z : Meaning). Resolves r u id name z attribute.1) (sym h.meant) named in
       (resolves.linked, resolves.links)
 
-  value_faultless : (u id number name : ℕ) (meaning : Meaning) (kind : Kind) (place : ℕ) → u < length r.links.units → HasValueAt (unit_at r.links u) id number name meaning place → FaultValue r.links u id name meaning kind → ⊥
-  value_faultless u id number name meaning Unbuilt place inside h f = can u id number name meaning place inside h f
-  value_faultless u id number name meaning kind place inside h f =
-      let (linked, links) = value_links u id number name meaning place inside h in
-      linked_faultless r.links u id name meaning linked kind (λ (e : kind ≡ Unbuilt). true≢false (sym (ap is_unbuilt e))) links f
-
-  type_faultless : (u : ℕ) (kind : Kind) (place : ℕ) → u < length r.links.units → FaultType r.links u kind place → ⊥
-  type_faultless u NoTarget place inside (is_type, none, here) = has_type ((unit_means u inside).0.type_entry) (unit_means u inside).1.type_entry
+  type_stands : (u : ℕ) → u < length r.links.units → (unit_at r.links u).head.kind ≡ type_unit → (id : ℕ) × IsTypeEntry r.links u id
+  type_stands u inside is_type = stands ((unit_means u inside).0.type_entry) (unit_means u inside).1.type_entry
     where
-      has_type : (entry : Option ℕ) → MeansType r.links u entry → ⊥
-      has_type (Some id) (kind, stands) = none (id, stands)
-      has_type None other = other is_type
+      stands : (entry : Option ℕ) → MeansType r.links u entry → (id : ℕ) × IsTypeEntry r.links u id
+      stands (Some id) (kind, here) = (id, here)
+      stands None other = absurd (other is_type)
+
+  pub meanings_linked : AreLinked r.links
+  meanings_linked = record { values = value_links; read = can; types = type_stands }
+
+-- WHAT IS LINKED
+
+module _ (file : List ℕ) (r : Linkable) (read : IsReadToLinks file r) (linked : AreLinked r) (roots : AreRootsRead r) (sets : List ArangeSet) (tiled : SetsTile (debug_aranges file) (unit_starts r.units) sets) where
+  value_faultless : (u id number name : ℕ) (meaning : Meaning) (kind : Kind) (place : ℕ) → u < length r.units → HasValueAt (unit_at r u) id number name meaning place → FaultValue r u id name meaning kind → ⊥
+  value_faultless u id number name meaning Unbuilt place inside h f = linked.read u id number name meaning place inside h f
+  value_faultless u id number name meaning kind place inside h f =
+      let (to, links) = linked.values u id number name meaning place inside h in
+      linked_faultless r u id name meaning to kind (λ (e : kind ≡ Unbuilt). true≢false (sym (ap is_unbuilt e))) links f
+
+  type_faultless : (u : ℕ) (kind : Kind) (place : ℕ) → u < length r.units → FaultType r u kind place → ⊥
+  type_faultless u NoTarget place inside (is_type, none, here) = none (linked.types u inside is_type)
   type_faultless u kind place inside f = f
+
+  -- the number of a first base is looked up in the table that the root names
+  low_faultless : (u i place : ℕ) (kind : Kind) → u < length r.units → IsFirstLow r u i place → FaultNumber r u i kind → ⊥
+  low_faultless u i place NoBase inside low none =
+      let (table, (base, first, has), less) = roots.bases u i place inside low in
+      none (base, first)
+  low_faultless u i place Pointer inside low (gives, none) = none (roots.bases u i place inside low)
+  low_faultless u i place kind inside low f = f
+
+  unit_faultless : (reach : Reach) (u : ℕ) (kind : Kind) (place : ℕ) → u < length r.units → FaultInUnit r reach u kind place → ⊥
+  unit_faultless reach u kind place inside (inl value) = value_faultless u value.id value.number value.name value.meaning kind place inside value.stands value.fault
+  unit_faultless reach u kind place inside (inr (inl entry)) = type_faultless u kind place inside entry
+  unit_faultless reach u kind place inside (inr (inr (i, low, f))) = low_faultless u i place kind inside low f
 
   links_faultless : (reach : Reach) (kind : Kind) (place : ℕ) → FaultLinks file reach kind place → ⊥
   links_faultless reach kind place f =
-      let same : f.r ≡ r.links = linkable_once file f.r r.links f.read read.links in
-      let fault : FaultInUnit r.links reach f.u kind place = subst (λ (z : Linkable). FaultInUnit z reach f.u kind place) same f.fault in
-      let inside : f.u < length r.links.units = subst (λ (z : Linkable). f.u < length z.units) same f.inside in
-      elim fault [
-        | inl value ↦ value_faultless f.u value.id value.number value.name value.meaning kind place inside value.stands value.fault
-        | inr entry ↦ type_faultless f.u kind place inside entry
-      ]
+      let same : f.r ≡ r = linkable_once file f.r r f.read read in
+      unit_faultless reach f.u kind place (subst (λ (z : Linkable). f.u < length z.units) same f.inside) (subst (λ (z : Linkable). FaultInUnit z reach f.u kind place) same f.fault)
+
+  -- where an entry names an address table, tables fill the section
+  addresses_faultless : (kind : Kind) (place : ℕ) → FaultAddresses file kind place → ⊥
+  addresses_faultless kind place (units, are, has, f) =
+      let same : units ≡ r.units = units_once (debug_info file) (debug_abbrev file) units r.units 0 are.tiled read.units.tiled are.each read.units.each in
+      let (tables, filled) = roots.tables (subst HasAddrBase same has) in
+      filled_whole r.addresses tables filled (kind, place, subst (λ (z : List ℕ). FaultTablesOf z kind place) (sym read.addresses) f)
 
   aranges_faultless : (kind : Kind) (place : ℕ) → FaultAranges file kind place → ⊥
-  aranges_faultless kind place (heads, tiled, f) =
-      let same : heads ≡ unit_heads r.links.units = one_tile (debug_info file) heads (unit_heads r.links.units) 0 tiled read.links.units.tiled in
-      let moved : FaultSets (debug_aranges file) (unit_starts r.links.units) kind place =
-      subst (λ (z : List ℕ). FaultSets (debug_aranges file) z kind place) (ap (map (λ (h : UnitHead). h.at)) same ∙ heads_begin r.links.units) f in
-      sets_whole (debug_aranges file) (unit_starts r.links.units) r.sets read.sets (kind, place, moved)
+  aranges_faultless kind place (heads, whole, f) =
+      let same : heads ≡ unit_heads r.units = one_tile (debug_info file) heads (unit_heads r.units) 0 whole read.units.tiled in
+      let moved : FaultSets (debug_aranges file) (unit_starts r.units) kind place =
+      subst (λ (z : List ℕ). FaultSets (debug_aranges file) z kind place) (ap (map (λ (h : UnitHead). h.at)) same ∙ heads_begin r.units) f in
+      sets_whole (debug_aranges file) (unit_starts r.units) sets tiled (kind, place, moved)
 
   -- the pass has no fault
   pub links_whole : (reach : Reach) (kind : Kind) (place : ℕ) → FaultOfLinks file reach kind place → ⊥
-  links_whole reach kind place f = elim f [
-    | inl links ↦ links_faultless reach kind links.0 links.2
-    | inr sets ↦ aranges_faultless kind sets.0 sets.2
-  ]
+  links_whole reach kind place (inl links) = links_faultless reach kind links.0 links.2
+  links_whole reach kind place (inr (inl addresses)) = addresses_faultless kind addresses.0 addresses.2
+  links_whole reach kind place (inr (inr sets_fault)) = aranges_faultless kind sets_fault.0 sets_fault.2

@@ -1,5 +1,5 @@
 -- Which fault decides, and that a file that means something is valid.
-use Rattle.std.proofs.Common.{◌≤◌, ◌<◌, inl, inr, ℕ, List, [], ◌∷◌, length, refl, arith}
+use Rattle.std.proofs.Common.{◌≤◌, ◌<◌, inl, inr, ℕ, List, [], ◌∷◌, length, sym, subst, refl, arith}
 use Rattle.std.specs.List.{All, sum_by}
 use Rattle.std.proofs.lemmas.List.Elements.{All-head, All-tail}
 use Rattle.std.proofs.lemmas.List.Sums.{sum_by-cons}
@@ -10,13 +10,18 @@ use Rattle.elf_sections.specs.Faults.{IsRead}
 use Rattle.elf_sections.proofs.Faultless.{images_whole}
 use Rattle.line_machine.specs.Faults.{row_limit}
 use Rattle.line_write.proofs.Tiling.{AreGiven, lines_whole}
+use Rattle.list_model.specs.Faults.{FaultContributions}
+use Rattle.list_model.proofs.Tiling.{parts_whole}
 use Rattle.value_links.specs.Sections.{debug_info, debug_abbrev, debug_line}
-use Rattle.value_links.specs.Reading.{ProgramRead, Linkable, line_heads, HasRows}
+use Rattle.value_links.specs.Reading.{ProgramRead, Linkable, Reading, line_heads, HasRows}
+use Rattle.value_links.specs.Whole.{IsReading}
+use Rattle.value_links.specs.Debug.{Debug, MeansDebug}
 use Rattle.value_links.specs.Faults.{FaultOfFile, FaultOfNames, FaultOfPrograms, FaultOfUnits, Pass, order_of, FaultOfPass}
 use Rattle.value_links.specs.Faults.Pass.{OfFile, OfNames, OfPrograms, OfUnits, OfLinks, OfLists}
-use Rattle.value_links.specs.Laws.{IsImageInOrder, AreProgramsInOrder, AreUnitsInOrder, FirstFaultsDecide, MeaningFilesAreValid}
+use Rattle.value_links.specs.Laws.{HasNoUnread, IsImageInOrder, AreProgramsInOrder, AreUnitsInOrder, AreLinksInOrder, FirstFaultsDecide, MeaningFilesAreValid}
 use Rattle.value_links.proofs.ValidUnits.{info_faultless, tables_faultless}
-use Rattle.value_links.proofs.ValidLinks.{links_whole}
+use Rattle.value_links.proofs.ValidLinks.{meanings_linked, links_whole}
+use Rattle.value_links.proofs.ValidLists.{lists_whole}
 
 file_faultless : (file : List ℕ) (reach : Reach) → IsRead file reach → (kind : Kind) (place : ℕ) → FaultOfFile file reach kind place → ⊥
 file_faultless file reach read = (images_whole file reach read).0
@@ -44,7 +49,10 @@ units_faultless file reach r order kind place f =
     let units = order.units in
     elim f [
       | inl entries ↦ info_faultless (debug_info file) (debug_abbrev file) r.units units.tiled units.each units.within kind entries.0 entries.2
-      | inr tables ↦ tables_faultless (debug_info file) (debug_abbrev file) r.units units.tiled units.each units.within order.built kind tables.0 tables.2
+      | inr others ↦ elim others [
+        | inl tables ↦ tables_faultless (debug_info file) (debug_abbrev file) r.units units.tiled units.each units.within order.built kind tables.0 tables.2
+        | inr parts ↦ parts_whole r.ranges.section r.ranges.parts order.ranges.tiled (kind, parts.0, subst (λ (z : List ℕ). FaultContributions z kind parts.0) (sym order.ranges.bytes_are) parts.2)
+      ]
     ]
 
 -- the passes before one have no fault
@@ -77,6 +85,14 @@ before_links file reach r order OfPrograms kind place less f = before_units file
 before_links file reach r order OfUnits kind place less f = units_faultless file reach r order kind place f
 before_links file reach r order pass kind place less f = absurd (omega arith)
 
+before_lists : (file : List ℕ) (reach : Reach) (r : Linkable) → AreLinksInOrder file reach r → HaveNone 6 file reach
+before_lists file reach r order OfFile kind place less f = before_links file reach r order.before OfFile kind place (omega arith) f
+before_lists file reach r order OfNames kind place less f = before_links file reach r order.before OfNames kind place (omega arith) f
+before_lists file reach r order OfPrograms kind place less f = before_links file reach r order.before OfPrograms kind place (omega arith) f
+before_lists file reach r order OfUnits kind place less f = before_links file reach r order.before OfUnits kind place (omega arith) f
+before_lists file reach r order OfLinks kind place less f = links_whole file r order.read order.linked order.roots order.sets.0 order.sets.1 reach kind place f
+before_lists file reach r order OfLists kind place less f = absurd (omega arith)
+
 pub first_faults : FirstFaultsDecide
 first_faults = record {
   file = λ file reach kind place f. record { pass = OfFile; fault = f; first = before_file file reach };
@@ -84,12 +100,13 @@ first_faults = record {
   programs = λ file reach kind place order f. record { pass = OfPrograms; fault = f; first = before_programs file reach order };
   units = λ file reach r kind place order f. record { pass = OfUnits; fault = f; first = before_units file reach r order };
   links = λ file reach r kind place order f. record { pass = OfLinks; fault = f; first = before_links file reach r order };
+  lists = λ file reach r kind place order f. record { pass = OfLists; fault = f; first = before_lists file reach r order };
 }
 
+-- what means something and waits for nothing is in order up to its lists
+in_order : (file : List ℕ) (reach : Reach) (r : Reading) (debug : Debug) → AreUnitsInOrder file reach r.links → IsReading file r → MeansDebug file r debug → HasNoUnread r.links → AreLinksInOrder file reach r.links
+in_order file reach r debug order read means no_unread = record { before = order; read = read.links; linked = meanings_linked file r debug read means no_unread; roots = read.roots; sets = (r.sets, read.sets) }
+
 pub valid_meaning : MeaningFilesAreValid
-valid_meaning file reach r debug order read means no_unread OfFile kind place f = file_faultless file reach order.before.before.image kind place f
-valid_meaning file reach r debug order read means no_unread OfNames kind place f = names_faultless file reach order.before.before kind place f
-valid_meaning file reach r debug order read means no_unread OfPrograms kind place f = programs_faultless file reach r.links order.before kind place f
-valid_meaning file reach r debug order read means no_unread OfUnits kind place f = units_faultless file reach r.links order kind place f
-valid_meaning file reach r debug order read means no_unread OfLinks kind place f = links_whole file r debug read means no_unread reach kind place f
-valid_meaning file reach r debug order read means no_unread OfLists kind place f = f
+valid_meaning file reach r debug order read means no_unread few OfLists kind place f = lists_whole file reach r read few kind place f
+valid_meaning file reach r debug order read means no_unread few pass kind place f = before_lists file reach r.links (in_order file reach r debug order read means no_unread) pass kind place (omega arith) f

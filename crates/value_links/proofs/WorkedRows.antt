@@ -17,7 +17,7 @@ use Rattle.value_links.specs.Attributes.OffsetClass.{LinePtr, RngList, LocList, 
 use Rattle.value_links.specs.Reading.{UnitRead, Linkable}
 use Rattle.value_links.specs.Linked.{Links}
 use Rattle.value_links.specs.Linked.Linked.{Refers}
-use Rattle.value_links.specs.Faults.{IsTargetless, IsUnread}
+use Rattle.value_links.specs.LinkFaults.{IsTargetless, IsUnread}
 
 -- the classes of attributes by their numbers; DW_AT_name has none
 stmt_list_is : offset_class 0x10 ≡ LinePtr
@@ -66,7 +66,7 @@ unit = record {
 
 abbrev linkable : Linkable
 unfolding unit
-linkable = record { programs = []; units = unit ∷ unit ∷ []; addresses = []; contexts = [] }
+linkable = record { programs = []; units = unit ∷ unit ∷ []; addresses = []; contexts = []; ranges = record { section = []; parts = [] } }
 
 -- the end of a chain is a target, which counts from the first byte of the unit
 chain_end_is : Links linkable 1 1 0x01 (InUnit 18) (Refers 1 (TheEnd 0))

@@ -2,22 +2,22 @@
 use Rattle.std.proofs.Common.{◌≡◌, ◌≤◌, ◌<◌, ◌+◌, ◌-◌, ◌^◌, ◌∙◌, inl, inr, ℕ, List, [], ◌∷◌, length, drop, Bool, true, false, sym, ap, subst, refl, arith}
 use Rattle.std.specs.Prelude.{map, Option, Some, None, nat_lt, ◌&&◌}
 use Rattle.std.specs.List.{All, AllZip, sum_by}
-use Rattle.std.proofs.lemmas.Bool.{ltb-false, cases_lt, true≢false}
+use Rattle.std.proofs.lemmas.Bool.{ltb-false, true≢false}
 use Rattle.std.proofs.lemmas.List.{length-map, length-take}
 use Rattle.std.proofs.lemmas.List.Elements.{All-nil, All-cons, All-head, All-tail}
 use Rattle.std.proofs.lemmas.List.Sums.{sum_by-cons}
 use Rattle.dw_base.specs.declared.fault.Fault.{Fault}
 use Rattle.dw_base.specs.declared.fault.Kind.{Kind}
-use Rattle.dw_base.specs.declared.fault.Kind.TheVariants.{NotElf64, Torn, Companion, Limit, Unbuilt}
+use Rattle.dw_base.specs.declared.fault.Kind.TheVariants.{Companion, Unbuilt}
 use Rattle.dw_base.specs.declared.fault.Reach.{Reach}
 use Rattle.dw_base.specs.declared.fault.Reach.TheVariants.{Narrow, Wide}
 use Rattle.dw_base.specs.declared.fault.Refusal.{Refusal}
 use Rattle.dw_base.specs.declared.fault.Refusal.TheVariants.{Refused, NoMemory}
 use Rattle.dw_base.specs.Refusals.{IsFaultOf, IsRefusedFor}
-use Rattle.elf_sections.specs.Elf.{IsElf64, section_count, header_at, offset_of, body_span, body_of}
+use Rattle.elf_sections.specs.Elf.{IsElf64, section_count, body_span, body_of}
 use Rattle.elf_sections.specs.Sections.{IsFirstNamed}
 use Rattle.elf_sections.specs.Names.{name_of, is_debug_name}
-use Rattle.elf_sections.specs.Faults.{SomeSection, NameFault, HasNoElfFault, NamesFirstFault, debug_limit, is_too_long}
+use Rattle.elf_sections.specs.Faults.{IsRead, SomeSection, NameFault, HasNoElfFault, NamesFirstFault, debug_limit, is_too_long}
 use Rattle.line_machine.specs.declared.head.Head.{Head}
 use Rattle.line_machine.specs.declared.registers.Row.{Row}
 use Rattle.line_machine.specs.Rows.{GivesRows}
@@ -27,20 +27,31 @@ use Rattle.line_write.specs.Faults.{LinesFault}
 use Rattle.line_write.specs.Programs.{Tile}
 use Rattle.line_write.specs.Readings.{AreRead}
 use Rattle.entry_read.proofs.Chained.{Chained}
+use Rattle.list_model.specs.declared.entry.ListKind.TheVariants.{Ranges}
+use Rattle.list_model.specs.Addresses.{AreAllTables}
+use Rattle.list_model.specs.Faults.{FaultContributions}
+use Rattle.list_model.specs.Faults.{FaultTables as FaultTablesOf}
+use Rattle.list_model.specs.Reading.{list_entry_limit}
 use Rattle.companions.specs.declared.set.ArangeSet.{ArangeSet}
 use Rattle.companions.specs.Aranges.{AreRising, SetsTile}
 use Rattle.companions.specs.Faults.{FaultSets}
+use Rattle.value_links.specs.declared.lists.ListRead.{ListRead as HeldList}
 use Rattle.value_links.specs.declared.parts.Parts.{Parts}
-use Rattle.value_links.specs.Sections.{section_named, body_or_none, body_named, offset_named, debug_info, debug_abbrev, debug_line, debug_aranges, debug_addr, info_name, abbrev_name, line_name, aranges_name}
-use Rattle.value_links.specs.Reading.{ProgramRead, UnitRead, Linkable, Reading, line_heads, HasRows, AreProgramsIn, unit_heads, unit_starts}
-use Rattle.value_links.specs.Whole.{IsReading}
-use Rattle.value_links.specs.Faults.{FaultOfNames, is_list_section, IsValid, NamesFault}
-use Rattle.value_links.specs.Faults.Pass.{OfFile}
-use Rattle.value_links.specs.Laws.{HaveFewRows, AreBuilt, IsImageInOrder, AreUnitsInOrder}
-use Rattle.value_links.specs.Parts.{AreUnitsHeld, HoldsParts, AreLinked, LinkFault, IsUnitsFault}
+use Rattle.value_links.specs.Attributes.{rnglists_base}
+use Rattle.value_links.specs.Sections.{section_named, body_or_none, body_named, offset_named, debug_info, debug_abbrev, debug_line, debug_aranges, debug_addr, debug_rnglists, info_name, abbrev_name, line_name, aranges_name, addr_name, rnglists_name}
+use Rattle.value_links.specs.Reading.{ProgramRead, UnitRead, ListSection, ListRead, Linkable, Reading, line_heads, HasRows, AreProgramsIn, unit_heads, unit_starts}
+use Rattle.value_links.specs.Whole.{HasAddrBase, AreAddressesRead, AreFirstBases, IsReading}
+use Rattle.value_links.specs.Lists.{AreListsOf}
+use Rattle.value_links.specs.ListFaults.{FaultOfKind, entry_total}
+use Rattle.value_links.specs.Debug.{Debug, MeansDebug}
+use Rattle.value_links.specs.Faults.{FaultOfNames, is_list_section, FaultOfUnits, NamesFault}
+use Rattle.value_links.specs.Laws.{HaveFewRows, HasNoUnread, AreLinked, IsImageInOrder, AreProgramsInOrder, AreUnitsInOrder}
+use Rattle.value_links.specs.Parts.{AreUnitsHeld, section_held, HoldsParts, LinkFault, IsUnitsFault}
 use Rattle.value_links.specs.inside.Checks.{AreContextsHeld}
-use Rattle.value_links.specs.inside.Passes.{starts_of, ArePartsInOrder, NamesLaterFault}
-use Rattle.value_links.specs.World.{World, head_and_forest, IsWorldOf}
+use Rattle.value_links.specs.inside.Passes.{starts_of, ArePartsRead, ArePartsInOrder, NamesLaterFault}
+use Rattle.value_links.specs.inside.ListPlaces.{AreContributions, AreBasesHeld}
+use Rattle.value_links.specs.inside.World.{IsHeldIn}
+use Rattle.value_links.specs.World.{World, head_and_forest, HoldLists, IsWorldOf}
 use Rattle.value_links.proofs.SectionLaws.{sections_are_found}
 use Rattle.value_links.proofs.Tiles.{programs_chained}
 use Rattle.value_links.proofs.ReadingOnce.{starts_rise}
@@ -49,6 +60,7 @@ use Rattle.value_links.proofs.Validity.{first_faults, valid_meaning}
 use Rattle.value_links.proofs.HeldUnits.{few_units}
 use Rattle.value_links.proofs.Meaningful.{linked_means}
 use Rattle.value_links.proofs.ContextLaws.{contexts_read}
+use Rattle.value_links.proofs.HeldLists.{bases_read, lists_told}
 
 -- SECTIONS BY THEIR NAMES
 
@@ -167,76 +179,24 @@ few_programs file reach programs read are =
     let short : length (debug_line file) < 2 ^ 32 = short_body file reach (section_named file line_name) refl read in
     omega arith
 
--- a valid file has no such section
-too_long : (file : List ℕ) (reach : Reach) (i : ℕ) → IsValid file reach → i < section_count file → is_too_long file reach i ≡ true → IsElf64 file → ⊥
-too_long file reach i valid inside long elf = elim (cases_lt (length file) (header_at file (section_count file))) [
-  | inl leaves ↦ valid OfFile Torn 0 (elf, inl (refl, inr (inl (inl (λ (none : section_count file ≡ 0). absurd (omega arith), leaves)))))
-  | inr fits ↦ valid OfFile Limit (offset_of file i) (inr (elf, inr (inl (i, (inside, omega arith), refl, long))))
-]
+-- WHAT VALUES REFER TO
 
-valid_bodies : (file : List ℕ) (reach : Reach) → IsValid file reach → HaveShortBodies file reach
-valid_bodies file reach valid i inside = is_short (is_too_long file reach i) refl
-  where
-    is_short : (b : Bool) → is_too_long file reach i ≡ b → b ≡ false
-    is_short false e = refl
-    is_short true e = absurd (valid OfFile NotElf64 0 (refl, too_long file reach i valid inside e))
+-- of programs alone
+programs_in_order : (file : List ℕ) (reach : Reach) → IsImageInOrder file reach → (heads : List Head) → AreRead (debug_line file) heads → (r : Linkable) × AreProgramsInOrder file reach r
+programs_in_order file reach order heads read =
+    let p = programs_read (debug_line file) heads read in
+    (record { programs = p.programs; units = []; addresses = []; contexts = []; ranges = record { section = []; parts = [] } }, record { before = order; programs = p.read; few = p.few })
 
-pub few_of_valid : (file : List ℕ) (reach : Reach) (programs : List ProgramRead) → IsValid file reach → AreProgramsIn (debug_line file) programs → length programs < 2 ^ 32
-few_of_valid file reach programs valid are = few_programs file reach programs (valid_bodies file reach valid) are
+-- a fault of the pass that reads units and contributions
+units_fault : (file : List ℕ) (reach : Reach) (heads : List Head) (fault : Fault) → AreRead (debug_line file) heads → IsImageInOrder file reach → FaultOfUnits file fault.kind fault.place → NamesFault file reach (Refused fault)
+units_fault file reach heads fault read order f = let (r, before) = programs_in_order file reach order heads read in first_faults.units file reach r fault.kind fault.place before f
 
--- UNITS
+in_info : (file : List ℕ) (fault : Fault) → IsUnitsFault (debug_info file) (debug_abbrev file) (offset_named file info_name) (offset_named file abbrev_name) fault → FaultOfUnits file fault.kind fault.place
+in_info file fault (inl f) = inl f
+in_info file fault (inr f) = inr (inl f)
 
-module _ (file : List ℕ) (reach : Reach) (order : IsImageInOrder file reach) (heads : List Head) (read : AreRead (debug_line file) heads) where
-  units_fault : (fault : Fault) → IsUnitsFault (debug_info file) (debug_abbrev file) (offset_named file info_name) (offset_named file abbrev_name) fault → NamesFault file reach (Refused fault)
-  units_fault fault f =
-      let p = programs_read (debug_line file) heads read in
-      let r : Linkable = record { programs = p.programs; units = []; addresses = []; contexts = [] } in
-      first_faults.units file reach r fault.kind fault.place (record { before = order; programs = p.read; few = p.few }) f
-
--- parts that were read, before the values are looked up
-pub record PartsRead (file : List ℕ) (parts : Parts) : Type 0 where
-  pub programs : AreRead (debug_line file) parts.programs.items
-  pub units : AreUnitsHeld (debug_info file) (debug_abbrev file) parts.units
-  pub contexts : AreContextsHeld (debug_addr file) parts.units parts.contexts.items
-
-module _ (file : List ℕ) (reach : Reach) (order : IsImageInOrder file reach) (parts : Parts) (read : PartsRead file parts) where
-  -- what values refer to, of which these are the parts
-  record LinkableRead : Type 0 where
-    r : Linkable
-    holds : HoldsParts file r parts
-    few : HaveFewRows r.programs
-    built : AreBuilt r.units
-
-  linkable_read : LinkableRead
-  linkable_read =
-      let p = programs_read (debug_line file) parts.programs.items read.programs in
-      let few : length p.programs < 2 ^ 32 = few_programs file reach p.programs (λ i inside. (order.image.sound.sections i inside).short) p.read in
-      let count : length parts.programs.items ≡ length p.programs = ap length p.held ∙ length-map p.programs (λ (x : ProgramRead). x.head) in
-      record {
-        r = record { programs = p.programs; units = read.units.read; addresses = debug_addr file; contexts = parts.contexts.items };
-        holds = record {
-          read = record { programs = p.read; units = read.units.units; addresses = refl; contexts = contexts_read (debug_addr file) read.units.read parts.units parts.contexts.items read.units.holds read.contexts };
-          programs = p.held;
-          units = read.units.holds;
-          contexts = refl;
-          few = subst (λ (n : ℕ). n < 2 ^ 32) (sym count) few;
-        };
-        few = p.few;
-        built = read.units.built;
-      }
-
-  pub parts_in_order : ((f : List ℕ) (r : Linkable) → HoldsParts f r parts → AreLinked r) → ArePartsInOrder file parts
-  parts_in_order linked = let l = linkable_read in record { r = l.r; holds = l.holds; few = l.few; built = l.built; linked = linked file l.r l.holds }
-
-  pub links_refused : (fault : Fault) → ((f : List ℕ) (r : Linkable) (reach : Reach) → HoldsParts f r parts → IsFaultOf (LinkFault r reach) (offset_named file info_name) fault) → NamesFault file reach (Refused fault)
-  links_refused fault refused =
-      let l = linkable_read in
-      let (inner, here, (u, inside, f)) = refused file l.r reach l.holds in
-      let in_order : AreUnitsInOrder file reach l.r = record { before = record { before = order; programs = l.holds.read.programs; few = l.few }; units = l.holds.read.units; built = l.built } in
-      first_faults.links file reach l.r fault.kind fault.place in_order (inl (inner, here, record { r = l.r; read = l.holds.read; u = u; inside = inside; fault = f }))
-
-pub units_refused : (file : List ℕ) (heads : List Head) (refusal : Refusal) → AreRead (debug_line file) heads → IsRefusedFor (IsUnitsFault (debug_info file) (debug_abbrev file) (offset_named file info_name) (offset_named file abbrev_name)) refusal → (reach : Reach) → NamesLaterFault file reach refusal
-units_refused file heads (Refused fault) read f reach order = units_fault file reach order heads read fault f
+units_refused : (file : List ℕ) (heads : List Head) (refusal : Refusal) → AreRead (debug_line file) heads → IsRefusedFor (IsUnitsFault (debug_info file) (debug_abbrev file) (offset_named file info_name) (offset_named file abbrev_name)) refusal → (reach : Reach) → NamesLaterFault file reach refusal
+units_refused file heads (Refused fault) read f reach order = units_fault file reach heads fault read order (in_info file fault f)
 units_refused file heads NoMemory read f reach order = tt
 
 -- likewise of sections that were looked up
@@ -244,18 +204,90 @@ pub units_refused_in : (file : List ℕ) (heads : List Head) (refusal : Refusal)
 units_refused_in file heads refusal info abbrevs info_origin abbrev_origin i a io ao read f =
     units_refused file heads refusal read (subst (λ (z : List ℕ). IsRefusedFor (IsUnitsFault z (debug_abbrev file) (offset_named file info_name) (offset_named file abbrev_name)) refusal) i (subst (λ (z : List ℕ). IsRefusedFor (IsUnitsFault info z (offset_named file info_name) (offset_named file abbrev_name)) refusal) a (subst (λ (o : ℕ). IsRefusedFor (IsUnitsFault info abbrevs o (offset_named file abbrev_name)) refusal) io (subst (λ (o : ℕ). IsRefusedFor (IsUnitsFault info abbrevs info_origin o) refusal) ao f))))
 
-pub parts_read_in : (file info abbrevs addr : List ℕ) (parts : Parts) → info ≡ debug_info file → abbrevs ≡ debug_abbrev file → addr ≡ debug_addr file → AreRead (debug_line file) parts.programs.items → AreUnitsHeld info abbrevs parts.units → AreContextsHeld addr parts.units parts.contexts.items → PartsRead file parts
-parts_read_in file info abbrevs addr parts i a d programs units contexts = record {
+pub ranges_refused : (file : List ℕ) (heads : List Head) (refusal : Refusal) → AreRead (debug_line file) heads → IsRefusedFor (IsFaultOf (FaultContributions (debug_rnglists file)) (offset_named file rnglists_name)) refusal → (reach : Reach) → NamesLaterFault file reach refusal
+ranges_refused file heads (Refused fault) read f reach order = units_fault file reach heads fault read order (inr (inr f))
+ranges_refused file heads NoMemory read f reach order = tt
+
+-- parts that were read, before the values are looked up
+pub record PartsRead (file : List ℕ) (parts : Parts) : Type 0 where
+  pub programs : AreRead (debug_line file) parts.programs.items
+  pub units : AreUnitsHeld (debug_info file) (debug_abbrev file) parts.units
+  pub contexts : AreContextsHeld (debug_addr file) parts.units parts.contexts.items
+  pub addresses : parts.addr.now ≡ debug_addr file
+  pub tables : AreAllTables (debug_addr file) parts.tables.items
+  pub section : parts.ranges.section.now ≡ debug_rnglists file
+  pub ranges : AreContributions parts.ranges
+  pub bases : AreBasesHeld (section_held parts.ranges) rnglists_base parts.units parts.bases.items
+
+pub parts_read_in : (file info abbrevs : List ℕ) (parts : Parts) → info ≡ debug_info file → abbrevs ≡ debug_abbrev file → parts.addr.now ≡ debug_addr file → AreRead (debug_line file) parts.programs.items → AreUnitsHeld info abbrevs parts.units → AreContextsHeld parts.addr.now parts.units parts.contexts.items → AreAllTables (debug_addr file) parts.tables.items → parts.ranges.section.now ≡ debug_rnglists file → AreContributions parts.ranges → AreBasesHeld (section_held parts.ranges) rnglists_base parts.units parts.bases.items → PartsRead file parts
+parts_read_in file info abbrevs parts i a d programs units contexts tables section ranges bases = record {
   programs = programs;
   units = subst (λ (z : List ℕ). AreUnitsHeld z (debug_abbrev file) parts.units) i (subst (λ (z : List ℕ). AreUnitsHeld info z parts.units) a units);
   contexts = subst (λ (z : List ℕ). AreContextsHeld z parts.units parts.contexts.items) d contexts;
+  addresses = d;
+  tables = tables;
+  section = section;
+  ranges = ranges;
+  bases = bases;
 }
+
+-- what values refer to, of which these are the parts
+pub parts_read : (file : List ℕ) (parts : Parts) → IsRead file Wide → PartsRead file parts → ArePartsRead file parts
+parts_read file parts image read =
+    let p = programs_read (debug_line file) parts.programs.items read.programs in
+    let few : length p.programs < 2 ^ 32 = few_programs file Wide p.programs (λ i inside. (image.sound.sections i inside).short) p.read in
+    let count : length parts.programs.items ≡ length p.programs = ap length p.held ∙ length-map p.programs (λ (x : ProgramRead). x.head) in
+    let r : Linkable = record { programs = p.programs; units = read.units.read; addresses = debug_addr file; contexts = parts.contexts.items; ranges = section_held parts.ranges } in
+    record {
+      r = r;
+      holds = record {
+        read = record {
+          programs = p.read;
+          units = read.units.units;
+          addresses = refl;
+          contexts = contexts_read (debug_addr file) read.units.read parts.units parts.contexts.items read.units.holds read.contexts;
+          ranges = record { bytes_are = read.section; tiled = read.ranges.tiled };
+        };
+        programs = p.held;
+        units = read.units.holds;
+        contexts = refl;
+        addresses = read.addresses;
+        tables = read.tables;
+        ranges = refl;
+        few_ranges = read.ranges.few;
+        bases = bases_read r parts.units parts.bases.items read.units.holds read.bases;
+        few = subst (λ (n : ℕ). n < 2 ^ 32) (sym count) few;
+      };
+      few = p.few;
+      built = read.units.built;
+    }
+
+-- LINKS
+
+module _ (file : List ℕ) (parts : Parts) (read : ArePartsRead file parts) where
+  units_in_order : (reach : Reach) → IsImageInOrder file reach → AreUnitsInOrder file reach read.r
+  units_in_order reach order = record { before = record { before = order; programs = read.holds.read.programs; few = read.few }; units = read.holds.read.units; built = read.built; ranges = read.holds.read.ranges }
+
+  pub units_are_held : AreUnitsHeld (debug_info file) (debug_abbrev file) parts.units
+  units_are_held = record { read = read.r.units; units = read.holds.read.units; holds = read.holds.units; built = read.built }
+
+  pub parts_in_order : ((f : List ℕ) (r : Linkable) → HoldsParts f r parts → AreLinked r) → ((f : List ℕ) (r : Linkable) → HoldsParts f r parts → AreFirstBases r) → AreAddressesRead read.r.units read.r.addresses → ArePartsInOrder file parts
+  parts_in_order linked based tables = record { r = read.r; holds = read.holds; few = read.few; built = read.built; linked = linked file read.r read.holds; roots = record { tables = tables; bases = based file read.r read.holds } }
+
+  pub links_refused : (fault : Fault) → ((f : List ℕ) (r : Linkable) (reach : Reach) → HoldsParts f r parts → IsFaultOf (LinkFault r reach) (offset_named file info_name) fault) → (reach : Reach) → NamesLaterFault file reach (Refused fault)
+  links_refused fault refused reach order =
+      let (inner, here, (u, inside, f)) = refused file read.r reach read.holds in
+      first_faults.links file reach read.r fault.kind fault.place (units_in_order reach order) (inl (inner, here, record { r = read.r; read = read.holds.read; u = u; inside = inside; fault = f }))
+
+  pub addresses_refused : (fault : Fault) → HasAddrBase read.r.units → IsFaultOf (FaultTablesOf (debug_addr file)) (offset_named file addr_name) fault → (reach : Reach) → NamesLaterFault file reach (Refused fault)
+  addresses_refused fault has (inner, here, f) reach order =
+      first_faults.links file reach read.r fault.kind fault.place (units_in_order reach order) (inr (inl (inner, here, (read.r.units, read.holds.read.units, has, f))))
 
 -- SETS OF ADDRESS RANGES
 
 -- a world by its parts
-abbrev pub world_by : List ℕ → Parts → List ArangeSet → World
-world_by image parts sets = record { image = image; programs = parts.programs.items; units = parts.units.units.items; tables = parts.units.tables.items; table_of = parts.units.table_of.items; contexts = parts.contexts.items; sets = sets }
+abbrev pub world_by : List ℕ → Parts → List HeldList → List ArangeSet → World
+world_by image parts lists sets = record { image = image; programs = parts.programs.items; units = parts.units.units.items; tables = parts.units.tables.items; table_of = parts.units.table_of.items; contexts = parts.contexts.items; contributions = parts.ranges.parts.items; lists = lists; sets = sets }
 
 starts_held : (units : List UnitRead) → starts_of (map head_and_forest units) ≡ unit_starts units
 starts_held [] = refl
@@ -273,34 +305,72 @@ module _ (file : List ℕ) (parts : Parts) (order : ArePartsInOrder file parts) 
   pub starts_rising : AreRising (starts_of parts.units.units.items)
   starts_rising = subst AreRising (sym starts_are) (starts_rise (debug_info file) order.r.units order.holds.read.units.tiled)
 
+  abbrev read_before : ArePartsRead file parts
+  read_before = record { r = order.r; holds = order.holds; few = order.few; built = order.built }
+
   in_order : (reach : Reach) → IsImageInOrder file reach → AreUnitsInOrder file reach order.r
-  in_order reach image = record { before = record { before = image; programs = order.holds.read.programs; few = order.few }; units = order.holds.read.units; built = order.built }
+  in_order reach image = units_in_order file parts read_before reach image
 
   pub sets_refused : (refusal : Refusal) → IsRefusedFor (IsFaultOf (FaultSets (debug_aranges file) (starts_of parts.units.units.items)) (offset_named file aranges_name)) refusal → (reach : Reach) → NamesLaterFault file reach refusal
   sets_refused (Refused fault) (inner, here, f) reach image =
       let same = starts_are ∙ sym (heads_begin order.r.units) in
-      first_faults.links file reach order.r fault.kind fault.place (in_order reach image) (inr (inner, here, (unit_heads order.r.units, order.holds.read.units.tiled, subst (λ (z : List ℕ). FaultSets (debug_aranges file) z fault.kind inner) same f)))
+      first_faults.links file reach order.r fault.kind fault.place (in_order reach image) (inr (inr (inner, here, (unit_heads order.r.units, order.holds.read.units.tiled, subst (λ (z : List ℕ). FaultSets (debug_aranges file) z fault.kind inner) same f))))
   sets_refused NoMemory f reach image = tt
 
-  -- THE FILE
+  -- LISTS
 
-  world_of : (reach : Reach) (sets : List ArangeSet) → IsImageInOrder file reach → SetsTile (debug_aranges file) (starts_of parts.units.units.items) sets → IsWorldOf file reach (world_by file parts sets)
-  world_of reach sets image tiled =
-      let r : Reading = record { links = order.r; sets = sets } in
-      let whole : IsReading file r = record { links = order.holds.read; sets = subst (λ (z : List ℕ). SetsTile (debug_aranges file) z sets) starts_are tiled } in
-      let (meaning, read) = linked_means file r whole order.linked in
-      record {
-        r = r;
+  pub units_held_in_order : AreUnitsHeld (debug_info file) (debug_abbrev file) parts.units
+  units_held_in_order = units_are_held file parts read_before
+
+  module _ (sets : List ArangeSet) (tiled : SetsTile (debug_aranges file) (starts_of parts.units.units.items) sets) where
+    tiled_there : SetsTile (debug_aranges file) (unit_starts order.r.units) sets
+    tiled_there = subst (λ (z : List ℕ). SetsTile (debug_aranges file) z sets) starts_are tiled
+
+    pub named_refused : (reach : Reach) (refusal : Refusal) → ((f : List ℕ) (r : Linkable) → HoldsParts f r parts → IsRefusedFor (IsFaultOf (FaultOfKind r reach Ranges) (offset_named file rnglists_name)) refusal) → NamesLaterFault file reach refusal
+    named_refused reach (Refused fault) refused image =
+        let (inner, here, f) = refused file order.r order.holds in
+        first_faults.lists file reach order.r fault.kind fault.place (record { before = in_order reach image; read = order.holds.read; linked = order.linked; roots = order.roots; sets = (sets, tiled_there) }) (inl (inner, here, (order.r, order.holds.read, f)))
+    named_refused reach NoMemory refused image = tt
+
+    -- THE FILE
+
+    module _ (reach : Reach) (image : IsImageInOrder file reach) (held : List HeldList) (lists : (r : Linkable) → HoldsParts file r parts → (read : List ListRead) × AreListsOf r Ranges read × HoldLists r Ranges read held × (entry_total read ≤ list_entry_limit reach)) where
+      named : (read : List ListRead) × AreListsOf order.r Ranges read × HoldLists order.r Ranges read held × (entry_total read ≤ list_entry_limit reach)
+      named = lists order.r order.holds
+
+      abbrev reading : Reading
+      reading = record { links = order.r; range_lists = named.0; sets = sets }
+
+      whole : IsReading file reading
+      whole = record { links = order.holds.read; roots = order.roots; ranges = named.1; sets = tiled_there }
+
+      meaning : ((debug : Debug) × MeansDebug file reading debug) × HasNoUnread order.r
+      meaning = linked_means file reading whole (lists_told order.r Ranges named.0 held named.2) order.linked
+
+      abbrev world_of : IsWorldOf file reach (world_by file parts held sets)
+      world_of = record {
+        r = reading;
         read = whole;
-        holds = record { image = refl; programs = order.holds.programs; units = order.holds.units.units; tables = order.holds.units.tables; contexts = order.holds.contexts; sets = refl };
-        debug = meaning.0;
-        means = meaning.1;
-        valid = valid_meaning file reach r meaning.0 (in_order reach image) whole meaning.1 read;
+        holds = record {
+          image = refl;
+          programs = order.holds.programs;
+          units = order.holds.units.units;
+          tables = order.holds.units.tables;
+          contexts = order.holds.contexts;
+          addresses = order.holds.read.addresses;
+          ranges = order.holds.read.ranges.bytes_are;
+          contributions = ap (λ (z : ListSection). z.parts) order.holds.ranges;
+          lists = named.2;
+          sets = refl;
+        };
+        debug = meaning.0.0;
+        means = meaning.0.1;
+        valid = valid_meaning file reach reading meaning.0.0 (in_order reach image) whole meaning.0.1 meaning.1 named.3;
       }
 
-  -- likewise where the image that was read is the file
-  pub world_read : (image : List ℕ) (reach : Reach) (sets : List ArangeSet) → image ≡ file → IsImageInOrder file reach → SetsTile (debug_aranges file) (starts_of parts.units.units.items) sets → IsWorldOf file reach (world_by image parts sets)
-  world_read image reach sets same found tiled = subst (λ (z : List ℕ). IsWorldOf file reach (world_by z parts sets)) (sym same) (world_of reach sets found tiled)
+      -- likewise where the image that was read is the file
+      pub world_read : (bytes : List ℕ) → bytes ≡ file → IsWorldOf file reach (world_by bytes parts held sets)
+      world_read bytes same = subst (λ (z : List ℕ). IsWorldOf file reach (world_by z parts held sets)) (sym same) world_of
 
-  pub world_held : (image : List ℕ) (reach : Reach) (sets : List ArangeSet) → image ≡ file → IsImageInOrder file reach → SetsTile (debug_aranges file) (starts_of parts.units.units.items) sets → IsWorldOf image reach (world_by image parts sets)
-  world_held image reach sets same found tiled = subst (λ (z : List ℕ). IsWorldOf z reach (world_by z parts sets)) (sym same) (world_of reach sets found tiled)
+      pub world_held : (bytes : List ℕ) → bytes ≡ file → IsHeldIn bytes parts (world_by bytes parts held sets)
+      world_held bytes same = subst (λ (z : List ℕ). IsHeldIn z parts (world_by z parts held sets)) (sym same) (record { reach = reach; is = world_of; parts_are = order.holds })

@@ -1,20 +1,31 @@
 -- What is least in a file that is written anew for another, by what is read of both; and, apart from that, which of several least
 -- choices is written.
-use Rattle.std.specs.Prelude.{◌≡◌, ◌<◌, ℕ, List, length, map, slice_index}
+use Rattle.std.specs.Prelude.{◌≡◌, ◌<◌, ◌++◌, ℕ, List, length, map, slice_index, Some}
 use Rattle.leb_codec.specs.Numbering.{IsLeastNumbering, RiseByFallingUses, AreFirstNumbers}
 use Rattle.form_codec.specs.Forms.{Meaning}
 use Rattle.abbrev_tables.specs.declared.decl.Spec.{Spec}
 use Rattle.abbrev_tables.specs.Listings.{spec_at}
 use Rattle.abbrev_tables.specs.LeastColumns.{IsLeastColumn, IsFirstColumn}
-use Rattle.value_links.specs.Reading.{Linkable, Reading, unit_at}
+use Rattle.list_model.specs.declared.entry.ListKind.{ListKind}
+use Rattle.list_model.specs.declared.entry.ListKind.TheVariants.{Ranges}
+use Rattle.list_model.specs.Contributions.{bytes_from}
+use Rattle.list_model.specs.Entries.{Entry, AreSaid}
+use Rattle.list_model.specs.Items.{Bounds, Give}
+use Rattle.list_model.specs.Members.{IsLeastList, IsLeastFrozen}
+use Rattle.value_links.specs.Reading.{ListRead, Linkable, Reading, unit_at, of_kind, lists_of, part_at, list_at, context_at}
+use Rattle.value_links.specs.Lists.{IsOwner, IsFrozen}
 use Rattle.value_links.specs.Whole.{IsReading}
 use Rattle.value_links.specs.Values.{entry_of, declaration_of}
 use Rattle.value_links.specs.World.{head_and_forest, named_by}
 use Rattle.value_links.specs.Uses.{AreUses, column_meanings}
 
 -- both files are read, and this holds of what is read of them
+abbrev pub OfReadings : (Reading → Reading → Type 0) → List ℕ → List ℕ → Type 0
+OfReadings Holds file written = (r : Reading) × (s : Reading) × IsReading file r × IsReading written s × Holds r s
+
+-- the same, of what values refer to
 abbrev pub OfBoth : (Linkable → Linkable → Type 0) → List ℕ → List ℕ → Type 0
-OfBoth Holds file written = (r : Reading) × (s : Reading) × IsReading file r × IsReading written s × Holds r.links s.links
+OfBoth Holds file written = OfReadings (λ r s. Holds r.links s.links) file written
 
 -- CODES
 
@@ -69,3 +80,22 @@ HaveLeastColumns = OfBoth (HaveColumns IsLeastColumn)
 -- No least form comes before its own. Columns of references are left out.
 abbrev pub HaveFirstColumns : List ℕ → List ℕ → Type 0
 HaveFirstColumns = OfBoth (HaveColumns IsFirstColumn)
+
+-- LISTS
+
+-- Bytes are the shortest of the class of a list: where it isn't frozen, of those that give its items in the context of the unit that
+-- owns it, with any bases; where it is, of those with its own kinds of entries and operands.
+pub record AreLeastBytes (r : Linkable) (kind : ListKind) (list : ListRead) (bytes : List ℕ) : Type 0 where
+  pub live : (¬ IsFrozen r kind list) → (u : ℕ) (entries : List Entry) (bounds : List Bounds) → IsOwner r kind list.at (Some u) → AreSaid kind list.raws entries → Give r.addresses (context_at r u) entries bounds → IsLeastList kind r.addresses (context_at r u) bounds bytes
+  pub frozen : IsFrozen r kind list → (entries : List Entry) → AreSaid kind list.raws entries → IsLeastFrozen kind entries bytes
+
+-- The list with a number is written in such bytes.
+pub record IsLeastWritten (kind : ListKind) (r s : Reading) (k : ℕ) : Type 0 where
+  pub bytes : List ℕ
+  pub rest : List ℕ
+  pub stands : bytes_from (of_kind s.links kind).section (part_at (of_kind s.links kind) (list_at (lists_of s kind) k).part) (list_at (lists_of s kind) k).at ≡ bytes ++ rest
+  pub least : AreLeastBytes r.links kind (list_at (lists_of r kind) k) bytes
+
+-- all range lists are; the one with a number in the written file is the one with this number in the old file
+abbrev pub HaveLeastRanges : List ℕ → List ℕ → Type 0
+HaveLeastRanges = OfReadings (λ r s. (k : ℕ) → k < length r.range_lists → IsLeastWritten Ranges r s k)

@@ -7,10 +7,13 @@ use Rattle.entry_arena.specs.Forests.{Described, described_by}
 use Rattle.entry_read.specs.Heads.{type_unit}
 use Rattle.companions.specs.declared.set.ArangeSet.{ArangeSet}
 use Rattle.value_links.specs.Sections.{debug_line}
-use Rattle.value_links.specs.Reading.{UnitRead, Linkable, Reading, line_heads, declarations, unit_at}
+use Rattle.list_model.specs.declared.entry.ListKind.{ListKind}
+use Rattle.list_model.specs.declared.entry.ListKind.TheVariants.{Ranges}
+use Rattle.value_links.specs.Reading.{UnitRead, Linkable, Reading, line_heads, declarations, unit_at, of_kind, part_at}
+use Rattle.value_links.specs.ListPlaces.{SlotNames}
 use Rattle.value_links.specs.Whole.{IsReading}
 use Rattle.value_links.specs.Linked.{IsTypeEntry}
-use Rattle.value_links.specs.Resolved.{Resolved, Resolves}
+use Rattle.value_links.specs.Resolved.{Resolved, Resolves, ListMeaning, MeansList}
 
 -- an entry: how many it stands below, its tag, whether it has children, and its attributes, each a name and a value
 -- (DWARF 5 sections 2.1 to 2.3)
@@ -32,11 +35,16 @@ pub record UnitMeaning : Type 0 where
 pub record SetMeaning : Type 0 where
   pub unit : ℕ
 
--- The debug meaning of a file: its line number programs, its units and its sets of address ranges, each in their order. What
--- further sections mean is a field more.
+-- a contribution to a section of lists: of each of its slots the list that it names (sections 7.28 and 7.29)
+pub record PartMeaning : Type 0 where
+  pub slots : List ListMeaning
+
+-- The debug meaning of a file: its line number programs, its units, its contributions of range lists and its sets of address
+-- ranges, each in their order. What further sections mean is a field more.
 pub record Debug : Type 0 where
   pub programs : List ProgramMeaning
   pub units : List UnitMeaning
+  pub ranges : List PartMeaning
   pub aranges : List SetMeaning
 
 -- the entries of a unit, with their values as they stand
@@ -80,10 +88,25 @@ pub record MeanUnits (r : Reading) (units : List UnitMeaning) : Type 0 where
 abbrev pub set_meaning : ArangeSet → SetMeaning
 set_meaning set = record { unit = set.unit }
 
+-- a slot of a contribution names a list, and the list means this
+abbrev pub MeansSlot : Reading → ListKind → ℕ → ℕ → ListMeaning → Type 0
+MeansSlot r kind p i meaning = (at : ℕ) × SlotNames (of_kind r.links kind) p i at × MeansList r kind at meaning
+
+-- the contribution with a number has as many slots, and each means what it names
+pub record MeansPart (r : Reading) (kind : ListKind) (p : ℕ) (part : PartMeaning) : Type 0 where
+  pub count : length part.slots ≡ (part_at (of_kind r.links kind) p).slots
+  pub each : (i : ℕ) (d : ListMeaning) → i < length part.slots → MeansSlot r kind p i (slice_index_or part.slots i d)
+
+-- there are as many contributions of a kind, and each means the one with its number
+pub record MeanParts (r : Reading) (kind : ListKind) (parts : List PartMeaning) : Type 0 where
+  pub count : length parts ≡ length (of_kind r.links kind).parts
+  pub each : (p : ℕ) (d : PartMeaning) → p < length parts → MeansPart r kind p (slice_index_or parts p d)
+
 -- what is read means this
 pub record MeansDebug (file : List ℕ) (r : Reading) (debug : Debug) : Type 0 where
   pub programs : HaveMeanings (debug_line file) (line_heads r.links.programs) debug.programs
   pub units : MeanUnits r debug.units
+  pub ranges : MeanParts r Ranges debug.ranges
   pub aranges : debug.aranges ≡ map set_meaning r.sets
 
 -- the file means this

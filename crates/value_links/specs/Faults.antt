@@ -1,10 +1,9 @@
 -- The faults of a file, as conditions on its bytes, in the order in which they decide: passes over the file, of which the
 -- first that has a fault refuses it. The place of a fault is an offset in the file.
-use Rattle.std.specs.Prelude.{◌≡◌, ◌≤◌, ◌<◌, ◌+◌, ◌⊎◌, ℕ, List, [], ◌∷◌, ◌++◌, length, drop, map, Bool, ◌||◌, bytes_eq}
+use Rattle.std.specs.Prelude.{◌≡◌, ◌≤◌, ◌<◌, ◌+◌, ◌⊎◌, ℕ, List, [], ◌∷◌, ◌++◌, length, drop, map, Bool, bytes_eq}
 use Rattle.std.specs.List.{All, Contains}
-use Rattle.dw_base.specs.declared.constants.TheConstants.{DW_OP_CALL2, DW_OP_CALL4, DW_OP_CALL_REF, DW_OP_IMPLICIT_POINTER, DW_OP_CONST_TYPE, DW_OP_REGVAL_TYPE, DW_OP_DEREF_TYPE, DW_OP_XDEREF_TYPE, DW_OP_CONVERT, DW_OP_REINTERPRET, DW_OP_GNU_PARAMETER_REF, DW_OP_GNU_VARIABLE_VALUE}
 use Rattle.dw_base.specs.declared.fault.Kind.{Kind}
-use Rattle.dw_base.specs.declared.fault.Kind.TheVariants.{Companion, Limit, Target as NoTarget, Pointer, NoBase, Unbuilt}
+use Rattle.dw_base.specs.declared.fault.Kind.TheVariants.{Companion, Limit, Pointer, Unbuilt}
 use Rattle.dw_base.specs.declared.fault.Reach.{Reach}
 use Rattle.dw_base.specs.declared.fault.Refusal.{Refusal}
 use Rattle.dw_base.specs.declared.fault.Refusal.TheVariants.{Refused, NoMemory}
@@ -14,26 +13,25 @@ use Rattle.elf_sections.specs.Faults.{SomeSection, ElfFault, NameFault}
 use Rattle.line_write.specs.Faults.{LinesFault}
 use Rattle.spelled.specs.Spelled.{StandsAt}
 use Rattle.form_codec.specs.declared.form.Form.TheVariants.{Ref1, Ref2}
-use Rattle.form_codec.specs.Forms.{Meaning, code_of}
-use Rattle.form_codec.specs.Forms.Meaning.{InUnit, InSection, SectionPlace, LocationList, RangeList, Expression}
+use Rattle.form_codec.specs.Forms.{code_of}
 use Rattle.abbrev_tables.specs.declared.decl.Spec.{Spec}
 use Rattle.abbrev_tables.specs.Tables.{Declared, SpellsDeclared}
 use Rattle.abbrev_tables.specs.Listings.{Listing, IsTableAt}
 use Rattle.abbrev_tables.specs.Faults.{FaultTable}
-use Rattle.entry_arena.specs.declared.entry.Target.{Target}
 use Rattle.entry_read.specs.declared.head.UnitHead.{UnitHead}
 use Rattle.entry_read.specs.declared.unit.Counts.{Counts}
-use Rattle.entry_read.specs.Heads.{type_offset_at, type_unit, Follow, Tile}
+use Rattle.entry_read.specs.Heads.{Follow, Tile}
 use Rattle.entry_read.specs.Units.{declarations_of}
 use Rattle.entry_read.specs.Faults.{FaultHeads, FaultUnit}
+use Rattle.list_model.specs.declared.entry.ListKind.TheVariants.{Ranges}
+use Rattle.list_model.specs.Faults.{FaultContributions}
+use Rattle.list_model.specs.Faults.{FaultTables as FaultTablesOf}
 use Rattle.companions.specs.Faults.{FaultSets}
-use Rattle.value_links.specs.Sections.{offset_named, debug_info, debug_abbrev, debug_line, debug_aranges, info_name, abbrev_name, line_name, aranges_name, rnglists_name, loclists_name}
-use Rattle.value_links.specs.Attributes.{OffsetClass, offset_class, rnglists_base, loclists_base}
-use Rattle.value_links.specs.Attributes.OffsetClass.{LinePtr, RngList, LocList, RngListsPtr, LocListsPtr, AddrPtr, StrOffsetsPtr, MacPtr, Views, NoOffset}
-use Rattle.value_links.specs.Reading.{UnitRead, Linkable, unit_heads, unit_at, counts_of, AreWithin, IsUnitRead}
-use Rattle.value_links.specs.Whole.{IsReadToLinks}
-use Rattle.value_links.specs.Linked.{IsLocalTarget, IsSectionTarget, IsTypeEntry, IsProgramAt}
-use Rattle.value_links.specs.Values.{HasValueAt, GivesBase}
+use Rattle.value_links.specs.Sections.{offset_named, debug_info, debug_abbrev, debug_line, debug_aranges, debug_addr, debug_rnglists, info_name, abbrev_name, line_name, aranges_name, addr_name, rnglists_name, loclists_name}
+use Rattle.value_links.specs.Reading.{UnitRead, Linkable, unit_heads, counts_of, AreWithin, IsUnitRead, AreUnitsOf}
+use Rattle.value_links.specs.Whole.{IsReadToLinks, HasAddrBase}
+use Rattle.value_links.specs.LinkFaults.{FaultInUnit}
+use Rattle.value_links.specs.ListFaults.{FaultOfKind, FaultOfUses}
 
 -- a fault of a section, which counts from the section's first byte, stands at a place of the file
 abbrev pub FaultIn : List ℕ → List ℕ → (Kind → ℕ → Type 0) → Kind → ℕ → Type 0
@@ -46,9 +44,9 @@ FaultOfFile file reach kind place = ElfFault file reach kind place
 
 -- SECOND PASS: the names of sections
 
--- a section of range lists or of location lists; neither is rewritten yet
+-- a section of location lists, which isn't rewritten yet
 abbrev pub is_list_section : List ℕ → ℕ → Bool
-is_list_section file i = bytes_eq (name_of file i) rnglists_name || bytes_eq (name_of file i) loclists_name
+is_list_section file i = bytes_eq (name_of file i) loclists_name
 
 -- A section goes with debug sections and isn't known, or isn't rewritten yet.
 abbrev pub FaultOfNames : List ℕ → Reach → Kind → ℕ → Type 0
@@ -61,7 +59,7 @@ FaultOfNames file reach kind place = ⊥
 abbrev pub FaultOfPrograms : List ℕ → Kind → ℕ → Type 0
 FaultOfPrograms file kind place = FaultIn file line_name (LinesFault (debug_line file)) kind place
 
--- FOURTH PASS: headers of units, abbreviation tables, and entries (DWARF 5 section 7.5)
+-- FOURTH PASS: headers of units, abbreviation tables, entries, and contributions of lists (DWARF 5 sections 7.5 and 7.28)
 
 -- the head is that of a unit, which stands after units that are the front of .debug_info
 abbrev pub IsUnitOf : List ℕ → UnitHead → Type 0
@@ -121,83 +119,14 @@ FaultUnits info abbrevs kind place = (head : UnitHead) × (before : Counts) × I
 abbrev pub InfoFault : List ℕ → List ℕ → Kind → ℕ → Type 0
 InfoFault info abbrevs kind place = FaultHeads info kind place ⊎ (FaultOffset info abbrevs kind place ⊎ FaultUnits info abbrevs kind place)
 
+-- and of the contributions to a section of lists (DWARF 5 sections 7.28 and 7.29)
 abbrev pub FaultOfUnits : List ℕ → Kind → ℕ → Type 0
 FaultOfUnits file kind place =
     FaultIn file info_name (InfoFault (debug_info file) (debug_abbrev file)) kind place
-    ⊎ FaultIn file abbrev_name (FaultTables (debug_info file) (debug_abbrev file)) kind place
+    ⊎ (FaultIn file abbrev_name (FaultTables (debug_info file) (debug_abbrev file)) kind place
+    ⊎ FaultIn file rnglists_name (FaultContributions (debug_rnglists file)) kind place)
 
--- FIFTH PASS: what values refer to (DWARF 5 section 7.5.5), expressions, and sets of address ranges
-
--- a reference that no entry and no end of a chain is the target of
-abbrev pub IsTargetless : Linkable → ℕ → Meaning → Type 0
-IsTargetless r u (InUnit n) = ¬ ((target : Target) × IsLocalTarget r u n target)
-IsTargetless r u (InSection n) = ¬ ((unit : ℕ) × (target : Target) × IsSectionTarget r n unit target)
-IsTargetless r u meaning = ⊥
-
--- A section offset names nothing that its class allows: no line number program; no list, no view numbers and no offsets of
--- lists, since no section has them yet; or its attribute has no class. The offsets that are kept as numbers name nothing
--- that is looked up.
-abbrev pub NamesNothing : Linkable → ℕ → ℕ → OffsetClass → ℕ → Type 0
-NamesNothing r u id LinePtr n = ¬ ((p : ℕ) × IsProgramAt r n p)
-NamesNothing r u id RngList n = Unit {0}
-NamesNothing r u id LocList n = Unit {0}
-NamesNothing r u id RngListsPtr n = Unit {0}
-NamesNothing r u id LocListsPtr n = Unit {0}
-NamesNothing r u id AddrPtr n = ⊥
-NamesNothing r u id StrOffsetsPtr n = ⊥
-NamesNothing r u id MacPtr n = ⊥
-NamesNothing r u id Views n = Unit {0}
-NamesNothing r u id NoOffset n = Unit {0}
-
--- A section offset names nothing, or an index counts the lists of a base that names nothing.
-abbrev pub IsDangling : Linkable → ℕ → ℕ → ℕ → Meaning → Type 0
-IsDangling r u id name (SectionPlace n) = NamesNothing r u id (offset_class name) n
-IsDangling r u id name (LocationList i) = GivesBase (unit_at r u) loclists_base
-IsDangling r u id name (RangeList i) = GivesBase (unit_at r u) rnglists_base
-IsDangling r u id name meaning = ⊥
-
--- an index needs a base that the root doesn't give
-abbrev pub IsBaseless : Linkable → ℕ → Meaning → Type 0
-IsBaseless r u (LocationList i) = ¬ GivesBase (unit_at r u) loclists_base
-IsBaseless r u (RangeList i) = ¬ GivesBase (unit_at r u) rnglists_base
-IsBaseless r u meaning = ⊥
-
--- The opcodes of the operations that name an entry (DWARF 5 section 7.7.1), and of two extensions that do. Operations aren't
--- read yet. So an expression in which one of these bytes stands anywhere, be it an operand, isn't rewritten.
-abbrev pub unread_opcodes : List ℕ
-unread_opcodes = DW_OP_CALL2 ∷ DW_OP_CALL4 ∷ DW_OP_CALL_REF ∷ DW_OP_IMPLICIT_POINTER ∷ DW_OP_CONST_TYPE ∷ DW_OP_REGVAL_TYPE ∷ DW_OP_DEREF_TYPE ∷ DW_OP_XDEREF_TYPE ∷ DW_OP_CONVERT ∷ DW_OP_REINTERPRET ∷ DW_OP_GNU_PARAMETER_REF ∷ DW_OP_GNU_VARIABLE_VALUE ∷ []
-
--- an expression has one of these bytes
-abbrev pub IsUnread : Meaning → Type 0
-IsUnread (Expression bytes) = (byte : ℕ) × Contains bytes byte × Contains unread_opcodes byte
-IsUnread meaning = ⊥
-
--- the fault of the value of an attribute with a name, in an entry `id` of the unit `u`, both by their numbers
-abbrev pub FaultValue : Linkable → ℕ → ℕ → ℕ → Meaning → Kind → Type 0
-FaultValue r u id name meaning NoTarget = IsTargetless r u meaning
-FaultValue r u id name meaning Pointer = IsDangling r u id name meaning
-FaultValue r u id name meaning NoBase = IsBaseless r u meaning
-FaultValue r u id name meaning Unbuilt = IsUnread meaning
-FaultValue r u id name meaning kind = ⊥
-
--- A value of the unit with a number has a fault. The place is the value's first byte.
-pub record FaultAttribute (r : Linkable) (u : ℕ) (kind : Kind) (place : ℕ) : Type 0 where
-  pub id : ℕ
-  pub number : ℕ
-  pub name : ℕ
-  pub meaning : Meaning
-  pub stands : HasValueAt (unit_at r u) id number name meaning place
-  pub fault : FaultValue r u id name meaning kind
-
--- The type_offset of a type unit names no entry of the unit. The place is that of the field.
-abbrev pub FaultType : Linkable → ℕ → Kind → ℕ → Type 0
-FaultType r u NoTarget place = ((unit_at r u).head.kind ≡ type_unit) × (¬ ((id : ℕ) × IsTypeEntry r u id)) × (place ≡ type_offset_at (unit_at r u).head)
-FaultType r u kind place = ⊥
-
--- Something in a unit refers to what isn't there, or isn't read yet. Each fault has a place of its own: that of a value, or of a
--- field. No limit is asked for here yet.
-abbrev pub FaultInUnit : Linkable → Reach → ℕ → Kind → ℕ → Type 0
-FaultInUnit r reach u kind place = FaultAttribute r u kind place ⊎ FaultType r u kind place
+-- FIFTH PASS: what values refer to (DWARF 5 section 7.5.5), first bases, expressions, address tables, and sets of address ranges
 
 pub record FaultLinks (file : List ℕ) (reach : Reach) (kind : Kind) (place : ℕ) : Type 0 where
   pub r : Linkable
@@ -210,8 +139,23 @@ pub record FaultLinks (file : List ℕ) (reach : Reach) (kind : Kind) (place : �
 abbrev pub FaultAranges : List ℕ → Kind → ℕ → Type 0
 FaultAranges file kind place = (heads : List UnitHead) × Tile (debug_info file) heads × FaultSets (debug_aranges file) (map (λ (head : UnitHead). head.at) heads) kind place
 
+-- A unit has a DW_AT_addr_base, and after address tables that are the front of .debug_addr another has a fault.
+abbrev pub FaultAddresses : List ℕ → Kind → ℕ → Type 0
+FaultAddresses file kind place = (units : List UnitRead) × AreUnitsOf file units × HasAddrBase units × FaultTablesOf (debug_addr file) kind place
+
 abbrev pub FaultOfLinks : List ℕ → Reach → Kind → ℕ → Type 0
-FaultOfLinks file reach kind place = FaultIn file info_name (FaultLinks file reach) kind place ⊎ FaultIn file aranges_name (FaultAranges file) kind place
+FaultOfLinks file reach kind place = FaultIn file info_name (FaultLinks file reach) kind place ⊎ (FaultIn file addr_name (FaultAddresses file) kind place ⊎ FaultIn file aranges_name (FaultAranges file) kind place)
+
+-- SIXTH PASS: lists, and the slots that name them (DWARF 5 sections 2.17.3, 7.25 and 7.28)
+
+-- what is read up to the places of lists has a fault
+abbrev pub OfLinkable : List ℕ → (Linkable → Kind → ℕ → Type 0) → Kind → ℕ → Type 0
+OfLinkable file FaultOf kind place = (r : Linkable) × IsReadToLinks file r × FaultOf r kind place
+
+abbrev pub FaultOfLists : List ℕ → Reach → Kind → ℕ → Type 0
+FaultOfLists file reach kind place =
+    FaultIn file rnglists_name (OfLinkable file (λ r. FaultOfKind r reach Ranges)) kind place
+    ⊎ FaultIn file info_name (OfLinkable file FaultOfUses) kind place
 
 -- THE PASSES
 
@@ -232,14 +176,14 @@ order_of OfUnits = 4
 order_of OfLinks = 5
 order_of OfLists = 6
 
--- A pass has a fault of a kind at a place. No section has lists yet.
+-- A pass has a fault of a kind at a place.
 abbrev pub FaultOfPass : Pass → List ℕ → Reach → Kind → ℕ → Type 0
 FaultOfPass OfFile file reach kind place = FaultOfFile file reach kind place
 FaultOfPass OfNames file reach kind place = FaultOfNames file reach kind place
 FaultOfPass OfPrograms file reach kind place = FaultOfPrograms file kind place
 FaultOfPass OfUnits file reach kind place = FaultOfUnits file kind place
 FaultOfPass OfLinks file reach kind place = FaultOfLinks file reach kind place
-FaultOfPass OfLists file reach kind place = ⊥
+FaultOfPass OfLists file reach kind place = FaultOfLists file reach kind place
 
 -- no pass before this one has a fault
 abbrev pub IsFirst : Pass → List ℕ → Reach → Type 0

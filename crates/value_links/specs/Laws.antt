@@ -10,15 +10,24 @@ use Rattle.line_machine.specs.Faults.{row_limit}
 use Rattle.line_write.specs.Faults.{total_limit}
 use Rattle.form_codec.specs.Forms.{Meaning}
 use Rattle.abbrev_tables.specs.Tables.{Declared}
-use Rattle.value_links.specs.Reading.{ProgramRead, UnitRead, Linkable, Reading, declarations, unit_at, AreProgramsOf, AreUnitsOf}
-use Rattle.value_links.specs.Whole.{IsReadToLinks, IsReading}
+use Rattle.entry_read.specs.Heads.{type_unit}
+use Rattle.list_model.specs.declared.entry.ListKind.TheVariants.{Ranges}
+use Rattle.list_model.specs.Reading.{list_entry_limit}
+use Rattle.companions.specs.declared.set.ArangeSet.{ArangeSet}
+use Rattle.companions.specs.Aranges.{SetsTile}
+use Rattle.value_links.specs.Sections.{debug_aranges, debug_rnglists}
+use Rattle.value_links.specs.Reading.{ProgramRead, UnitRead, Linkable, Reading, declarations, unit_at, unit_starts, AreProgramsOf, AreUnitsOf}
+use Rattle.value_links.specs.Whole.{ArePartsOf, IsReadToLinks, AreRootsRead, IsReading}
+use Rattle.value_links.specs.Lists.{AreTold}
+use Rattle.value_links.specs.ListFaults.{entry_total}
 use Rattle.value_links.specs.Values.{HasValueAt}
-use Rattle.value_links.specs.Linked.{Linked, Links, IsLinked}
+use Rattle.value_links.specs.Linked.{Linked, Links, IsLinked, IsTypeEntry}
 use Rattle.value_links.specs.Resolved.{Resolved, Resolves}
 use Rattle.value_links.specs.declared.link.Link.{Link}
 use Rattle.value_links.specs.Links.{HasLink}
 use Rattle.value_links.specs.Debug.{Debug, MeansDebug, Means}
-use Rattle.value_links.specs.Faults.{is_list_section, HasShortReference, FaultValue, FaultOfFile, FaultOfNames, FaultOfPrograms, FaultOfUnits, FaultOfLinks, Faulty, IsValid}
+use Rattle.value_links.specs.LinkFaults.{IsUnread, FaultValue}
+use Rattle.value_links.specs.Faults.{is_list_section, HasShortReference, FaultOfFile, FaultOfNames, FaultOfPrograms, FaultOfUnits, FaultOfLinks, FaultOfLists, Faulty, IsValid}
 
 -- A file is read in one way.
 abbrev pub OneReading : Type 0
@@ -45,9 +54,11 @@ abbrev pub OneMeaning : Type 0
 OneMeaning =
     (file : List ℕ) (r : Reading) (u id name : ℕ) (meaning : Meaning) (v w : Resolved) → IsReading file r → u < length r.links.units → Resolves r u id name meaning v → Resolves r u id name meaning w → v ≡ w
 
--- A value that is linked means something.
+-- A value that stands there and is linked means something, where all is told of lists.
 abbrev pub LinkedMean : Type 0
-LinkedMean = (r : Reading) (u id name : ℕ) (meaning : Meaning) (linked : Linked) → Links r.links u id name meaning linked → (v : Resolved) × Resolves r u id name meaning v
+LinkedMean =
+    (file : List ℕ) (r : Reading) (u id number name : ℕ) (meaning : Meaning) (place : ℕ) (linked : Linked) → IsReading file r → AreTold r.links Ranges r.range_lists → u < length r.links.units →
+    HasValueAt (unit_at r.links u) id number name meaning place → Links r.links u id name meaning linked → (v : Resolved) × Resolves r u id name meaning v
 
 -- A file means one thing.
 abbrev pub OneDebug : Type 0
@@ -63,11 +74,11 @@ abbrev pub LinkedOrFaulty : Type 0
 LinkedOrFaulty =
     (r : Linkable) (u id name : ℕ) (meaning : Meaning) → ((linked : Linked) × Links r u id name meaning linked) ⊎ ((kind : Kind) × FaultValue r u id name meaning kind)
 
--- A valid file that is read means something.
+-- A valid file that is read means something, where all is told of lists.
 abbrev pub ValidFilesMean : Type 0
-ValidFilesMean = (file : List ℕ) (reach : Reach) (r : Reading) → IsReading file r → IsValid file reach → (debug : Debug) × MeansDebug file r debug
+ValidFilesMean = (file : List ℕ) (reach : Reach) (r : Reading) → IsReading file r → AreTold r.links Ranges r.range_lists → IsValid file reach → (debug : Debug) × MeansDebug file r debug
 
--- no section has lists
+-- no section has location lists
 abbrev pub HasNoLists : List ℕ → Type 0
 HasNoLists file = (i : ℕ) → i < section_count file → is_list_section file i ≢ true
 
@@ -88,7 +99,18 @@ AreBuilt units = All (λ (u : UnitRead). All IsBuilt (declarations u)) units
 abbrev pub HasNoUnread : Linkable → Type 0
 HasNoUnread r = (u id number name : ℕ) (meaning : Meaning) (place : ℕ) → u < length r.units → HasValueAt (unit_at r u) id number name meaning place → FaultValue r u id name meaning Unbuilt → ⊥
 
--- the first two passes find the image of a file in order, the third its programs too, and the fourth its units
+-- Each value is linked and waits for nothing, and each type unit has the entry of its type.
+pub record AreLinked (r : Linkable) : Type 0 where
+  pub values : (u id number name : ℕ) (meaning : Meaning) (place : ℕ) → u < length r.units → HasValueAt (unit_at r u) id number name meaning place → (linked : Linked) × Links r u id name meaning linked
+  pub read : (u id number name : ℕ) (meaning : Meaning) (place : ℕ) → u < length r.units → HasValueAt (unit_at r u) id number name meaning place → ¬ IsUnread meaning
+  pub types : (u : ℕ) → u < length r.units → (unit_at r u).head.kind ≡ type_unit → (id : ℕ) × IsTypeEntry r u id
+
+-- the lists that something names keep the limit of their entries
+abbrev pub HaveFewEntries : Reading → Reach → Type 0
+HaveFewEntries r reach = entry_total r.range_lists ≤ list_entry_limit reach
+
+-- the first two passes find the image of a file in order, the third its programs too, the fourth its units and contributions, and the
+-- fifth what values refer to, first bases, address tables and sets of address ranges
 pub record IsImageInOrder (file : List ℕ) (reach : Reach) : Type 0 where
   pub image : IsRead file reach
   pub names : HasNoLists file
@@ -102,6 +124,14 @@ pub record AreUnitsInOrder (file : List ℕ) (reach : Reach) (r : Linkable) : Ty
   pub before : AreProgramsInOrder file reach r
   pub units : AreUnitsOf file r.units
   pub built : AreBuilt r.units
+  pub ranges : ArePartsOf (debug_rnglists file) r.ranges
+
+pub record AreLinksInOrder (file : List ℕ) (reach : Reach) (r : Linkable) : Type 0 where
+  pub before : AreUnitsInOrder file reach r
+  pub read : IsReadToLinks file r
+  pub linked : AreLinked r
+  pub roots : AreRootsRead r
+  pub sets : (sets : List ArangeSet) × SetsTile (debug_aranges file) (unit_starts r.units) sets
 
 -- A fault of a pass is one of the file, where the passes before it find all in order.
 pub record FirstFaultsDecide : Type 0 where
@@ -110,8 +140,9 @@ pub record FirstFaultsDecide : Type 0 where
   pub programs : (file : List ℕ) (reach : Reach) (kind : Kind) (place : ℕ) → IsImageInOrder file reach → FaultOfPrograms file kind place → Faulty file reach kind place
   pub units : (file : List ℕ) (reach : Reach) (r : Linkable) (kind : Kind) (place : ℕ) → AreProgramsInOrder file reach r → FaultOfUnits file kind place → Faulty file reach kind place
   pub links : (file : List ℕ) (reach : Reach) (r : Linkable) (kind : Kind) (place : ℕ) → AreUnitsInOrder file reach r → FaultOfLinks file reach kind place → Faulty file reach kind place
+  pub lists : (file : List ℕ) (reach : Reach) (r : Linkable) (kind : Kind) (place : ℕ) → AreLinksInOrder file reach r → FaultOfLists file reach kind place → Faulty file reach kind place
 
--- A file of which all is read, that means something and waits for nothing is valid.
+-- A file of which all is read, that means something, waits for nothing and keeps the limits is valid.
 abbrev pub MeaningFilesAreValid : Type 0
 MeaningFilesAreValid =
-    (file : List ℕ) (reach : Reach) (r : Reading) (debug : Debug) → AreUnitsInOrder file reach r.links → IsReading file r → MeansDebug file r debug → HasNoUnread r.links → IsValid file reach
+    (file : List ℕ) (reach : Reach) (r : Reading) (debug : Debug) → AreUnitsInOrder file reach r.links → IsReading file r → MeansDebug file r debug → HasNoUnread r.links → HaveFewEntries r reach → IsValid file reach

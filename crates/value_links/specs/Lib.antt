@@ -3,10 +3,14 @@ pub mod Attributes
 pub mod Contexts
 pub mod Reading
 pub mod Values
+pub mod ListPlaces
 pub mod Whole
 pub mod Linked
+pub mod Lists
 pub mod Resolved
 pub mod Debug
+pub mod LinkFaults
+pub mod ListFaults
 pub mod Faults
 pub mod Same
 pub mod World
@@ -14,6 +18,7 @@ pub mod Uses
 pub mod Placed
 pub mod Classes
 pub mod Tidy
+pub mod TidyLists
 pub mod Laws
 pub mod Parts
 pub mod Links

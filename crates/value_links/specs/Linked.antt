@@ -1,23 +1,33 @@
 -- What the values of attributes refer to (DWARF 5 sections 2.3, 7.5.4 and 7.5.5). What a value means is said apart from that, since
 -- a list is read only once it is known which values name it.
-use Rattle.std.specs.Prelude.{◌≡◌, ◌<◌, ◌+◌, ℕ, length}
+use Rattle.std.specs.Prelude.{◌≡◌, ◌<◌, ◌+◌, ◌∷◌, ◌++◌, ℕ, List, [], length, filter}
 use Rattle.form_codec.specs.Forms.{Meaning}
-use Rattle.form_codec.specs.Forms.Meaning.{InUnit, InSection, SectionPlace, LocationList, RangeList}
+use Rattle.form_codec.specs.Forms.Meaning.{AddressNumber, InUnit, InSection, SectionPlace, LocationList, RangeList}
 use Rattle.entry_arena.specs.declared.entry.Target.{Target}
 use Rattle.entry_arena.specs.declared.entry.Target.TheVariants.{Entry as TheEntry, ChainEnd as TheEnd}
 use Rattle.entry_arena.specs.Arena.{Arena, IsEntryAt, IsChainEndAt}
+use Rattle.list_model.specs.declared.entry.ListKind.{ListKind}
+use Rattle.list_model.specs.declared.entry.ListKind.TheVariants.{Ranges, Locations}
+use Rattle.list_model.specs.declared.tables.AddrTable.{AddrTable}
+use Rattle.list_model.specs.Addresses.{HasBase}
 use Rattle.value_links.specs.Attributes.{OffsetClass, offset_class}
 use Rattle.value_links.specs.Attributes.OffsetClass.{LinePtr, RngList, LocList, RngListsPtr, LocListsPtr, AddrPtr, StrOffsetsPtr, MacPtr, Views, NoOffset}
-use Rattle.value_links.specs.Reading.{Linkable, program_at, unit_at}
-use Rattle.value_links.specs.Values.{HasValueAt}
+use Rattle.value_links.specs.Contexts.{low_pc, is_low_pc, NamesTable}
+use Rattle.value_links.specs.ListPlaces.{IsListPlace, IsOffsetsAt, IsBaseOf}
+use Rattle.value_links.specs.Reading.{Linkable, program_at, unit_at, of_kind, part_at}
+use Rattle.value_links.specs.Values.{HasValueAt, root_of}
 
--- What a value refers to: itself; an entry, or the end of the children of an entry, in the unit with a
--- number; the number of a line number program; or a section offset that is kept as the number that it is. Units, entries and
--- programs are numbered from 0 in their order.
+-- What a value refers to: itself; an entry, or the end of the children of an entry, in the unit with a number; the number of a
+-- line number program; the list of a kind that begins at a place; a slot of a contribution, which is to name a list; a
+-- contribution; or a section offset that is kept as the number that it is. Units, entries, programs, contributions and slots are
+-- numbered from 0 in their order.
 pub data Linked : Type 0 where
   Itself : Meaning → Linked
   Refers : ℕ → Target → Linked
   Program : ℕ → Linked
+  ListAt : ListKind → ℕ → Linked
+  SlotAt : ListKind → ℕ → ℕ → Linked
+  BaseOf : ListKind → ℕ → Linked
   Kept : ℕ → Linked
 
 -- REFERENCES
@@ -45,16 +55,27 @@ IsTypeEntry r u id = IsEntryAt (unit_at r u).forest id ((unit_at r u).head.at + 
 abbrev pub IsProgramAt : Linkable → ℕ → ℕ → Type 0
 IsProgramAt r n p = (p < length r.programs) × ((program_at r p).head.at ≡ n)
 
--- What a section offset in an entry of a unit refers to, by its class. No section has lists or view numbers yet, so that an
--- offset of one of these, or of a table of their offsets, refers to nothing, and neither does an attribute of no class: it isn't
--- linked at all.
+-- a section offset names the list of a kind at a place
+abbrev pub IsListAt : Linkable → ListKind → ℕ → Type 0
+IsListAt r kind at = (p : ℕ) × IsListPlace (of_kind r kind) p at
+
+-- an index counts the slots of the contribution that the unit's root names (DW_FORM_rnglistx, DW_FORM_loclistx)
+abbrev pub IndexLinks : Linkable → ℕ → ListKind → ℕ → Linked → Type 0
+IndexLinks r u kind i linked = (p : ℕ) × IsBaseOf r u kind p × (i < (part_at (of_kind r kind) p).slots) × (linked ≡ SlotAt kind p i)
+
+-- an address table begins where a base says
+abbrev pub IsAddressesAt : Linkable → ℕ → Type 0
+IsAddressesAt r base = (table : AddrTable) × HasBase r.addresses base table
+
+-- What a section offset in an entry of a unit refers to, by its class. No section has view numbers yet, so that an offset of these
+-- refers to nothing, and neither does an attribute of no class: it isn't linked at all.
 abbrev pub OffsetLinks : Linkable → ℕ → ℕ → OffsetClass → ℕ → Linked → Type 0
 OffsetLinks r u id LinePtr n linked = (p : ℕ) × IsProgramAt r n p × (linked ≡ Program p)
-OffsetLinks r u id RngList n linked = ⊥
-OffsetLinks r u id LocList n linked = ⊥
-OffsetLinks r u id RngListsPtr n linked = ⊥
-OffsetLinks r u id LocListsPtr n linked = ⊥
-OffsetLinks r u id AddrPtr n linked = linked ≡ Kept n
+OffsetLinks r u id RngList n linked = IsListAt r Ranges n × (linked ≡ ListAt Ranges n)
+OffsetLinks r u id LocList n linked = IsListAt r Locations n × (linked ≡ ListAt Locations n)
+OffsetLinks r u id RngListsPtr n linked = (p : ℕ) × IsOffsetsAt (of_kind r Ranges) n p × (linked ≡ BaseOf Ranges p)
+OffsetLinks r u id LocListsPtr n linked = (p : ℕ) × IsOffsetsAt (of_kind r Locations) n p × (linked ≡ BaseOf Locations p)
+OffsetLinks r u id AddrPtr n linked = IsAddressesAt r n × (linked ≡ Kept n)
 OffsetLinks r u id StrOffsetsPtr n linked = linked ≡ Kept n
 OffsetLinks r u id MacPtr n linked = linked ≡ Kept n
 OffsetLinks r u id Views n linked = ⊥
@@ -62,14 +83,14 @@ OffsetLinks r u id NoOffset n linked = ⊥
 
 -- ATTRIBUTES
 
--- What the value of an attribute with a name refers to in an entry `id` of the unit `u`, both by their numbers.
--- DW_FORM_loclistx and DW_FORM_rnglistx name lists, and aren't linked yet. A value of any other form is itself.
+-- What the value of an attribute with a name refers to in an entry `id` of the unit `u`, both by their numbers. A value of any
+-- form that isn't named here is itself.
 abbrev pub Links : Linkable → ℕ → ℕ → ℕ → Meaning → Linked → Type 0
 Links r u id name (InUnit n) linked = (target : Target) × IsLocalTarget r u n target × (linked ≡ Refers u target)
 Links r u id name (InSection n) linked = (unit : ℕ) × (target : Target) × IsSectionTarget r n unit target × (linked ≡ Refers unit target)
 Links r u id name (SectionPlace n) linked = OffsetLinks r u id (offset_class name) n linked
-Links r u id name (LocationList i) linked = ⊥
-Links r u id name (RangeList i) linked = ⊥
+Links r u id name (LocationList i) linked = IndexLinks r u Locations i linked
+Links r u id name (RangeList i) linked = IndexLinks r u Ranges i linked
 Links r u id name meaning linked = linked ≡ Itself meaning
 
 -- the value with a number among those of a unit's entries refers to this
@@ -80,3 +101,19 @@ pub record IsLinked (r : Linkable) (u number : ℕ) (linked : Linked) : Type 0 w
   pub place : ℕ
   pub stands : HasValueAt (unit_at r u) id number name meaning place
   pub links : Links r u id name meaning linked
+
+-- THE FIRST BASE (section 3.1.1)
+
+-- The first DW_AT_low_pc of the root that is an address or the number of one is this number, and it stands at a place.
+pub record IsFirstLow (r : Linkable) (u i place : ℕ) : Type 0 where
+  pub number : ℕ
+  pub before : List (ℕ × Meaning)
+  pub after : List (ℕ × Meaning)
+  pub parts : (root_of (unit_at r u)).attributes ≡ before ++ (low_pc, AddressNumber i) ∷ after
+  pub first : filter is_low_pc before ≡ []
+  pub counted : number ≡ length before
+  pub stands : HasValueAt (unit_at r u) 0 number low_pc (AddressNumber i) place
+
+-- the table of the unit has an address with this number
+abbrev pub HasAddress : Linkable → ℕ → ℕ → Type 0
+HasAddress r u i = (table : AddrTable) × NamesTable r.addresses (root_of (unit_at r u)).attributes table × (i < table.count)

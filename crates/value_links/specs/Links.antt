@@ -3,22 +3,32 @@ use Rattle.std.specs.Prelude.{◌≡◌, ℕ, List, slice_index_or, Option, Some
 use Rattle.form_codec.specs.Forms.{Meaning}
 use Rattle.entry_read.specs.Units.{HeadAndForest}
 use Rattle.value_links.specs.declared.link.Link.{Link}
-use Rattle.value_links.specs.declared.link.Link.TheVariants.{Plain, Place, Lines, Kept as KeptPlace}
-use Rattle.value_links.specs.Reading.{Linkable, no_unit}
+use Rattle.value_links.specs.declared.link.Link.TheVariants.{Plain, Place, Lines, List as AtList, Slot, Base, Kept as KeptPlace}
+use Rattle.value_links.specs.Reading.{Linkable, no_unit, of_kind}
+use Rattle.value_links.specs.ListPlaces.{SlotNames}
 use Rattle.value_links.specs.World.{head_and_forest}
 use Rattle.value_links.specs.Linked.{Linked, Links, IsLinked}
-use Rattle.value_links.specs.Linked.Linked.{Itself, Refers, Program, Kept}
+use Rattle.value_links.specs.Linked.Linked.{Itself, Refers, Program, ListAt, SlotAt, BaseOf, Kept}
 
 -- the link tells what a value refers to
 abbrev pub IsLinkOf : Linked → Link → Type 0
 IsLinkOf (Itself meaning) link = link ≡ Plain
 IsLinkOf (Refers unit target) link = link ≡ Place unit target
 IsLinkOf (Program program) link = link ≡ Lines program
+IsLinkOf (ListAt kind place) link = link ≡ AtList kind place
+IsLinkOf (SlotAt kind part slot) link = link ≡ Slot kind part slot
+IsLinkOf (BaseOf kind part) link = link ≡ Base kind part
 IsLinkOf (Kept place) link = link ≡ KeptPlace place
 
--- the value with a number among those of a unit's entries has this link: it tells what the value refers to
+-- where a slot is told, the list that it names
+abbrev pub IsFollowed : Linkable → Link → Link → Type 0
+IsFollowed r (Slot kind part slot) link = (at : ℕ) × SlotNames (of_kind r kind) part slot at × (link ≡ AtList kind at)
+IsFollowed r told link = link ≡ told
+
+-- the value with a number among those of a unit's entries has this link: it tells what the value refers to, or the list that it names
+-- by a slot
 abbrev pub HasLink : Linkable → ℕ → ℕ → Link → Type 0
-HasLink r u number link = (linked : Linked) × IsLinked r u number linked × IsLinkOf linked link
+HasLink r u number link = (linked : Linked) × (told : Link) × IsLinked r u number linked × IsLinkOf linked told × IsFollowed r told link
 
 -- WHAT IS HELD
 
@@ -28,8 +38,11 @@ held_at units u = slice_index_or units u (head_and_forest no_unit)
 
 -- WHAT IS FOUND
 
--- What is answered of the value of an attribute with a name, in an entry `id` of a unit: the link that tells what it refers to, or
--- none exactly where it isn't linked.
+-- What is answered of what is linked to at most one thing: the link that tells this, or none exactly where it isn't linked.
+abbrev pub IsFoundFor : (Linked → Type 0) → Option Link → Type 0
+IsFoundFor LinksTo (Some link) = (linked : Linked) × LinksTo linked × IsLinkOf linked link
+IsFoundFor LinksTo None = (linked : Linked) → LinksTo linked → ⊥
+
+-- so of the value of an attribute with a name, in an entry `id` of a unit
 abbrev pub IsLinkFound : Linkable → ℕ → ℕ → ℕ → Meaning → Option Link → Type 0
-IsLinkFound r u id name meaning (Some link) = (linked : Linked) × Links r u id name meaning linked × IsLinkOf linked link
-IsLinkFound r u id name meaning None = (linked : Linked) → Links r u id name meaning linked → ⊥
+IsLinkFound r u id name meaning found = IsFoundFor (Links r u id name meaning) found

@@ -1,19 +1,26 @@
 -- What the parts of the reader of a file give.
-use Rattle.std.specs.Prelude.{◌≡◌, ◌<◌, ◌^◌, ◌⊎◌, ℕ, List, length, map}
+use Rattle.std.specs.Prelude.{◌≡◌, ◌<◌, ◌^◌, ◌⊎◌, ℕ, List, length, map, slice_index_or, Option, Some, None, IfSome}
 use Rattle.dw_base.specs.declared.fault.Kind.{Kind}
 use Rattle.dw_base.specs.declared.fault.Fault.{Fault}
 use Rattle.dw_base.specs.Refusals.{IsFaultOf}
 use Rattle.dw_base.specs.declared.fault.Reach.{Reach}
-use Rattle.form_codec.specs.Forms.{Meaning}
-use Rattle.entry_read.specs.Heads.{type_unit}
+use Rattle.list_model.specs.declared.entry.ListKind.{ListKind}
+use Rattle.list_model.specs.declared.entry.ListKind.TheVariants.{Ranges}
+use Rattle.std.specs.List.{All}
+use Rattle.list_model.specs.declared.context.Context.{Context}
+use Rattle.list_model.specs.Addresses.{AreAllTables}
+use Rattle.list_model.specs.Contributions.{ContributionsTile}
+use Rattle.list_model.specs.Items.{HasTable}
 use Rattle.value_links.specs.declared.units.Units.{Units}
 use Rattle.value_links.specs.declared.parts.Parts.{Parts}
-use Rattle.value_links.specs.Reading.{UnitRead, Linkable, Reading, AreUnitsIn, line_heads, unit_at}
+use Rattle.value_links.specs.declared.list_places.Contributions.{Contributions}
+use Rattle.value_links.specs.Reading.{UnitRead, ListSection, Linkable, Reading, AreUnitsIn, line_heads}
+use Rattle.value_links.specs.ListPlaces.{IsBaseOf}
+use Rattle.value_links.specs.Lists.{AreTold}
 use Rattle.value_links.specs.Whole.{IsReadToLinks, IsReading}
-use Rattle.value_links.specs.Values.{HasValueAt}
-use Rattle.value_links.specs.Linked.{Linked, Links, IsTypeEntry}
-use Rattle.value_links.specs.Faults.{InfoFault, FaultTables, IsUnread, FaultInUnit}
-use Rattle.value_links.specs.Laws.{AreBuilt, HasNoUnread}
+use Rattle.value_links.specs.LinkFaults.{FaultInUnit}
+use Rattle.value_links.specs.Faults.{InfoFault, FaultTables}
+use Rattle.value_links.specs.Laws.{AreBuilt, AreLinked, HasNoUnread}
 use Rattle.value_links.specs.Debug.{Debug, MeansDebug}
 use Rattle.value_links.specs.World.{head_and_forest, AreTablesOf}
 
@@ -33,25 +40,48 @@ pub record AreUnitsHeld (info abbrevs : List ℕ) (held : Units) : Type 0 where
 abbrev pub IsUnitsFault : List ℕ → List ℕ → ℕ → ℕ → Fault → Type 0
 IsUnitsFault info abbrevs info_origin abbrev_origin fault = IsFaultOf (InfoFault info abbrevs) info_origin fault ⊎ IsFaultOf (FaultTables info abbrevs) abbrev_origin fault
 
--- These parts are what is read of the file, and numbers of 32 bits name the programs.
+-- the section of lists that is held
+abbrev pub section_held : Contributions → ListSection
+section_held held = record { section = held.section.now; parts = held.parts.items }
+
+-- the contribution that the root of a unit names for the indexes of a kind, or none
+abbrev pub IsBaseFound : Linkable → ℕ → ListKind → Option ℕ → Type 0
+IsBaseFound r u kind (Some p) = IsBaseOf r u kind p
+IsBaseFound r u kind None = (p : ℕ) → ¬ IsBaseOf r u kind p
+
+-- of each unit that contribution
+pub record HaveBases (r : Linkable) (kind : ListKind) (bases : List (Option ℕ)) : Type 0 where
+  pub count : length bases ≡ length r.units
+  pub each : (u : ℕ) → u < length r.units → IsBaseFound r u kind (slice_index_or bases u None)
+
+-- The contributions and the contexts are held so that each unit's number, each base and each address table can be looked up, whatever
+-- file they are of.
+pub record HoldsLists (parts : Parts) : Type 0 where
+  pub tiled : ContributionsTile parts.ranges.section.now parts.ranges.parts.items
+  pub few : length parts.ranges.parts.items < 2 ^ 32
+  pub bases : length parts.bases.items ≡ length parts.units.units.items
+  pub inside : All (λ (base : Option ℕ). IfSome base (λ p. p < length parts.ranges.parts.items)) parts.bases.items
+  pub contexts : length parts.contexts.items ≡ length parts.units.units.items
+  pub stand : All (λ (context : Context). HasTable parts.addr.now context.table) parts.contexts.items
+
+-- These parts are what is read of the file, and numbers of 32 bits name the programs and the contributions.
 pub record HoldsParts (file : List ℕ) (r : Linkable) (parts : Parts) : Type 0 where
   pub read : IsReadToLinks file r
   pub programs : parts.programs.items ≡ line_heads r.programs
   pub units : HoldUnits r.units parts.units
   pub contexts : parts.contexts.items ≡ r.contexts
+  pub addresses : parts.addr.now ≡ r.addresses
+  pub tables : AreAllTables r.addresses parts.tables.items
+  pub ranges : section_held parts.ranges ≡ r.ranges
+  pub few_ranges : length parts.ranges.parts.items < 2 ^ 32
+  pub bases : HaveBases r Ranges parts.bases.items
   pub few : length parts.programs.items < 2 ^ 32
 
 -- something in a unit refers to what isn't there, or isn't read yet
 abbrev pub LinkFault : Linkable → Reach → Kind → ℕ → Type 0
 LinkFault r reach kind place = (u : ℕ) × (u < length r.units) × FaultInUnit r reach u kind place
 
--- Each value is linked and waits for nothing, and each type unit has the entry of its type.
-pub record AreLinked (r : Linkable) : Type 0 where
-  pub values : (u id number name : ℕ) (meaning : Meaning) (place : ℕ) → u < length r.units → HasValueAt (unit_at r u) id number name meaning place → (linked : Linked) × Links r u id name meaning linked
-  pub read : (u id number name : ℕ) (meaning : Meaning) (place : ℕ) → u < length r.units → HasValueAt (unit_at r u) id number name meaning place → ¬ IsUnread meaning
-  pub types : (u : ℕ) → u < length r.units → (unit_at r u).head.kind ≡ type_unit → (id : ℕ) × IsTypeEntry r u id
-
--- A file of which all is read and all values are linked means something, and none of its values waits for a later version of
--- this program.
+-- A file of which all is read and told, and all values are linked, means something, and none of its values waits for a later version
+-- of this program.
 abbrev pub LinkedFilesMean : Type 0
-LinkedFilesMean = (file : List ℕ) (r : Reading) → IsReading file r → AreLinked r.links → ((debug : Debug) × MeansDebug file r debug) × HasNoUnread r.links
+LinkedFilesMean = (file : List ℕ) (r : Reading) → IsReading file r → AreTold r.links Ranges r.range_lists → AreLinked r.links → ((debug : Debug) × MeansDebug file r debug) × HasNoUnread r.links

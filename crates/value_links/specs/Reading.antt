@@ -14,6 +14,10 @@ use Rattle.entry_read.specs.declared.unit.Counts.{Counts}
 use Rattle.entry_read.specs.Heads.{no_head, Tile as UnitsTile}
 use Rattle.entry_read.specs.Units.{declarations_of, IsUnitHeld, IsWithin}
 use Rattle.list_model.specs.declared.context.Context.{Context}
+use Rattle.list_model.specs.declared.contribution.Contribution.{Contribution}
+use Rattle.list_model.specs.declared.entry.ListKind.{ListKind}
+use Rattle.list_model.specs.declared.entry.ListKind.TheVariants.{Ranges, Locations}
+use Rattle.list_model.specs.declared.entry.RawEntry.{RawEntry}
 use Rattle.companions.specs.declared.set.ArangeSet.{ArangeSet}
 use Rattle.value_links.specs.Sections.{debug_info, debug_abbrev, debug_line}
 
@@ -28,17 +32,30 @@ pub record UnitRead : Type 0 where
   pub table : Listing
   pub forest : Arena
 
--- What values refer to: line number programs and units, each in the order in which they stand, the bytes of .debug_addr, and of
--- each unit the context of its lists. What is read of a section of lists, up to the places of its lists, is a field more.
+-- a section of lists: its bytes and its contributions
+pub record ListSection : Type 0 where
+  pub section : List ℕ
+  pub parts : List Contribution
+
+-- What values refer to, up to the places of lists: line number programs and units, each in the order in which they stand, the bytes
+-- of .debug_addr, of each unit the context of its lists, and the section of range lists.
 pub record Linkable : Type 0 where
   pub programs : List ProgramRead
   pub units : List UnitRead
   pub addresses : List ℕ
   pub contexts : List Context
+  pub ranges : ListSection
 
--- Then the sets of address ranges.
+-- a list: where it begins, the number of the contribution in which it does, and its entries
+pub record ListRead : Type 0 where
+  pub at : ℕ
+  pub part : ℕ
+  pub raws : List RawEntry
+
+-- Then the range lists that something names, by rising place, and the sets of address ranges.
 pub record Reading : Type 0 where
   pub links : Linkable
+  pub range_lists : List ListRead
   pub sets : List ArangeSet
 
 -- LINE NUMBER PROGRAMS
@@ -131,3 +148,23 @@ no_context = record { base = 0; table = None }
 
 abbrev pub context_at : Linkable → ℕ → Context
 context_at r u = slice_index_or r.contexts u no_context
+
+-- LISTS
+
+-- the section of lists of a kind; none has location lists yet
+abbrev pub of_kind : Linkable → ListKind → ListSection
+of_kind r Ranges = r.ranges
+of_kind r Locations = record { section = []; parts = [] }
+
+-- the lists of a kind
+abbrev pub lists_of : Reading → ListKind → List ListRead
+lists_of r Ranges = r.range_lists
+lists_of r Locations = []
+
+-- the contribution with a number; past the end there is none, and an empty one stands for it
+abbrev pub part_at : ListSection → ℕ → Contribution
+part_at section p = slice_index_or section.parts p (record { at = 0; len = 0; slots = 0 })
+
+-- the list with a number; past the end there is none, and an empty one stands for it
+abbrev pub list_at : List ListRead → ℕ → ListRead
+list_at lists k = slice_index_or lists k (record { at = 0; part = 0; raws = [] })

@@ -20,8 +20,7 @@ pub record SameAranges (a b : List ℕ) : Type 0 where
   pub bytes : (k : ℕ) → IsOutside r.sets k → slice_index (debug_aranges b) k ≡ slice_index (debug_aranges a) k
 
 -- The file b means the same as a. The loaded bytes, the names and headers of sections, and the bodies of the sections that
--- aren't written anew are the same; so is .debug_aranges but for its fields; and so is the debug meaning. Sections of lists are
--- written anew too, though no valid file has one yet, and no debug meaning speaks of them.
+-- aren't written anew are the same; so is .debug_aranges but for its fields; and so is the debug meaning.
 pub record Same (a b : List ℕ) : Type 0 where
   pub debug : SameDebug a b
   pub image : SameImage (λ (i : ℕ). is_written (name_of a i)) a b

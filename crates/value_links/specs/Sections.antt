@@ -65,6 +65,9 @@ debug_addr file = body_named file addr_name
 abbrev pub rnglists_name : List ℕ
 rnglists_name = codes ".debug_rnglists"
 
+abbrev pub debug_rnglists : List ℕ → List ℕ
+debug_rnglists file = body_named file rnglists_name
+
 abbrev pub loclists_name : List ℕ
 loclists_name = codes ".debug_loclists"
 

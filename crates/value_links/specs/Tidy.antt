@@ -1,4 +1,4 @@
--- What .debug_abbrev and .debug_info hold of a file that is written anew for another, and that they hold nothing else.
+-- What .debug_abbrev, .debug_info and .debug_rnglists hold of a file that is written anew for another, and that they hold nothing else.
 use Rattle.std.specs.Prelude.{◌≡◌, ◌<◌, ℕ, List, [], ◌∷◌, length, map, slice_index}
 use Rattle.std.specs.List.{All}
 use Rattle.leb_codec.specs.Numbering.{IsUsed, IsNumbering, used_count}
@@ -12,10 +12,12 @@ use Rattle.entry_read.specs.Units.{end_of, declarations_of, IsUnit}
 use Rattle.entry_read.specs.Short.{StandsShort, EndsShort}
 use Rattle.value_links.specs.declared.units.NamedTable.{NamedTable}
 use Rattle.value_links.specs.Sections.{debug_abbrev}
-use Rattle.value_links.specs.Reading.{UnitRead, Linkable, declarations, unit_at}
+use Rattle.list_model.specs.declared.entry.ListKind.TheVariants.{Ranges}
+use Rattle.value_links.specs.Reading.{UnitRead, Linkable, Reading, declarations, unit_at}
+use Rattle.value_links.specs.TidyLists.{AreTidyLists}
 use Rattle.value_links.specs.World.{head_and_forest, table_at, AreTablesOf}
 use Rattle.value_links.specs.Uses.{AreUses}
-use Rattle.value_links.specs.Classes.{OfBoth, HaveCodes}
+use Rattle.value_links.specs.Classes.{OfReadings, HaveCodes}
 
 -- TABLES
 
@@ -73,10 +75,11 @@ pub record IsTidyUnit (unit : UnitRead) : Type 0 where
 
 -- THE FILE
 
--- the tables and the units of the written file hold nothing else
-pub record AreTidy (section : List ℕ) (r s : Linkable) : Type 0 where
-  pub tables : AreTidyTables r s section
-  pub units : All IsTidyUnit s.units
+-- the tables, the units and the contributions of range lists of the written file hold nothing else
+pub record AreTidy (section : List ℕ) (r s : Reading) : Type 0 where
+  pub tables : AreTidyTables r.links s.links section
+  pub units : All IsTidyUnit s.links.units
+  pub ranges : AreTidyLists Ranges r s
 
 abbrev pub IsTidy : List ℕ → List ℕ → Type 0
-IsTidy file written = OfBoth (AreTidy (debug_abbrev written)) file written
+IsTidy file written = OfReadings (AreTidy (debug_abbrev written)) file written

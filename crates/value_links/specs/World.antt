@@ -1,18 +1,28 @@
 -- A file that is held with what is read of it, as callers see it.
-use Rattle.std.specs.Prelude.{◌≡◌, ◌<◌, ℕ, List, [], length, map, slice_index, slice_index_or}
+use Rattle.std.specs.Prelude.{◌≡◌, ◌<◌, ℕ, List, [], length, map, slice_index, slice_index_or, Option, Some}
 use Rattle.dw_base.specs.declared.fault.Reach.{Reach}
 use Rattle.line_machine.specs.declared.head.Head.{Head}
 use Rattle.entry_read.specs.Units.{HeadAndForest}
 use Rattle.list_model.specs.declared.context.Context.{Context}
+use Rattle.list_model.specs.declared.contribution.Contribution.{Contribution}
+use Rattle.list_model.specs.declared.entry.ListKind.{ListKind}
+use Rattle.list_model.specs.declared.entry.ListKind.TheVariants.{Ranges, Locations}
+use Rattle.list_model.specs.declared.item.Meaning.{Meaning}
+use Rattle.list_model.specs.declared.item.Meaning.TheVariants.{Live, Dead}
+use Rattle.range_lists.specs.Ranges.{IsMeaning}
 use Rattle.companions.specs.declared.set.ArangeSet.{ArangeSet}
 use Rattle.value_links.specs.declared.units.NamedTable.{NamedTable}
-use Rattle.value_links.specs.Reading.{UnitRead, Reading, line_heads, unit_among}
+use Rattle.value_links.specs.declared.lists.ListRead.{ListRead as HeldList}
+use Rattle.value_links.specs.Reading.{UnitRead, ListRead, Linkable, Reading, line_heads, unit_among, list_at, context_at}
+use Rattle.value_links.specs.Lists.{IsOwner, IsFrozen}
+use Rattle.value_links.specs.Sections.{debug_addr, debug_rnglists}
 use Rattle.value_links.specs.Whole.{IsReading}
 use Rattle.value_links.specs.Debug.{Debug, MeansDebug}
 use Rattle.value_links.specs.Faults.{IsValid}
 
 -- the bytes of the file, the headers of its line number programs, its units, the abbreviation tables that these name, of each unit
--- the number of its table and the context of its lists, and the sets of address ranges
+-- the number of its table and the context of its lists, the contributions of range lists, the range lists that something names, and
+-- the sets of address ranges
 pub record World : Type 0 where
   pub image : List ℕ
   pub programs : List Head
@@ -20,6 +30,8 @@ pub record World : Type 0 where
   pub tables : List NamedTable
   pub table_of : List ℕ
   pub contexts : List Context
+  pub contributions : List Contribution
+  pub lists : List HeldList
   pub sets : List ArangeSet
 
 abbrev pub head_and_forest : UnitRead → HeadAndForest
@@ -41,6 +53,33 @@ pub record AreTablesOf (units : List UnitRead) (tables : List NamedTable) (table
   pub rising : (i j : ℕ) → i < j → j < length tables → (table_at tables i).place < (table_at tables j).place
   pub named : (i : ℕ) → i < length tables → (u : ℕ) × (u < length units) × (slice_index table_of u ≡ i)
 
+-- the contributions and the lists of a kind; no location lists are held yet
+abbrev pub contributions_held : World → ListKind → List Contribution
+contributions_held world Ranges = world.contributions
+contributions_held world Locations = []
+
+abbrev pub lists_held : World → ListKind → List HeldList
+lists_held world Ranges = world.lists
+lists_held world Locations = []
+
+-- a list that isn't frozen is held by its items in the context of its owner, and a frozen one as dead
+abbrev pub HoldsMeaning : Linkable → ListKind → ListRead → Option ℕ → Meaning → Type 0
+HoldsMeaning r kind list owner (Live items) = (¬ IsFrozen r kind list) × ((u : ℕ) × (owner ≡ Some u) × IsMeaning r.addresses (context_at r u) list.raws (Live items))
+HoldsMeaning r kind list owner Dead = IsFrozen r kind list
+
+-- a list as it was read is held
+pub record HoldsList (r : Linkable) (kind : ListKind) (list : ListRead) (held : HeldList) : Type 0 where
+  pub at : held.at ≡ list.at
+  pub part : held.part ≡ list.part
+  pub owner : IsOwner r kind list.at held.owner
+  pub raws : held.raw.items ≡ list.raws
+  pub meaning : HoldsMeaning r kind list held.owner held.meaning
+
+-- each of the lists is held
+pub record HoldLists (r : Linkable) (kind : ListKind) (lists : List ListRead) (held : List HeldList) : Type 0 where
+  pub count : length held ≡ length lists
+  pub each : (k : ℕ) (d : HeldList) → k < length lists → HoldsList r kind (list_at lists k) (slice_index_or held k d)
+
 -- what is held is the file, and what is read of it. The rows of programs aren't held.
 pub record Holds (file : List ℕ) (world : World) (r : Reading) : Type 0 where
   pub image : world.image ≡ file
@@ -48,6 +87,10 @@ pub record Holds (file : List ℕ) (world : World) (r : Reading) : Type 0 where
   pub units : world.units ≡ map head_and_forest r.links.units
   pub tables : AreTablesOf r.links.units world.tables world.table_of
   pub contexts : world.contexts ≡ r.links.contexts
+  pub addresses : r.links.addresses ≡ debug_addr file
+  pub ranges : r.links.ranges.section ≡ debug_rnglists file
+  pub contributions : world.contributions ≡ r.links.ranges.parts
+  pub lists : HoldLists r.links Ranges r.range_lists world.lists
   pub sets : world.sets ≡ r.sets
 
 -- The world is that of a valid file: all is read, what is read means something, and the world holds it.

@@ -1,6 +1,9 @@
 -- What inner functions and proofs need, and no public clause says.
 pub mod Checks
 pub mod Links
+pub mod ListPlaces
+pub mod NamedLists
+pub mod Namings
 pub mod Owners
 pub mod Passes
 pub mod Tabled

@@ -5,19 +5,22 @@ ghost use Rattle.dw_base.specs.Refusals.{IsFaultOf};
 ghost use Rattle.dw_base.specs.declared.fault.Reach.{Reach};
 ghost use Rattle.form_codec.specs.Values.{meant_in, LiesIn};
 ghost use Rattle.abbrev_tables.specs.Listings.{Listing, spec_at};
-ghost use Rattle.entry_arena.specs.Arena.{entry_at};
+ghost use Rattle.entry_arena.specs.Arena.{entry_at, value_at};
 ghost use Rattle.entry_arena.specs.Order.{IsInOrder};
 ghost use Rattle.entry_arena.specs.Trees.{declared_at};
 ghost use Rattle.entry_read.specs.Units.{declarations_of, IsTable};
 ghost use Rattle.value_links.specs.Attributes.{is_among};
 ghost use Rattle.value_links.specs.Reading.{Linkable, unit_at};
-ghost use Rattle.value_links.specs.Faults.{unread_opcodes, IsUnread, FaultAttribute};
+ghost use Rattle.value_links.specs.LinkFaults.{unread_opcodes, IsUnread, FaultAttribute};
 ghost use Rattle.value_links.specs.Links.{held_at};
-ghost use Rattle.value_links.specs.inside.Checks.{AreSomeUnits, table_held, IsUnitWithTable, root_attributes, IsAttributeAt, IsBaseIn, IsBaseFound, HasBase, IsBaseCause, IsCause, NamesType, IsTyped, IsChecked, AreColumnsLinked, IsUnitLinked, InEach, IsUnitFault};
-ghost use Rattle.value_links.specs.Parts.{AreUnitsHeld, HoldsParts, AreLinked, LinkFault};
+ghost use Rattle.value_links.specs.inside.Checks.{AreSomeUnits, table_held, name_at, IsUnitWithTable, root_attributes, IsAttributeAt, IsBaseIn, IsBaseFound, HasBase, IsBaseCause, IsCause, NamesType, IsTyped, IsChecked, AreColumnsLinked, IsUnitLinked, InEach, IsUnitFault};
+ghost use Rattle.value_links.specs.Whole.{AreFirstBases};
+ghost use Rattle.value_links.specs.Laws.{AreLinked};
+ghost use Rattle.value_links.specs.Parts.{AreUnitsHeld, HoldsLists, HoldsParts, LinkFault};
 
 use crate::link::{local_target, resolve, unit_of};
 use crate::parts::Parts;
+use crate::roots::check_first_base;
 use crate::units::Units;
 use abbrev_tables::Table;
 use dw_base::{Fault, Kind, constants};
@@ -95,17 +98,29 @@ pub(crate) fn root_count(unit: &Unit<'_>) -> u32
     unit.forest().entry(0).count
 }
 
+// The name and the value of the attribute of an entry of a unit that has this number.
+pub(crate) fn attribute_of(unit: &Unit<'_>, table: &Table, id: u32, column: u32) -> (u64, Value)
+    requires unit { IsUnitWithTable unit.now table.now }
+    requires id { id < length unit.now.forest.entries }
+    requires column { column < (entry_at unit.now.forest.entries id).count }
+    ensures name { result.0 ≡ name_at (declarations_of table.now) (entry_at unit.now.forest.entries id) column }
+    ensures value { result.1 ≡ value_at unit.now.forest.values ((entry_at unit.now.forest.entries id).first + column) }
+    ensures lies { LiesIn (length unit.now.forest.section) result.1 }
+{
+    let forest = unit.forest();
+    let entry = forest.entry(id);
+    let name = column_name(table, entry.decl, column);
+    let value = forest.values()[entry.first as usize + column as usize];
+    (name, value)
+}
+
 // The name and the value of the attribute of the root of a unit that has this number.
 pub(crate) fn root_attribute(unit: &Unit<'_>, table: &Table, column: u32) -> (u64, Value)
     requires unit { IsUnitWithTable unit.now table.now }
     requires column { column < length (root_attributes unit.now.forest (declarations_of table.now)) }
     ensures { IsAttributeAt (root_attributes unit.now.forest (declarations_of table.now)) column (result.0, meant_in unit.now.forest.section result.1) }
 {
-    let forest = unit.forest();
-    let root = forest.entry(0);
-    let name = column_name(table, root.decl, column);
-    let value = forest.values()[root.first as usize + column as usize];
-    (name, value)
+    attribute_of(unit, table, 0, column)
 }
 
 // The base of a name that an attribute gives: it has the name, and its value is a section offset.
@@ -141,7 +156,7 @@ fn gives_base(unit: &Unit<'_>, table: &Table, name: u64) -> bool
 }
 
 // Why an index that counts from a base names nothing.
-fn base_cause(unit: &Unit<'_>, table: &Table, name: u64) -> Kind
+pub(crate) fn base_cause(unit: &Unit<'_>, table: &Table, name: u64) -> Kind
     requires { IsUnitWithTable unit.now table.now }
     ensures { IsBaseCause (root_attributes unit.now.forest (declarations_of table.now)) name result }
 {
@@ -167,6 +182,7 @@ fn cause_of(unit: &Unit<'_>, table: &Table, value: &Value) -> Kind
 
 // The fault of a value of the unit with a number, as that of an attribute with a name.
 fn fault_of(parts: &Parts<'_>, number: u32, name: u64, value: &Value) -> Option<Kind>
+    requires lists { HoldsLists parts.now }
     requires held { AreSomeUnits parts.now.units }
     requires number { number < length parts.now.units.units.items }
     requires lies { LiesIn (length (held_at parts.now.units.units.items number).forest.section) value.now }
@@ -184,6 +200,7 @@ fn fault_of(parts: &Parts<'_>, number: u32, name: u64, value: &Value) -> Option<
 
 // Checks the values of the entry with number `id` of a unit. The place of a fault counts from the section's first byte.
 fn check_entry(parts: &Parts<'_>, number: u32, id: u32) -> Result<(), Fault>
+    requires lists { HoldsLists parts.now }
     requires held { AreSomeUnits parts.now.units }
     requires number { number < length parts.now.units.units.items }
     requires id { id < length (held_at parts.now.units.units.items number).forest.entries }
@@ -193,12 +210,8 @@ fn check_entry(parts: &Parts<'_>, number: u32, id: u32) -> Result<(), Fault>
 {
     let unit = unit_of(&parts.units, number);
     let table = table_of(&parts.units, number);
-    let forest = unit.forest();
-    let entry = forest.entry(id);
-    let values = forest.values();
-    for column in 0..entry.count {
-        let name = column_name(table, entry.decl, column);
-        let value = values[entry.first as usize + column as usize];
+    for column in 0..unit.forest().entry(id).count {
+        let (name, value) = attribute_of(unit, table, id, column);
         if let Some(kind) = fault_of(parts, number, name, &value) {
             let place = place_of_value(unit, table, id, column);
             return Err(Fault { kind, place });
@@ -227,8 +240,10 @@ fn is_typed(unit: &Unit<'_>) -> bool
     unit.head().kind != constants::DW_UT_TYPE || names_type(unit)
 }
 
-// Checks the values of a unit, and the type of a type unit. The place of a fault counts from the section's first byte.
+// Checks the values of a unit, the type of a type unit, and the first base of its lists. The place of a fault counts from the
+// section's first byte.
 fn check_unit(parts: &Parts<'_>, number: u32) -> Result<(), Fault>
+    requires lists { HoldsLists parts.now }
     requires held { AreSomeUnits parts.now.units }
     requires number { number < length parts.now.units.units.items }
     requires room { length (held_at parts.now.units.units.items number).forest.section < 2 ^ 64 }
@@ -246,19 +261,23 @@ fn check_unit(parts: &Parts<'_>, number: u32) -> Result<(), Fault>
             place: unit.head().at + TYPE_OFFSET_AT,
         });
     }
-    Ok(())
+    check_first_base(parts, number)
 }
 
-/// Whether each value of the units refers to what it may (DWARF 5 sections 7.5.4 and 7.5.5), and each type unit names an entry.
+/// Whether each value of the units refers to what it may (DWARF 5 sections 7.5.4 and 7.5.5), each type unit names an entry, and each
+/// first base of lists that is the number of an address is one of the unit's address table (sections 3.1.1 and 7.27).
 /// `info` is the body of .debug_info, of which the units were read by the tables of `abbrevs`, and `origin` its file offset.
 ///
 /// A fault stands at the first byte of a value: Target where a reference has no target, Pointer where a section offset names
 /// nothing that its attribute's class allows, or an index counts from such a base, NoBase where an index has no base, and
-/// Unbuilt where an expression isn't read yet. Target stands at the field type_offset that names no entry.
+/// Unbuilt where an expression isn't read yet; at the DW_AT_low_pc that gives such a number NoBase where the root names no table, and
+/// Pointer where the table has no such address. Target stands at the field type_offset that names no entry.
 pub fn check_links(parts: &Parts<'_>, info: &[u8], abbrevs: &[u8], origin: u64) -> Result<(), Fault>
+    requires lists { HoldsLists parts.now }
     requires held { AreUnitsHeld info.now abbrevs.now parts.now.units }
     requires room { origin + length info.now < 2 ^ 64 }
     ensures linked { OnOk result ((file : List ℕ) (r : Linkable) → HoldsParts file r parts.now → AreLinked r) }
+    ensures based { OnOk result ((file : List ℕ) (r : Linkable) → HoldsParts file r parts.now → AreFirstBases r) }
     ensures fault { IfErr result (λ fault. (file : List ℕ) (r : Linkable) (reach : Reach) → HoldsParts file r parts.now → IsFaultOf (LinkFault r reach) origin fault) }
 {
     for number in 0..parts.units.units.len() as u32 {

@@ -1,9 +1,7 @@
 // The contexts of lists, by hand.
-use crate::World;
-use crate::world_tests::extended;
-use dw_base::Reach;
-use list_model::{AddrTable, Context};
-use std::alloc::{AllocError, Global};
+use crate::contexts::contexts_of;
+use crate::read_units;
+use list_model::{AddrTable, Context, addr_tables};
 use std::process::Abort;
 use std::test::Fail;
 
@@ -30,37 +28,20 @@ const ADDRESSES: [u8; 56] = [
     5, 0, 8, 0, 0, 0x30, 0, 0, 0, 0, 0, 0, 0x0c, 0, 0, 0, 4, 0, 8, 0, 0, 0x31, 0, 0, 0, 0, 0, 0,
 ];
 
-// A file with these as .debug_abbrev at 640, .debug_info at 680 and .debug_addr at 848. The last has the header of
-// .debug_aranges, and its name stands in place of one that no section has.
-fn with_addresses(alloc: Global) -> Result<Vec<u8>, AllocError> {
-    let changes = [
-        (344, 0x80),
-        (345, 2),
-        (352, 40),
-        (408, 0xa8),
-        (409, 2),
-        (416, 168),
-        (512, 54),
-        (536, 0x50),
-        (537, 3),
-        (544, 56),
-        (235, 0x61),
-        (236, 0x64),
-        (237, 0x64),
-        (238, 0x72),
-        (239, 0),
-    ];
-    extended(alloc, &changes, &[&TABLE, &UNITS, &ADDRESSES])
-}
-
 // The number of a unit, the address from which its lists count, and its address table.
 #[test]
 fn contexts_of_units(rt: HostRuntime) -> Result<(), Fail> {
     let alloc = rt.alloc();
-    let file = with_addresses(alloc)?;
-    let world = World::read(alloc, &file, Reach::Narrow)
+    let units = read_units(alloc, &UNITS, &TABLE, 0, 0)
         .ok()
         .ok_or("refused")?;
+    let tables = addr_tables(alloc, &ADDRESSES, 0)
+        .ok()
+        .ok_or("no memory")?
+        .tables;
+    let contexts = contexts_of(alloc, &ADDRESSES, &tables, &units)
+        .ok()
+        .ok_or("no memory")?;
     let first = AddrTable { at: 0, count: 2 };
     let second = AddrTable { at: 24, count: 1 };
     let rows = [
@@ -79,11 +60,7 @@ fn contexts_of_units(rt: HostRuntime) -> Result<(), Fail> {
             base: *base,
             table: *table,
         };
-        if (*unit as usize) < world.units().len() {
-            assert_eq!(rt; world.context(*unit), expected);
-        } else {
-            Err("fewer units")?;
-        }
+        assert_eq!(rt; contexts.get(*unit).copied(), Some(expected));
     }
     Ok(())
 }

@@ -1,11 +1,11 @@
 // The context in which the lists of a unit are read: what its root gives (DWARF 5 sections 2.17.3, 3.1.1 and 7.27).
-ghost use Rattle.std.specs.Prelude.{◌≡◌, ◌<◌, ◌^◌, ◌∷◌, ℕ, List, [], length, IfOk, IfSome, MatchOption};
+ghost use Rattle.std.specs.Prelude.{◌≡◌, ◌<◌, ℕ, List, [], length, filter, IfOk, IfSome, MatchOption};
 ghost use Rattle.form_codec.specs.Forms.{Meaning};
 ghost use Rattle.form_codec.specs.Forms.Meaning.{AddressNumber};
 ghost use Rattle.form_codec.specs.Values.{meant_in};
 ghost use Rattle.entry_read.specs.Units.{declarations_of};
 ghost use Rattle.list_model.specs.Addresses.{IsAddrTable, AreAllTables};
-ghost use Rattle.value_links.specs.inside.Checks.{AreSomeUnits, IsUnitWithTable, root_attributes, AreContextsHeld};
+ghost use Rattle.value_links.specs.inside.Checks.{AreSomeUnits, IsUnitWithTable, IsFirstLowIn, root_attributes, AreContextsHeld};
 ghost use Rattle.value_links.specs.Contexts.{is_low_pc, low_pcs, address_by, IsTableOf, IsContext};
 
 use crate::check::{base_of, root_attribute, root_count, table_of};
@@ -16,7 +16,7 @@ use dw_base::NoMemory;
 use dw_base::constants::{DW_AT_ADDR_BASE, DW_AT_LOW_PC};
 use entry_read::Unit;
 use form_codec::Value;
-use list_model::{AddrTable, Context, addr_tables, address, table_with_base};
+use list_model::{AddrTable, Context, address, table_with_base};
 use std::alloc::Global;
 
 // Whether an attribute is a DW_AT_low_pc whose value is an address, or the number of one.
@@ -29,15 +29,15 @@ fn gives_address(named: u64, value: &Value) -> bool
     }
 }
 
-// The value of the first such attribute of the root of a unit.
-fn first_low_pc(unit: &Unit<'_>, table: &Table) -> Option<Value>
+// The number of the first such attribute of the root of a unit.
+pub(crate) fn first_low_pc(unit: &Unit<'_>, table: &Table) -> Option<u32>
     requires { IsUnitWithTable unit.now table.now }
-    ensures { MatchOption result (low_pcs (root_attributes unit.now.forest (declarations_of table.now)) ≡ []) (λ value. (rest : List Meaning) × (low_pcs (root_attributes unit.now.forest (declarations_of table.now)) ≡ meant_in unit.now.forest.section value ∷ rest)) }
+    ensures { MatchOption result (filter is_low_pc (root_attributes unit.now.forest (declarations_of table.now)) ≡ []) (IsFirstLowIn (root_attributes unit.now.forest (declarations_of table.now))) }
 {
     for column in 0..root_count(unit) {
         let (named, value) = root_attribute(unit, table, column);
         if gives_address(named, &value) {
-            return Some(value);
+            return Some(column);
         }
     }
     None
@@ -86,7 +86,7 @@ fn context_of(addr: &[u8], tables: &[AddrTable], unit: &Unit<'_>, table: &Table)
 {
     let addresses = addresses_of(tables, unit, table);
     let base = match first_low_pc(unit, table) {
-        Some(value) => address_for(addr, &addresses, &value),
+        Some(column) => address_for(addr, &addresses, &root_attribute(unit, table, column).1),
         None => 0,
     };
     Context {
@@ -95,22 +95,22 @@ fn context_of(addr: &[u8], tables: &[AddrTable], unit: &Unit<'_>, table: &Table)
     }
 }
 
-/// Of each unit the context of its lists. `addr` is the body of .debug_addr, whose tables are walked over once. The only error is
+/// Of each unit the context of its lists. `addr` is the body of .debug_addr, and `tables` are its address tables. The only error is
 /// want of memory.
 pub(crate) fn contexts_of(
     alloc: Global,
     addr: &[u8],
+    tables: &[AddrTable],
     held: &Units<'_>,
 ) -> Result<Vec<Context>, NoMemory>
+    requires tables { AreAllTables addr.now tables.now }
     requires held { AreSomeUnits held.now }
-    requires room { length addr.now < 2 ^ 64 }
     ensures { IfOk result (λ contexts. AreContextsHeld addr.now held.now contexts.items) }
 {
-    let tables = addr_tables(alloc, addr)?;
     let mut contexts = Vec::new(alloc);
     for number in 0..held.units.len() as u32 {
         let unit = unit_of(held, number);
-        contexts.push(context_of(addr, &tables, unit, table_of(held, number)))?;
+        contexts.push(context_of(addr, tables, unit, table_of(held, number)))?;
     }
     Ok(contexts)
 }

@@ -10,8 +10,13 @@ mod laws;
 mod link;
 #[cfg(test)]
 mod link_tests;
+mod list_bases;
+mod list_places;
+mod lists;
+mod namings;
 mod owners;
 mod parts;
+mod roots;
 mod sections;
 mod tables;
 #[cfg(test)]
@@ -27,6 +32,8 @@ pub use laws::{
     one_reading, sections_found, valid_files,
 };
 pub use link::{Link, resolve};
+pub use list_places::Contributions;
+pub use lists::{ListRead, read_lists};
 pub use parts::Parts;
 pub use units::{NamedTable, Units, read_units};
 pub use world::World;

@@ -4,19 +4,30 @@ ghost use Rattle.form_codec.specs.Values.{meant_in};
 ghost use Rattle.entry_arena.specs.Order.{IsInOrder};
 ghost use Rattle.value_links.specs.Attributes.{offset_class};
 ghost use Rattle.value_links.specs.Reading.{Linkable, unit_at};
-ghost use Rattle.value_links.specs.Links.{held_at, IsLinkFound};
-ghost use Rattle.value_links.specs.inside.Links.{program_among, IsLastFrom, IsTargetFound, IsSectionTargetFound, IsOffsetFound, AreProgramsApart, AreUnitsApart};
-ghost use Rattle.value_links.specs.Parts.{HoldsParts};
+ghost use Rattle.value_links.specs.Attributes.OffsetClass.{LinePtr, RngList, RngListsPtr, AddrPtr};
+ghost use Rattle.value_links.specs.Linked.{OffsetLinks, IndexLinks};
+ghost use Rattle.value_links.specs.Links.{held_at, IsFoundFor, IsLinkFound};
+ghost use Rattle.value_links.specs.inside.Links.{program_among, IsLastFrom, IsTargetFound, IsSectionTargetFound, AreProgramsApart, AreUnitsApart};
+ghost use Rattle.value_links.specs.inside.ListPlaces.{AreContributions};
+ghost use Rattle.list_model.specs.declared.entry.ListKind.TheVariants.{Ranges};
+ghost use Rattle.std.specs.List.{All};
+ghost use Rattle.value_links.specs.Parts.{HoldsParts, HoldsLists};
 
+use crate::list_places::{holder_of, part_with_offsets};
 use crate::parts::Parts;
 use crate::units::Units;
-use dw_base::constants::{DW_AT_ADDR_BASE, DW_AT_MACROS, DW_AT_STMT_LIST, DW_AT_STR_OFFSETS_BASE};
+use dw_base::constants::{
+    DW_AT_ADDR_BASE, DW_AT_MACROS, DW_AT_RANGES, DW_AT_RNGLISTS_BASE, DW_AT_START_SCOPE,
+    DW_AT_STMT_LIST, DW_AT_STR_OFFSETS_BASE,
+};
 use entry_arena::Target;
 use entry_read::Unit;
 use form_codec::Value;
 use line_machine::Head;
+use list_model::{ListKind, table_with_base};
 
-/// What the value of an attribute refers to. Units, entries and line number programs are numbered from 0 in their order.
+/// What the value of an attribute refers to. Units, entries, line number programs, contributions and slots are numbered from 0 in
+/// their order.
 #[derive(Clone, Copy, Debug, PartialEq, Eq)]
 pub enum Link {
     /// No other thing: the value is what it says.
@@ -25,6 +36,12 @@ pub enum Link {
     Place(u32, Target),
     /// A line number program.
     Lines(u32),
+    /// The list of a kind that begins at a place of its section.
+    List(ListKind, u64),
+    /// A slot of a contribution to the section of lists of a kind, both by their numbers. The slot tells where the list begins.
+    Slot(ListKind, u32, u32),
+    /// A contribution to the section of lists of a kind.
+    Base(ListKind, u32),
     /// A place of a section into which it isn't followed.
     Kept(u64),
 }
@@ -51,7 +68,7 @@ pub(crate) fn local_target(unit: &Unit<'_>, offset: u64) -> Option<Target>
 }
 
 // The number in 32 bits, where it has no more.
-fn narrow(number: usize) -> Option<u32>
+fn narrow(number: u64) -> Option<u32>
     ensures { MatchOption result (2 ^ 32 ≤ number) (λ same. same ≡ number) }
 {
     u32::try_from(number).ok()
@@ -73,7 +90,7 @@ fn section_target(units: &[Unit<'_>], place: u64) -> Option<Link>
 {
     let number = last_from(units, place)?;
     let target = units[number].forest().target_at(place)?;
-    let unit = narrow(number)?;
+    let unit = narrow(number as u64)?;
     Some(Link::Place(unit, target))
 }
 
@@ -82,26 +99,83 @@ fn program_from(programs: &[Head], place: u64) -> Option<u32>
     ensures { AreProgramsApart programs.now → MatchOption result ((i : ℕ) → i < length programs.now → (program_among programs.now i).at ≢ place) (λ i. (i < length programs.now) × ((program_among programs.now i).at ≡ place)) }
 {
     match programs.binary_search_by_key(&place, |head| head.at) {
-        Ok(number) => narrow(number),
+        Ok(number) => narrow(number as u64),
         Err(_) => None,
     }
 }
 
-// What a section offset refers to, which is the value of an attribute of this name.
-fn section_place(programs: &[Head], name: u64, place: u64) -> Option<Link>
-    ensures { AreProgramsApart programs.now → IsOffsetFound programs.now (offset_class name) place result }
+// The same, as what a section offset refers to.
+fn lines_at(parts: &Parts<'_>, place: u64) -> Option<Link>
+    ensures { (file : List ℕ) (r : Linkable) (u id : ℕ) → HoldsParts file r parts.now → IsFoundFor (OffsetLinks r u id LinePtr place) result }
+{
+    let program = program_from(&parts.programs, place)?;
+    Some(Link::Lines(program))
+}
+
+// The range list that can begin at a place.
+fn list_at(parts: &Parts<'_>, place: u64) -> Option<Link>
+    requires held { AreContributions parts.now.ranges }
+    ensures { (file : List ℕ) (r : Linkable) (u id : ℕ) → HoldsParts file r parts.now → IsFoundFor (OffsetLinks r u id RngList place) result }
+{
+    holder_of(&parts.ranges, place)?;
+    Some(Link::List(ListKind::Ranges, place))
+}
+
+// The contribution of range lists whose offsets begin at a place.
+fn base_at(parts: &Parts<'_>, place: u64) -> Option<Link>
+    requires held { AreContributions parts.now.ranges }
+    ensures { (file : List ℕ) (r : Linkable) (u id : ℕ) → HoldsParts file r parts.now → IsFoundFor (OffsetLinks r u id RngListsPtr place) result }
+{
+    let part = part_with_offsets(&parts.ranges, place)?;
+    Some(Link::Base(ListKind::Ranges, part))
+}
+
+// The place itself, where addresses of an address table begin there.
+fn addresses_at(parts: &Parts<'_>, place: u64) -> Option<Link>
+    ensures { (file : List ℕ) (r : Linkable) (u id : ℕ) → HoldsParts file r parts.now → IsFoundFor (OffsetLinks r u id AddrPtr place) result }
+{
+    table_with_base(&parts.tables, place)?;
+    Some(Link::Kept(place))
+}
+
+// What a section offset refers to, which is the value of an attribute of this name. No section of location lists is read yet.
+fn section_place(parts: &Parts<'_>, name: u64, place: u64) -> Option<Link>
+    requires held { AreContributions parts.now.ranges }
+    ensures { (file : List ℕ) (r : Linkable) (u id : ℕ) → HoldsParts file r parts.now → IsFoundFor (OffsetLinks r u id (offset_class name) place) result }
 {
     match name {
-        DW_AT_STMT_LIST => Some(Link::Lines(program_from(programs, place)?)),
-        DW_AT_ADDR_BASE | DW_AT_STR_OFFSETS_BASE | DW_AT_MACROS => Some(Link::Kept(place)),
+        DW_AT_STMT_LIST => lines_at(parts, place),
+        DW_AT_RANGES | DW_AT_START_SCOPE => list_at(parts, place),
+        DW_AT_RNGLISTS_BASE => base_at(parts, place),
+        DW_AT_ADDR_BASE => addresses_at(parts, place),
+        DW_AT_STR_OFFSETS_BASE | DW_AT_MACROS => Some(Link::Kept(place)),
         _ => None,
     }
 }
 
+// The slot that an index of a range list counts, in the contribution that the root of the unit with a number names.
+fn range_slot(parts: &Parts<'_>, unit: u32, index: u64) -> Option<Link>
+    requires held { AreContributions parts.now.ranges }
+    requires unit { unit < length parts.now.units.units.items }
+    requires bases { length parts.now.bases.items ≡ length parts.now.units.units.items }
+    requires inside { All (λ base. IfSome base (λ p. p < length parts.now.ranges.parts.items)) parts.now.bases.items }
+    ensures { (file : List ℕ) (r : Linkable) → HoldsParts file r parts.now → IsFoundFor (IndexLinks r unit Ranges index) result }
+{
+    let part = parts.bases[unit as usize]?;
+    let slot = narrow(index)?;
+    if slot < parts.ranges.parts[part as usize].slots {
+        Some(Link::Slot(ListKind::Ranges, part, slot))
+    } else {
+        None
+    }
+}
+
 /// What a value refers to that stands in the unit with this number, counted from 0, as the value of an attribute of this name
-/// (DWARF 5 sections 7.5.4 and 7.5.5), or None exactly where it names nothing that it may name. It takes no memory.
+/// (DWARF 5 sections 7.5.4 and 7.5.5), or None exactly where it names nothing that it may name. An index of a range list refers to
+/// its slot, whatever the slot tells. It takes no memory.
 pub fn resolve(parts: &Parts<'_>, unit: u32, name: u64, value: &Value) -> Option<Link>
-    requires { unit < length parts.now.units.units.items }
+    requires unit { unit < length parts.now.units.units.items }
+    requires lists { HoldsLists parts.now }
     ensures { (file : List ℕ) (r : Linkable) (id : ℕ) → HoldsParts file r parts.now → IsLinkFound r unit id name (meant_in (unit_at r unit).forest.section value.now) result }
 {
     match *value {
@@ -110,8 +184,9 @@ pub fn resolve(parts: &Parts<'_>, unit: u32, name: u64, value: &Value) -> Option
             Some(Link::Place(unit, target))
         }
         Value::SectionRef(place) => section_target(&parts.units.units, place),
-        Value::Offset(place) => section_place(&parts.programs, name, place),
-        Value::LocIndex(_) | Value::RangeIndex(_) => None,
+        Value::Offset(place) => section_place(parts, name, place),
+        Value::RangeIndex(index) => range_slot(parts, unit, index),
+        Value::LocIndex(_) => None,
         _ => Some(Link::Plain),
     }
 }

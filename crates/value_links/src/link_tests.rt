@@ -1,9 +1,17 @@
 // What values refer to, by hand, and values that refer to nothing.
-use crate::{Link, Parts, check_links, read_units, resolve};
+ghost use Rattle.std.specs.Prelude.{◌<◌, ◌^◌, length, IfOk};
+ghost use Rattle.value_links.specs.declared.link_tests.TheConstants.{TABLE};
+ghost use Rattle.value_links.specs.Parts.{AreUnitsHeld, HoldsLists};
+ghost use Rattle.value_links.specs.inside.ListPlaces.{AreContributions};
+
+use crate::contexts::contexts_of;
+use crate::list_bases::bases_of;
+use crate::{Contributions, Link, Parts, check_links, read_units, resolve};
 use dw_base::{Fault, Kind, Span};
 use entry_arena::Target;
 use form_codec::{Value, Whole};
 use line_machine::Head;
+use list_model::{ListKind, addr_tables, contributions};
 use std::alloc::Global;
 use std::process::Abort;
 use std::test::Fail;
@@ -13,19 +21,31 @@ const ORIGIN: u64 = 64;
 
 // Declarations 1 to 8: a root with children; entries with DW_AT_type in the forms ref4 and ref_addr, and with DW_AT_location in
 // the forms exprloc and loclistx; a root with DW_AT_loclists_base; and roots without children, with DW_AT_stmt_list, and with
-// DW_AT_location in the form sec_offset.
-const TABLE: [u8; 56] = [
+// DW_AT_location in the form sec_offset. Declarations 9 to 13 are roots without children too: with DW_AT_rnglists_base, and
+// DW_AT_ranges in the form rnglistx; with DW_AT_addr_base, and DW_AT_low_pc in the form addrx; with DW_AT_ranges in the form
+// sec_offset; and with the second attribute of 10 and of 9 alone.
+const TABLE: [u8; 95] = [
     1, 0x11, 1, 0, 0, 2, 0x34, 0, 0x49, 0x13, 0, 0, 3, 0x34, 0, 0x49, 0x10, 0, 0, 4, 0x34, 0, 2,
     0x18, 0, 0, 5, 0x34, 0, 2, 0x22, 0, 0, 6, 0x11, 1, 0x8c, 1, 0x17, 0, 0, 7, 0x11, 0, 0x10, 0x17,
-    0, 0, 8, 0x11, 0, 2, 0x17, 0, 0, 0,
+    0, 0, 8, 0x11, 0, 2, 0x17, 0, 0, 9, 0x11, 0, 0x74, 0x17, 0x55, 0x23, 0, 0, 10, 0x11, 0, 0x73,
+    0x17, 0x11, 0x1b, 0, 0, 11, 0x11, 0, 0x55, 0x17, 0, 0, 12, 0x11, 0, 0x11, 0x1b, 0, 0, 13, 0x11,
+    0, 0x55, 0x23, 0, 0, 0,
 ];
 
 // A unit at 0 and one at 19, each a root at 12 behind the unit's first byte, and an entry at 13 with DW_AT_type. The code 0 that
-// ends the children of the root stands at 18.
-const UNITS: [u8; 38] = [
+// ends the children of the root stands at 18. A unit at 38 is a root with the base 12 of range lists.
+const UNITS: [u8; 56] = [
     0x0f, 0, 0, 0, 5, 0, 1, 8, 0, 0, 0, 0, 1, 2, 18, 0, 0, 0, 0, 0x0f, 0, 0, 0, 5, 0, 1, 8, 0, 0,
-    0, 0, 1, 3, 12, 0, 0, 0, 0,
+    0, 0, 1, 3, 12, 0, 0, 0, 0, 0x0e, 0, 0, 0, 5, 0, 1, 8, 0, 0, 0, 0, 9, 12, 0, 0, 0, 0,
 ];
+
+// Contributions at 0 and 17: one slot at 12 and a list at 16, and a list at 29.
+const RANGES: [u8; 30] = [
+    13, 0, 0, 0, 5, 0, 8, 0, 1, 0, 0, 0, 4, 0, 0, 0, 0, 9, 0, 0, 0, 5, 0, 8, 0, 0, 0, 0, 0, 0,
+];
+
+// An address table of one address, which stands at 8.
+const ADDRESSES: [u8; 16] = [12, 0, 0, 0, 5, 0, 8, 0, 0, 0x10, 0, 0, 0, 0, 0, 0];
 
 fn program(at: u64) -> Head {
     Head {
@@ -49,16 +69,78 @@ fn programs(alloc: Global) -> Result<Vec<Head>, Fail> {
     Ok(heads)
 }
 
-// The parts of a file with these bytes of .debug_info, but for contexts, which no value asks for.
-fn read<'a>(alloc: Global, info: &'a [u8]) -> Result<Parts<'a>, Fail> {
+// The contributions above.
+fn ranges(alloc: Global) -> Result<Contributions<'static>, Fail>
+    ensures { IfOk result AreContributions }
+{
+    let parts = contributions(alloc, &RANGES, 0).ok().ok_or("refused")?;
+    if parts.len() > 2 {
+        Err("more contributions")?;
+    }
+    Ok(Contributions {
+        section: &RANGES,
+        parts,
+    })
+}
+
+// The parts of a file with these bytes of .debug_info.
+fn read<'a>(alloc: Global, info: &'a [u8]) -> Result<Parts<'a>, Fail>
+    requires { length info.now < 2 ^ 32 }
+    ensures lists { IfOk result HoldsLists }
+    ensures units { IfOk result (λ parts. AreUnitsHeld info.entry.now TABLE parts.units) }
+{
     let units = read_units(alloc, info, &TABLE, ORIGIN, 1000)
         .ok()
         .ok_or("refused")?;
+    let tables = addr_tables(alloc, &ADDRESSES, 0)
+        .ok()
+        .ok_or("no memory")?
+        .tables;
+    let contexts = contexts_of(alloc, &ADDRESSES, &tables, &units)
+        .ok()
+        .ok_or("no memory")?;
+    let ranges = ranges(alloc)?;
+    let bases = bases_of(alloc, &ranges, &units).ok().ok_or("no memory")?;
     Ok(Parts {
         programs: programs(alloc)?,
         units,
-        contexts: Vec::new(alloc),
+        contexts,
+        addr: &ADDRESSES,
+        tables,
+        ranges,
+        bases,
     })
+}
+
+// An entry of a unit, both by their numbers.
+fn entry(unit: u32, number: u32) -> Link {
+    Link::Place(unit, Target::Entry(number))
+}
+
+// The range list at a place.
+fn list(at: u64) -> Link {
+    Link::List(ListKind::Ranges, at)
+}
+
+// A slot of a contribution, both by their numbers.
+fn slot(part: u32, number: u32) -> Link {
+    Link::Slot(ListKind::Ranges, part, number)
+}
+
+// The contribution with a number.
+fn base(part: u32) -> Link {
+    Link::Base(ListKind::Ranges, part)
+}
+
+// What a value of the unit with a number refers to, where there is such a unit.
+fn link_of(parts: &Parts<'_>, unit: u32, name: u64, value: &Value) -> Result<Option<Link>, Fail>
+    requires { HoldsLists parts.now }
+{
+    if (unit as usize) < parts.units.units.len() {
+        Ok(resolve(parts, unit, name, value))
+    } else {
+        Err("fewer units")?
+    }
 }
 
 // The unit and the name of a value, the value, and what it refers to.
@@ -66,136 +148,171 @@ fn read<'a>(alloc: Global, info: &'a [u8]) -> Result<Parts<'a>, Fail> {
 fn links_of_values(rt: HostRuntime) -> Result<(), Fail> {
     let alloc = rt.alloc();
     let parts = read(alloc, &UNITS)?;
+    let chain_end = Link::Place(0, Target::ChainEnd(0));
     let rows = [
-        (
-            1,
-            0x49,
-            Value::LocalRef(13),
-            Some(Link::Place(1, Target::Entry(1))),
-        ),
-        (
-            0,
-            0x49,
-            Value::LocalRef(18),
-            Some(Link::Place(0, Target::ChainEnd(0))),
-        ),
+        (1, 0x49, Value::LocalRef(13), Some(entry(1, 1))),
+        (0, 0x49, Value::LocalRef(18), Some(chain_end)),
         (0, 0x49, Value::LocalRef(31), None),
         (0, 0x49, Value::LocalRef(0xffff_ffff_ffff_ffff), None),
-        (
-            0,
-            0x49,
-            Value::SectionRef(31),
-            Some(Link::Place(1, Target::Entry(0))),
-        ),
+        (0, 0x49, Value::SectionRef(31), Some(entry(1, 0))),
         (1, 0x49, Value::SectionRef(19), None),
         (1, 0x49, Value::SectionRef(38), None),
         (0, 0x10, Value::Offset(30), Some(Link::Lines(1))),
         (0, 0x10, Value::Offset(29), None),
         (0, 0x73, Value::Offset(8), Some(Link::Kept(8))),
+        (0, 0x73, Value::Offset(16), None),
+        (0, 0x72, Value::Offset(16), Some(Link::Kept(16))),
         (0, 0x02, Value::Offset(0), None),
         (0, 0x02, Value::LocIndex(0), None),
         (0, 0x0b, Value::Int(Whole::unsigned(12)), Some(Link::Plain)),
     ];
     for (unit, name, value, link) in rows.iter() {
-        if (*unit as usize) < parts.units.units.len() {
-            assert_eq!(rt; resolve(&parts, *unit, *name, value), *link);
-        } else {
-            Err("fewer units")?;
-        }
+        assert_eq!(rt; link_of(&parts, *unit, *name, value)?, *link);
+    }
+    Ok(())
+}
+
+// The same of values that name range lists.
+#[test]
+fn links_to_lists(rt: HostRuntime) -> Result<(), Fail> {
+    let alloc = rt.alloc();
+    let parts = read(alloc, &UNITS)?;
+    let rows = [
+        (0, 0x55, Value::Offset(16), Some(list(16))),
+        (0, 0x2c, Value::Offset(29), Some(list(29))),
+        (0, 0x55, Value::Offset(15), None),
+        (0, 0x55, Value::Offset(17), None),
+        (0, 0x55, Value::Offset(30), None),
+        (0, 0x74, Value::Offset(12), Some(base(0))),
+        (0, 0x74, Value::Offset(29), Some(base(1))),
+        (0, 0x74, Value::Offset(16), None),
+        (2, 0x55, Value::RangeIndex(0), Some(slot(0, 0))),
+        (2, 0x55, Value::RangeIndex(1), None),
+        (2, 0x55, Value::RangeIndex(0x1_0000_0000), None),
+        (0, 0x55, Value::RangeIndex(0), None),
+    ];
+    for (unit, name, value, link) in rows.iter() {
+        assert_eq!(rt; link_of(&parts, *unit, *name, value)?, *link);
     }
     Ok(())
 }
 
 // The fault of the values of units, or none.
-fn fault_of(alloc: Global, info: &[u8]) -> Result<Option<Fault>, Fail> {
-    let units = read_units(alloc, info, &TABLE, ORIGIN, 1000)
-        .ok()
-        .ok_or("refused")?;
-    let parts = Parts {
-        programs: programs(alloc)?,
-        units,
-        contexts: Vec::new(alloc),
-    };
+fn fault_of(alloc: Global, info: &[u8]) -> Result<Option<Fault>, Fail>
+    requires { length info.now < 2 ^ 32 }
+{
+    let parts = read(alloc, info)?;
     Ok(check_links(&parts, info, &TABLE, ORIGIN).err())
 }
 
-// The bytes of .debug_info, each of whose values refers to what it may.
+// The fault of the values of a compile unit, whose entries begin at 12, or none.
+fn fault_in(alloc: Global, entries: &[u8]) -> Result<Option<Fault>, Fail>
+    requires { length entries.now < 100 }
+{
+    let mut info = Vec::new(alloc);
+    info.push(8 + entries.len() as u8).ok().ok_or("no memory")?;
+    info.extend_from_slice(&[0, 0, 0, 5, 0, 1, 8, 0, 0, 0, 0])
+        .ok()
+        .ok_or("no memory")?;
+    info.extend_from_slice(entries).ok().ok_or("no memory")?;
+    fault_of(alloc, &info)
+}
+
+// A type unit with a root at 24, whose type is at a place below 256.
+fn type_unit(place: u8) -> [u8; 26] {
+    [
+        22, 0, 0, 0, 5, 0, 2, 8, 0, 0, 0, 0, 1, 2, 3, 4, 5, 6, 7, 8, place, 0, 0, 0, 1, 0,
+    ]
+}
+
+// The fault at a byte of .debug_info.
+fn fault(kind: Kind, at: u8) -> Fault {
+    Fault {
+        kind,
+        place: ORIGIN + at as u64,
+    }
+}
+
+// Units, and the entries of compile units, each of whose values refers to what it may.
 #[test]
 fn linked_units(rt: HostRuntime) -> Result<(), Fail> {
     let alloc = rt.alloc();
-    let rows: [&[u8]; 5] = [
-        &[],
-        &UNITS,
+    assert_eq!(rt; fault_of(alloc, &[])?, None);
+    assert_eq!(rt; fault_of(alloc, &UNITS)?, None);
+    // the type is the root
+    assert_eq!(rt; fault_of(alloc, &type_unit(24))?, None);
+    let rows: [&[u8]; 4] = [
         // DW_OP_lit0
-        &[13, 0, 0, 0, 5, 0, 1, 8, 0, 0, 0, 0, 1, 4, 1, 0x30, 0],
+        &[1, 4, 1, 0x30, 0],
         // the second program
-        &[13, 0, 0, 0, 5, 0, 1, 8, 0, 0, 0, 0, 7, 30, 0, 0, 0],
-        // a type unit whose type is its root
-        &[
-            22, 0, 0, 0, 5, 0, 2, 8, 0, 0, 0, 0, 1, 2, 3, 4, 5, 6, 7, 8, 24, 0, 0, 0, 1, 0,
-        ],
+        &[7, 30, 0, 0, 0],
+        // the address with the number 0 as the first base
+        &[10, 8, 0, 0, 0, 0],
+        // the list of the second contribution
+        &[11, 29, 0, 0, 0],
     ];
-    for info in rows.iter() {
-        assert_eq!(rt; fault_of(alloc, info)?, None);
+    for entries in rows.iter() {
+        assert_eq!(rt; fault_in(alloc, entries)?, None);
     }
     Ok(())
 }
 
-// The bytes of .debug_info, and the kind and the place of the fault of a value.
+// The entries of a compile unit, and the fault of a value.
 #[test]
 fn faulty_links(rt: HostRuntime) -> Result<(), Fail> {
     let alloc = rt.alloc();
-    let rows: [(&[u8], Kind, u64); 7] = [
+    let rows: [(&[u8], Fault); 6] = [
         // a reference to the byte behind the entry's code
-        (
-            &[0x0f, 0, 0, 0, 5, 0, 1, 8, 0, 0, 0, 0, 1, 2, 14, 0, 0, 0, 0],
-            Kind::Target,
-            64 + 14,
-        ),
+        (&[1, 2, 14, 0, 0, 0, 0], fault(Kind::Target, 14)),
         // a reference to the header of a unit
-        (
-            &[0x0f, 0, 0, 0, 5, 0, 1, 8, 0, 0, 0, 0, 1, 3, 0, 0, 0, 0, 0],
-            Kind::Target,
-            64 + 14,
-        ),
+        (&[1, 3, 0, 0, 0, 0, 0], fault(Kind::Target, 14)),
         // DW_OP_convert
-        (
-            &[13, 0, 0, 0, 5, 0, 1, 8, 0, 0, 0, 0, 1, 4, 1, 0xa8, 0],
-            Kind::Unbuilt,
-            64 + 14,
-        ),
+        (&[1, 4, 1, 0xa8, 0], fault(Kind::Unbuilt, 14)),
         // the number of a location list whose root gives no base, and a base itself
-        (
-            &[12, 0, 0, 0, 5, 0, 1, 8, 0, 0, 0, 0, 1, 5, 0, 0],
-            Kind::NoBase,
-            64 + 14,
-        ),
-        (
-            &[16, 0, 0, 0, 5, 0, 1, 8, 0, 0, 0, 0, 6, 12, 0, 0, 0, 5, 0, 0],
-            Kind::Pointer,
-            64 + 13,
-        ),
+        (&[1, 5, 0, 0], fault(Kind::NoBase, 14)),
+        (&[6, 12, 0, 0, 0, 5, 0, 0], fault(Kind::Pointer, 13)),
         // no program begins there
-        (
-            &[13, 0, 0, 0, 5, 0, 1, 8, 0, 0, 0, 0, 7, 31, 0, 0, 0],
-            Kind::Pointer,
-            64 + 13,
-        ),
-        // a type unit whose type is the end of a chain
-        (
-            &[
-                22, 0, 0, 0, 5, 0, 2, 8, 0, 0, 0, 0, 1, 2, 3, 4, 5, 6, 7, 8, 25, 0, 0, 0, 1, 0,
-            ],
-            Kind::Target,
-            64 + 20,
-        ),
+        (&[7, 31, 0, 0, 0], fault(Kind::Pointer, 13)),
     ];
-    for (info, kind, place) in rows.iter() {
-        let expected = Fault {
-            kind: *kind,
-            place: *place,
-        };
-        assert_eq!(rt; fault_of(alloc, info)?, Some(expected));
+    for (entries, fault) in rows.iter() {
+        assert_eq!(rt; fault_in(alloc, entries)?, Some(*fault));
+    }
+    // a type that is the end of a chain
+    let end = fault_of(alloc, &type_unit(25))?;
+    assert_eq!(rt; end, Some(fault(Kind::Target, 20)));
+    Ok(())
+}
+
+// The same of values that name range lists.
+#[test]
+fn faulty_lists(rt: HostRuntime) -> Result<(), Fail> {
+    let alloc = rt.alloc();
+    let rows: [(&[u8], Fault); 4] = [
+        // a base of no contribution, an index past the slots, and one without a base
+        (&[9, 16, 0, 0, 0, 0], fault(Kind::Pointer, 13)),
+        (&[9, 12, 0, 0, 0, 1], fault(Kind::Pointer, 17)),
+        (&[13, 0], fault(Kind::NoBase, 13)),
+        // no list can begin at an offset
+        (&[11, 12, 0, 0, 0], fault(Kind::Pointer, 13)),
+    ];
+    for (entries, fault) in rows.iter() {
+        assert_eq!(rt; fault_in(alloc, entries)?, Some(*fault));
+    }
+    Ok(())
+}
+
+// The same of values that name addresses.
+#[test]
+fn faulty_addresses(rt: HostRuntime) -> Result<(), Fail> {
+    let alloc = rt.alloc();
+    let rows: [(&[u8], Fault); 3] = [
+        // a base of no address table, an address past a table's end, and one without a table
+        (&[10, 16, 0, 0, 0, 0], fault(Kind::Pointer, 13)),
+        (&[10, 8, 0, 0, 0, 1], fault(Kind::Pointer, 17)),
+        (&[12, 0], fault(Kind::NoBase, 13)),
+    ];
+    for (entries, fault) in rows.iter() {
+        assert_eq!(rt; fault_in(alloc, entries)?, Some(*fault));
     }
     Ok(())
 }

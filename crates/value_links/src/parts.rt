@@ -1,7 +1,8 @@
 // What is read of a file before its values are looked up.
+use crate::list_places::Contributions;
 use crate::units::Units;
 use line_machine::Head;
-use list_model::Context;
+use list_model::{AddrTable, Context};
 
 /// What the values of a file refer to. What is read of a further section is a field more.
 #[derive(Drop)]
@@ -12,4 +13,12 @@ pub struct Parts<'a> {
     pub units: Units<'a>,
     /// Of each unit the context of its lists.
     pub contexts: Vec<Context>,
+    /// The body of .debug_addr.
+    pub addr: &'a [u8],
+    /// Its address tables, up to its end or to one that has a fault.
+    pub tables: Vec<AddrTable>,
+    /// The section of range lists.
+    pub ranges: Contributions<'a>,
+    /// Of each unit the number of the contribution that its root names for the indexes of range lists.
+    pub bases: Vec<Option<u32>>,
 }

@@ -1,8 +1,8 @@
 // The debug sections of a file, found by their names.
-ghost use Rattle.std.specs.Prelude.{◌≡◌, ◌≤◌, ◌<◌, ◌+◌, ◌^◌, length, slice_range, IfSome, MatchOption, bytes_eq, ◌||◌};
+ghost use Rattle.std.specs.Prelude.{◌≡◌, ◌≤◌, ◌<◌, ◌+◌, ◌^◌, length, slice_range, IfSome, MatchOption, bytes_eq};
 ghost use Rattle.dw_base.specs.declared.fault.Reach.TheVariants.{Wide};
 ghost use Rattle.elf_sections.specs.Faults.{SomeSection, IsRead};
-ghost use Rattle.value_links.specs.Sections.{body_named, offset_named, rnglists_name, loclists_name};
+ghost use Rattle.value_links.specs.Sections.{body_named, offset_named, loclists_name};
 ghost use Rattle.value_links.specs.Faults.{is_list_section};
 ghost use Rattle.value_links.specs.Laws.{HasNoLists};
 
@@ -45,14 +45,14 @@ pub(crate) fn debug_section<'a>(file: &'a [u8], image: &Image<'_>, name: &[u8]) 
     }
 }
 
-// Whether a section of this name holds range lists or location lists.
+// Whether a section of this name holds location lists.
 fn is_lists(name: &[u8]) -> bool
-    ensures { result ≡ (bytes_eq name.now rnglists_name || bytes_eq name.now loclists_name) }
+    ensures { result ≡ bytes_eq name.now loclists_name }
 {
-    name == b".debug_rnglists".as_slice() || name == b".debug_loclists".as_slice()
+    name == b".debug_loclists".as_slice()
 }
 
-/// The file offset of the first section that holds range lists or location lists.
+/// The file offset of the first section that holds location lists.
 pub(crate) fn list_section(image: &Image<'_>) -> Option<u64>
     requires { IsRead image.now Wide }
     ensures place { MatchOption result (HasNoLists image.now) (λ place. SomeSection image.now (is_list_section image.now) place) }

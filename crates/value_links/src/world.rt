@@ -1,5 +1,13 @@
 // A file that is held with what is read of it.
-ghost use Rattle.std.specs.Prelude.{◌≡◌, ◌<◌, ℕ, List, length, slice_index, IfOk, IfErr, OnOk};
+ghost use Rattle.std.specs.Prelude.{◌≡◌, ◌≤◌, ◌<◌, ◌↔◌, ℕ, List, length, slice_index, IfOk, IfErr, OnOk, IsTrue, MatchOption};
+ghost use Rattle.std.specs.List.{Contains};
+ghost use Rattle.dw_base.specs.Refusals.{IsFaultOf, IsRefusedFor};
+ghost use Rattle.dw_base.specs.declared.fault.Refusal.TheVariants.{Refused};
+ghost use Rattle.list_model.specs.declared.entry.ListKind.TheVariants.{Ranges};
+ghost use Rattle.list_model.specs.Addresses.{TablesFollow, AreAllTables};
+ghost use Rattle.list_model.specs.Faults.{FaultContributions};
+ghost use Rattle.list_model.specs.Faults.{FaultTables as FaultTablesOf};
+ghost use Rattle.list_model.specs.Reading.{list_entry_limit as most_entries};
 ghost use Rattle.dw_base.specs.declared.fault.Reach.{Reach};
 ghost use Rattle.dw_base.specs.declared.fault.Reach.TheVariants.{Wide};
 ghost use Rattle.elf_sections.specs.Faults.{IsRead};
@@ -8,20 +16,30 @@ ghost use Rattle.entry_read.specs.Places.{HaveOwners};
 ghost use Rattle.entry_read.specs.Units.{declarations_of, IsTable};
 ghost use Rattle.line_write.specs.Readings.{AreRead};
 ghost use Rattle.companions.specs.Aranges.{SetsTile};
-ghost use Rattle.value_links.specs.Sections.{body_named, debug_line, debug_aranges};
-ghost use Rattle.value_links.specs.Reading.{Reading, unit_at, context_at};
+ghost use Rattle.value_links.specs.Sections.{body_named, offset_named, debug_line, debug_addr, debug_rnglists, debug_aranges, addr_name, rnglists_name};
+ghost use Rattle.value_links.specs.Reading.{Linkable, Reading, ListRead as AnyRead, unit_at, context_at, lists_of};
+ghost use Rattle.value_links.specs.Lists.{IsFrozen, AreListsOf};
+ghost use Rattle.value_links.specs.ListFaults.{entry_total};
 ghost use Rattle.value_links.specs.Faults.{NamesFault};
 ghost use Rattle.value_links.specs.Laws.{IsImageInOrder};
-ghost use Rattle.value_links.specs.Links.{held_at, HasLink, IsLinkFound};
-ghost use Rattle.value_links.specs.inside.Passes.{starts_of, ArePartsInOrder, NamesLaterFault};
-ghost use Rattle.value_links.specs.World.{World, Holds, table_at, IsWorldOf};
-ghost use Rattle.value_links.specs.inside.World.{own_table};
+ghost use Rattle.value_links.specs.declared.link.Link.{Link as AnyLink};
+ghost use Rattle.value_links.specs.declared.lists.ListRead.{ListRead as AnyList};
+ghost use Rattle.value_links.specs.Links.{held_at, HasLink, IsLinkFound, IsFollowed};
+ghost use Rattle.value_links.specs.Parts.{HoldsParts};
+ghost use Rattle.value_links.specs.inside.ListPlaces.{AreContributions};
+ghost use Rattle.value_links.specs.inside.Passes.{starts_of, ArePartsRead, ArePartsInOrder, NamesLaterFault};
+ghost use Rattle.value_links.specs.World.{World, HoldLists, Holds, contributions_held, lists_held, table_at, IsWorldOf};
+ghost use Rattle.value_links.specs.inside.World.{own_table, AreListsApart};
 
 use crate::check::check_links;
 use crate::contexts::contexts_of;
 use crate::link::{Link, resolve};
+use crate::list_bases::bases_of;
+use crate::list_places::{Contributions, told_by};
+use crate::lists::{ListRead, read_lists};
 use crate::owners::{attribute_name, owner_of};
 use crate::parts::Parts;
+use crate::roots::names_addresses;
 use crate::sections::{debug_section, list_section};
 use crate::units::{NamedTable, read_units};
 use abbrev_tables::Table;
@@ -33,11 +51,16 @@ use entry_read::Unit;
 use form_codec::Value;
 use line_machine::Head;
 use line_write::read_lines;
-use list_model::Context;
+use list_model::{
+    AddrTable, AddrTables, Context, Contribution, ListKind, Meaning, addr_tables, contributions,
+};
 use std::alloc::Global;
 use std::marker::Model;
 
-// The image of a file in which no section holds lists.
+// The most contributions, since numbers of 32 bits name them.
+const MOST_CONTRIBUTIONS: usize = 0xffff_ffff;
+
+// The image of a file in which no section holds location lists.
 fn read_image<'a>(alloc: Global, file: &'a [u8], reach: Reach) -> Result<Image<'a>, Refusal>
     ensures image { IfOk result (λ image. image ≡ file.entry.now) }
     ensures read { OnOk result (IsRead file.entry.now Wide) }
@@ -65,32 +88,98 @@ fn read_programs<'a>(alloc: Global, file: &'a [u8], image: &Image<'a>) -> Result
     read_lines(alloc, line.bytes, line.origin)
 }
 
-// What the values of a file refer to, and that each refers to what it may. `programs` are its line number programs.
-fn read_linked<'a>(
+// The address tables of .debug_addr, up to its end or to one that has a fault.
+fn read_addresses<'a>(
+    alloc: Global,
+    file: &'a [u8],
+    image: &Image<'a>,
+) -> Result<AddrTables, NoMemory>
+    requires image { image.now ≡ file.now }
+    requires read { IsRead file.now Wide }
+    ensures all { IfOk result (λ read. AreAllTables (debug_addr file.now) read.tables.items) }
+    ensures fault { IfOk result (λ read. MatchOption read.fault (TablesFollow (debug_addr file.now) read.tables.items 0 (length (debug_addr file.now))) (IsFaultOf (FaultTablesOf (debug_addr file.now)) (offset_named file.now addr_name))) }
+{
+    let addr = debug_section(file, image, b".debug_addr".as_slice());
+    addr_tables(alloc, addr.bytes, addr.origin)
+}
+
+// The contributions of range lists. Numbers of 32 bits name them.
+fn read_ranges_section<'a>(
+    alloc: Global,
+    file: &'a [u8],
+    image: &Image<'a>,
+) -> Result<Contributions<'a>, Refusal>
+    requires image { image.now ≡ file.now }
+    requires read { IsRead file.now Wide }
+    ensures section { IfOk result (λ ranges. (ranges.section.now ≡ debug_rnglists file.entry.now) × AreContributions ranges) }
+    ensures fault { IfErr result (IsRefusedFor (IsFaultOf (FaultContributions (debug_rnglists file.entry.now)) (offset_named file.entry.now rnglists_name))) }
+{
+    let ranges = debug_section(file, image, b".debug_rnglists".as_slice());
+    let parts = contributions(alloc, ranges.bytes, ranges.origin)?;
+    if parts.len() > MOST_CONTRIBUTIONS {
+        return Err(Refusal::NoMemory);
+    }
+    Ok(Contributions {
+        section: ranges.bytes,
+        parts,
+    })
+}
+
+// What the values of a file refer to. `programs` are its line number programs, and `tables` its address tables.
+fn read_parts<'a>(
     alloc: Global,
     file: &'a [u8],
     image: &Image<'a>,
     programs: Vec<Head>,
+    tables: Vec<AddrTable>,
 ) -> Result<Parts<'a>, Refusal>
     requires image { image.now ≡ file.now }
     requires read { IsRead file.now Wide }
     requires programs { AreRead (debug_line file.now) programs.items }
-    ensures parts { IfOk result (λ parts. (reach : Reach) → IsImageInOrder file.entry.now reach → ArePartsInOrder file.entry.now parts) }
+    requires tables { AreAllTables (debug_addr file.now) tables.items }
+    ensures parts { IfOk result (λ parts. ArePartsRead file.entry.now parts) }
+    ensures tables { IfOk result (λ parts. parts.tables.items ≡ tables.items) }
     ensures refused { IfErr result (λ refusal. (reach : Reach) → NamesLaterFault file.entry.now reach refusal) }
 {
     let info = debug_section(file, image, b".debug_info".as_slice());
     let abbrev = debug_section(file, image, b".debug_abbrev".as_slice());
     let addr = debug_section(file, image, b".debug_addr".as_slice());
     let units = read_units(alloc, info.bytes, abbrev.bytes, info.origin, abbrev.origin)?;
-    let contexts = contexts_of(alloc, addr.bytes, &units)?;
-    let parts = Parts {
+    let ranges = read_ranges_section(alloc, file, image)?;
+    let contexts = contexts_of(alloc, addr.bytes, &tables, &units)?;
+    let bases = bases_of(alloc, &ranges, &units)?;
+    Ok(Parts {
         programs,
         units,
         contexts,
-    };
-    match check_links(&parts, info.bytes, abbrev.bytes, info.origin) {
-        Ok(()) => Ok(parts),
-        Err(fault) => Err(Refusal::Refused(fault)),
+        addr: addr.bytes,
+        tables,
+        ranges,
+        bases,
+    })
+}
+
+// Whether each value of a file refers to what it may, and roots and address tables are in order. `fault` is that of the first address
+// table that has one.
+fn check_parts<'a>(
+    file: &'a [u8],
+    image: &Image<'a>,
+    parts: &Parts<'a>,
+    fault: Option<Fault>,
+) -> Result<(), Fault>
+    requires image { image.now ≡ file.now }
+    requires read { IsRead file.now Wide }
+    requires parts { ArePartsRead file.now parts.now }
+    requires fault { MatchOption fault (TablesFollow (debug_addr file.now) parts.now.tables.items 0 (length (debug_addr file.now))) (IsFaultOf (FaultTablesOf (debug_addr file.now)) (offset_named file.now addr_name)) }
+    ensures linked { OnOk result ((reach : Reach) → IsImageInOrder file.now reach → ArePartsInOrder file.now parts.now) }
+    ensures refused { IfErr result (λ fault. (reach : Reach) → NamesLaterFault file.now reach (Refused fault)) }
+{
+    let info = debug_section(file, image, b".debug_info".as_slice());
+    let abbrev = debug_section(file, image, b".debug_abbrev".as_slice());
+    check_links(parts, info.bytes, abbrev.bytes, info.origin)?;
+    match fault {
+        Some(fault) if names_addresses(parts) => Err(fault),
+        _ => Ok(()),
     }
 }
 
@@ -120,24 +209,50 @@ fn read_sets<'a>(
     read_aranges(alloc, aranges.bytes, &starts, aranges.origin)
 }
 
+// The range lists of a file, of which these parts and sets were read.
+fn read_named_lists<'a>(
+    alloc: Global,
+    file: &'a [u8],
+    image: &Image<'a>,
+    parts: &Parts<'a>,
+    sets: &Vec<ArangeSet>,
+    reach: Reach,
+) -> Result<Vec<ListRead>, Refusal>
+    requires image { image.now ≡ file.now }
+    requires read { IsRead file.now Wide }
+    requires parts { (reach : Reach) × IsImageInOrder file.now reach × ArePartsInOrder file.now parts.now }
+    requires sets { SetsTile (debug_aranges file.now) (starts_of parts.now.units.units.items) sets.now.items }
+    ensures lists { IfOk result (λ lists. (r : Linkable) → HoldsParts file.now r parts.now → (read : List AnyRead) × AreListsOf r Ranges read × HoldLists r Ranges read lists.items × (entry_total read ≤ most_entries reach)) }
+    ensures refused { IfErr result (λ refusal. NamesLaterFault file.now reach refusal) }
+{
+    // The sets are of the pass before.
+    let _sets = sets;
+    let info = debug_section(file, image, b".debug_info".as_slice());
+    let abbrev = debug_section(file, image, b".debug_abbrev".as_slice());
+    let ranges = debug_section(file, image, b".debug_rnglists".as_slice());
+    read_lists(alloc, parts, info.bytes, abbrev.bytes, ranges.origin, reach)
+}
+
 /// A valid file with what is read of it: its image, the headers of its line number programs, its units with the abbreviation
-/// tables that they name and the contexts of their lists, and its sets of address ranges. It borrows the bytes of the file.
+/// tables that they name and the contexts of their lists, its range lists, and its sets of address ranges. It borrows the bytes of
+/// the file.
 #[derive(Drop)]
 pub struct World<'a> {
     image: Image<'a>,
     parts: Parts<'a>,
+    lists: Vec<ListRead>,
     sets: Vec<ArangeSet>,
 }
 
 impl<'a> Model for World<'a> {
-    ghost use Rattle.value_links.specs.World.{World, IsWorldOf};
-    ghost use Rattle.dw_base.specs.declared.fault.Reach.{Reach};
+    ghost use Rattle.value_links.specs.World.{World};
+    ghost use Rattle.value_links.specs.inside.World.{IsHeldIn};
 
     ghost Value = { World };
 
-    ghost view = { λ w. record { image = w.image; programs = w.parts.programs.items; units = w.parts.units.units.items; tables = w.parts.units.tables.items; table_of = w.parts.units.table_of.items; contexts = w.parts.contexts.items; sets = w.sets.items } };
+    ghost view = { λ w. record { image = w.image; programs = w.parts.programs.items; units = w.parts.units.units.items; tables = w.parts.units.tables.items; table_of = w.parts.units.table_of.items; contexts = w.parts.contexts.items; contributions = w.parts.ranges.parts.items; lists = w.lists.items; sets = w.sets.items } };
 
-    ghost invariant = { λ w. (reach : Reach) × IsWorldOf w.image reach (record { image = w.image; programs = w.parts.programs.items; units = w.parts.units.units.items; tables = w.parts.units.tables.items; table_of = w.parts.units.table_of.items; contexts = w.parts.contexts.items; sets = w.sets.items }) };
+    ghost invariant = { λ w. IsHeldIn w.image w.parts (record { image = w.image; programs = w.parts.programs.items; units = w.parts.units.units.items; tables = w.parts.units.tables.items; table_of = w.parts.units.table_of.items; contexts = w.parts.contexts.items; contributions = w.parts.ranges.parts.items; lists = w.lists.items; sets = w.sets.items }) };
 }
 
 impl<'a> World<'a> {
@@ -151,9 +266,17 @@ impl<'a> World<'a> {
     {
         let image = read_image(alloc, file, reach)?;
         let programs = read_programs(alloc, file, &image)?;
-        let parts = read_linked(alloc, file, &image, programs)?;
+        let AddrTables { tables, fault } = read_addresses(alloc, file, &image)?;
+        let parts = read_parts(alloc, file, &image, programs, tables)?;
+        check_parts(file, &image, &parts, fault)?;
         let sets = read_sets(alloc, file, &image, &parts)?;
-        Ok(World { image, parts, sets })
+        let lists = read_named_lists(alloc, file, &image, &parts, &sets, reach)?;
+        Ok(World {
+            image,
+            parts,
+            lists,
+            sets,
+        })
     }
 
     /// The image of the file.
@@ -206,6 +329,49 @@ impl<'a> World<'a> {
         &self.parts.units.tables[self.parts.units.table_of[unit as usize] as usize].table
     }
 
+    /// The contributions to the section of lists of a kind, in their order. No location lists are read yet.
+    pub fn contributions(&self, kind: ListKind) -> &[Contribution]
+        ensures { result.now ≡ contributions_held self.now kind }
+    {
+        match kind {
+            ListKind::Ranges => &self.parts.ranges.parts,
+            ListKind::Locations => &[],
+        }
+    }
+
+    // The lists of a kind, by rising place.
+    fn lists_by_place(&self, kind: ListKind) -> &[ListRead]
+        ensures lists { result.now ≡ lists_held self.now kind }
+        ensures rising { AreListsApart result.now }
+    {
+        match kind {
+            ListKind::Ranges => &self.lists,
+            ListKind::Locations => &[],
+        }
+    }
+
+    /// The lists of a kind that something names, each once, by rising place. No location lists are read yet.
+    pub fn lists(&self, kind: ListKind) -> &[ListRead]
+        ensures { result.now ≡ lists_held self.now kind }
+    {
+        self.lists_by_place(kind)
+    }
+
+    /// Whether the list of a kind that begins at a place is frozen: a start or an end in it is a sum of 2^64 or more, units with
+    /// different contexts name it, no unit does, or it has more than 16,384 items. The place is to be that of a list that something
+    /// names. It takes no memory.
+    pub fn is_frozen(&self, kind: ListKind, at: u64) -> bool
+        requires { (list : AnyList) × Contains (lists_held self.now kind) list × (list.at ≡ at) }
+        ensures { (file : List ℕ) (r : Reading) (list : AnyRead) → Holds file self.now r → Contains (lists_of r kind) list → list.at ≡ at → IsTrue result ↔ IsFrozen r.links kind list }
+    {
+        let lists = self.lists_by_place(kind);
+        match lists.binary_search_by_key(&at, |list| list.at) {
+            Ok(number) => matches!(lists[number].meaning, Meaning::Dead),
+            // A list begins there.
+            Err(_) => unreachable!(),
+        }
+    }
+
     /// The sets of address ranges of .debug_aranges, in their order.
     pub fn aranges(&self) -> &Vec<ArangeSet>
         ensures { result.now.items ≡ self.now.sets }
@@ -214,7 +380,8 @@ impl<'a> World<'a> {
     }
 
     /// What a value refers to that stands in the unit with this number, counted from 0, as the value of an attribute of this
-    /// name (DWARF 5 sections 7.5.4 and 7.5.5), or None exactly where it names nothing that it may name. It takes no memory.
+    /// name (DWARF 5 sections 7.5.4 and 7.5.5), or None exactly where it names nothing that it may name. An index of a list refers
+    /// to its slot; `link` says which list the slot names. It takes no memory.
     pub fn resolve(&self, unit: u32, name: u64, value: &Value) -> Option<Link>
         requires { unit < length self.now.units }
         ensures { (file : List ℕ) (r : Reading) (id : ℕ) → Holds file self.now r → IsLinkFound r.links unit id name (meant_in (unit_at r.links unit).forest.section value.now) result }
@@ -233,9 +400,24 @@ impl<'a> World<'a> {
         self.parts.units.units[unit as usize].forest()
     }
 
+    // What a value with this link refers to: a list, where the link tells a slot.
+    fn followed(&self, link: Link) -> Link
+        requires { (file : List ℕ) × (r : Reading) × (to : AnyLink) × Holds file self.now r × IsFollowed r.links link to }
+        ensures { (file : List ℕ) (r : Reading) → Holds file self.now r → IsFollowed r.links link result }
+    {
+        match link {
+            Link::Slot(kind, part, slot) => Link::List(
+                kind,
+                told_by(&self.parts.ranges, part, slot),
+            ),
+            _ => link,
+        }
+    }
+
     /// What the value with a number refers to, counted from 0 over the values of all entries of the unit with a number, which is
     /// counted from 0 too (DWARF 5 sections 7.5.4 and 7.5.5). Each value of a valid file means something, so that there is no
-    /// error. The entry that has the value is searched for. It takes no memory.
+    /// error. An index of a list refers to the list that its slot names. The entry that has the value is searched for. It takes no
+    /// memory.
     pub fn link(&self, unit: u32, value: u32) -> Link
         requires unit { unit < length self.now.units }
         requires value { value < length (held_at self.now.units unit).forest.values }
@@ -245,7 +427,7 @@ impl<'a> World<'a> {
         let id = owner_of(forest, value);
         let name = attribute_name(forest, self.table(unit), id, value);
         match self.resolve(unit, name, &forest.value(value)) {
-            Some(link) => link,
+            Some(link) => self.followed(link),
             // Each value means something.
             None => unreachable!(),
         }
@@ -256,9 +438,7 @@ impl<'a> World<'a> {
     /// base is the address of the root's first DW_AT_low_pc of form DW_FORM_addr or a form of addrx, which is looked up in this
     /// table, or 0 where the root has none.
     ///
-    /// Address tables aren't checked when a file is read. So the table is None where the root has no such DW_AT_addr_base, where
-    /// it names no table, and where the named table or one before it has a fault; and the base is 0 where there is no table for
-    /// the number of an address, or no address with this number in it. It takes no memory.
+    /// The table is None where the root has no such DW_AT_addr_base. It takes no memory.
     pub fn context(&self, unit: u32) -> Context
         requires { unit < length self.now.units }
         ensures { (file : List ℕ) (r : Reading) → Holds file self.now r → result ≡ context_at r.links unit }

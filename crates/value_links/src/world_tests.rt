@@ -1,15 +1,20 @@
 // A small file by hand, what is held of it, and files that differ from it in a few bytes and are refused.
+ghost use Rattle.std.specs.Prelude.{◌<◌, length};
+ghost use Rattle.list_model.specs.declared.entry.ListKind.TheVariants.{Ranges};
+ghost use Rattle.value_links.specs.World.{lists_held};
+
 use crate::{Link, World};
 use dw_base::{Fault, Kind, Reach, Refusal};
 use entry_arena::Target;
 use form_codec::Value;
+use list_model::{Contribution, ListKind, Meaning};
 use std::alloc::{AllocError, Global};
 use std::process::Abort;
 use std::test::Fail;
 
 // An executable with .debug_abbrev at 64, .debug_info at 72, .debug_line at 89, .debug_aranges at 142 and .shstrtab at 174. The
 // one unit is a root with DW_AT_stmt_list, and the one set of address ranges names it. The headers of sections stand from
-// 256 on; at 54 of .shstrtab stands a name that no section has, .debug_rnglists.
+// 256 on; at 54 of .shstrtab, which is 228 in the file, stands a name that no section has, .debug_rnglists.
 const FILE: [u8; 640] = [
     0x7f, 0x45, 0x4c, 0x46, 2, 1, 1, 0, 0, 0, 0, 0, 0, 0, 0, 0, 2, 0, 0x3e, 0, 1, 0, 0, 0, 0, 0, 0,
     0, 0, 0, 0, 0, 0, 0, 0, 0, 0, 0, 0, 0, 0, 1, 0, 0, 0, 0, 0, 0, 0, 0, 0, 0, 0x40, 0, 0, 0, 0, 0,
@@ -149,23 +154,193 @@ fn links_by_number(rt: HostRuntime) -> Result<(), Fail> {
     Ok(())
 }
 
+// Abbreviations behind the file: 1 is a root with children, DW_AT_low_pc in the form addr and DW_AT_rnglists_base; 2 has DW_AT_ranges
+// in the form rnglistx, and 3 in the form sec_offset.
+const RANGES_TABLE: [u8; 24] = [
+    1, 0x11, 1, 0x11, 1, 0x74, 0x17, 0, 0, 2, 0x0b, 0, 0x55, 0x23, 0, 0, 3, 0x0b, 0, 0x55, 0x17, 0,
+    0, 0,
+];
+
+// A unit behind them. Its root, at 12, has the base 0x1000 and names the contribution; its children, at 25 and 27, name the list of
+// slot 0 and the list at 35.
+const RANGES_UNIT: [u8; 33] = [
+    0x1d, 0, 0, 0, 5, 0, 1, 8, 0, 0, 0, 0, 1, 0, 0x10, 0, 0, 0, 0, 0, 0, 12, 0, 0, 0, 2, 0, 3, 35,
+    0, 0, 0, 0,
+];
+
+// A contribution behind it with two slots, at 12 and 16, which name the lists at 20 and 24: 16 bytes from 0x10 behind the base, and 16
+// bytes from 0x2000. The last list, at 35, is 8 bytes from the base.
+const RANGES: [u8; 39] = [
+    0x23, 0, 0, 0, 5, 0, 8, 0, 2, 0, 0, 0, 8, 0, 0, 0, 12, 0, 0, 0, 4, 0x10, 0x20, 0, 7, 0, 0x20,
+    0, 0, 0, 0, 0, 0, 0x10, 0, 4, 0, 8, 0,
+];
+
+// Where the unit and the contribution stand in the file with these.
+const RANGES_UNIT_AT: usize = 664;
+
+const RANGES_AT: usize = 697;
+
+// The file with these, where its headers have their places and sizes, and with other bytes at some places. .debug_aranges is
+// .debug_rnglists.
+fn with_ranges(alloc: Global, changes: &[(usize, u8)]) -> Result<Vec<u8>, AllocError> {
+    let places = [
+        (344, 0x80),
+        (345, 2),
+        (352, 24),
+        (408, 0x98),
+        (409, 2),
+        (416, 33),
+        (512, 54),
+        (536, 0xb9),
+        (537, 2),
+        (544, 39),
+    ];
+    let mut file = extended(alloc, &places, &[&RANGES_TABLE, &RANGES_UNIT, &RANGES])?;
+    for (at, byte) in changes {
+        for old in file.iter_mut().skip(*at).take(1) {
+            *old = *byte;
+        }
+    }
+    Ok(file)
+}
+
+// Whether the range list with a number is frozen.
+fn is_list_frozen(world: &World<'_>, number: usize) -> bool
+    requires { number < length (lists_held world.now Ranges) }
+{
+    let at = world.lists(ListKind::Ranges)[number].at;
+    world.is_frozen(ListKind::Ranges, at)
+}
+
+// The place of each list, its owner, how many entries it has, and whether it is frozen.
+#[test]
+fn range_lists_are_held(rt: HostRuntime) -> Result<(), Fail> {
+    let alloc = rt.alloc();
+    let file = with_ranges(alloc, &[])?;
+    let world = World::read(alloc, &file, Reach::Narrow)
+        .ok()
+        .ok_or("refused")?;
+    let part = Contribution {
+        at: 0,
+        len: 39,
+        slots: 2,
+    };
+    assert_eq!(rt; world.contributions(ListKind::Ranges), &[part][..]);
+    assert!(rt; world.contributions(ListKind::Locations).is_empty());
+    assert!(rt; world.lists(ListKind::Locations).is_empty());
+    let rows = [
+        (20, Some(0), 1, false),
+        (24, None, 1, true),
+        (35, Some(0), 1, false),
+    ];
+    let lists = world.lists(ListKind::Ranges);
+    assert_eq!(rt; lists.len(), rows.len());
+    for (list, row) in lists.iter().zip(rows.iter()) {
+        let frozen = matches!(list.meaning, Meaning::Dead);
+        assert_eq!(rt; (list.at, list.owner, list.raw.len(), frozen), *row);
+    }
+    if lists.len() == 3 {
+        assert!(rt; !is_list_frozen(&world, 0));
+        assert!(rt; is_list_frozen(&world, 1));
+        assert!(rt; !is_list_frozen(&world, 2));
+    }
+    Ok(())
+}
+
+// The number of a value of the unit, and what it refers to.
+#[test]
+fn values_name_range_lists(rt: HostRuntime) -> Result<(), Fail> {
+    let alloc = rt.alloc();
+    let file = with_ranges(alloc, &[])?;
+    let world = World::read(alloc, &file, Reach::Narrow)
+        .ok()
+        .ok_or("refused")?;
+    let rows = [
+        (0, Link::Plain),
+        (1, Link::Base(ListKind::Ranges, 0)),
+        (2, Link::List(ListKind::Ranges, 20)),
+        (3, Link::List(ListKind::Ranges, 35)),
+    ];
+    if world.units().len() == 1 {
+        for (value, link) in rows.iter() {
+            if *value < world.units()[0].forest().value_count() {
+                assert_eq!(rt; world.link(0, *value), *link);
+            } else {
+                Err("fewer values")?;
+            }
+        }
+        let slot = world.resolve(0, 0x55, &Value::RangeIndex(1));
+        assert!(rt; slot == Some(Link::Slot(ListKind::Ranges, 0, 1)));
+        assert!(rt; world.resolve(0, 0x55, &Value::RangeIndex(2)) == None);
+        assert!(rt; world.context(0).base == 0x1000);
+    } else {
+        Err("another count of units")?;
+    }
+    Ok(())
+}
+
+// Faults of range lists, of what names them, and of which of these is named.
+#[test]
+fn refused_range_lists(rt: HostRuntime) -> Result<(), Fail> {
+    let alloc = rt.alloc();
+    let version = (RANGES_AT + 4, 4);
+    let slot = (RANGES_AT + 16, 200);
+    let code = (RANGES_AT + 20, 9);
+    let no_end = (RANGES_AT + 38, 1);
+    let base = (RANGES_UNIT_AT + 21, 13);
+    let index = (RANGES_UNIT_AT + 26, 2);
+    let place = (RANGES_UNIT_AT + 28, 39);
+    let rows: [(&[(usize, u8)], Kind, usize); 10] = [
+        (&[version], Kind::ListEntry, RANGES_AT),
+        (&[base], Kind::Pointer, RANGES_UNIT_AT + 21),
+        (&[index], Kind::Pointer, RANGES_UNIT_AT + 26),
+        (&[place], Kind::Pointer, RANGES_UNIT_AT + 28),
+        (&[slot], Kind::Pointer, RANGES_AT + 16),
+        (&[code], Kind::ListEntry, RANGES_AT + 20),
+        (&[no_end], Kind::Short, RANGES_AT + 39),
+        (&[index, version], Kind::ListEntry, RANGES_AT),
+        (&[slot, place], Kind::Pointer, RANGES_UNIT_AT + 28),
+        (&[code, index], Kind::Pointer, RANGES_UNIT_AT + 26),
+    ];
+    for (changes, kind, place) in rows.iter() {
+        let file = with_ranges(alloc, changes)?;
+        let fault = fault_of(alloc, &file)?;
+        assert!(rt;
+            fault
+                == Some(Fault {
+                    kind: *kind,
+                    place: *place as u64
+                })
+        );
+    }
+    Ok(())
+}
+
 // Of several faults the one in the first pass is named.
 #[test]
 fn the_first_pass_with_a_fault_decides(rt: HostRuntime) -> Result<(), Fail> {
     let alloc = rt.alloc();
-    let list_name = (512, 54);
+    // .debug_loclists in place of .debug_aranges
+    let list_name: [(usize, u8); 4] = [(512, 54), (235, 0x6c), (236, 0x6f), (237, 0x63)];
     let program_version = (93, 4);
+    let with_version = [
+        program_version,
+        list_name[0],
+        list_name[1],
+        list_name[2],
+        list_name[3],
+    ];
     let table_place = (80, 8);
     let program_place = (85, 1);
     let set_version = (146, 3);
     let rows: [(&[(usize, u8)], Kind, u64); 9] = [
         (&[(0, 0)], Kind::NotElf64, 0),
-        (&[list_name], Kind::Unbuilt, 142),
+        (&list_name, Kind::Unbuilt, 142),
         (&[program_version], Kind::LineHead, 89),
         (&[table_place], Kind::Pointer, 72),
         (&[program_place], Kind::Pointer, 85),
         (&[set_version], Kind::Aranges, 142),
-        (&[program_version, list_name], Kind::Unbuilt, 142),
+        (&with_version, Kind::Unbuilt, 142),
         (&[table_place, program_version], Kind::LineHead, 89),
         (&[set_version, table_place], Kind::Pointer, 72),
     ];

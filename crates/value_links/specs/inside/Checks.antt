@@ -1,5 +1,5 @@
 -- What the parts of the check of all values give.
-use Rattle.std.specs.Prelude.{◌≡◌, ◌≢◌, ◌<◌, ◌+◌, ℕ, List, ◌∷◌, length, drop, slice_index, slice_index_or, Option, Some, None, Bool, true, false}
+use Rattle.std.specs.Prelude.{◌≡◌, ◌≢◌, ◌<◌, ◌+◌, ℕ, List, [], ◌∷◌, length, take, drop, filter, slice_index, slice_index_or, Option, Some, None, Bool, true, false}
 use Rattle.dw_base.specs.declared.fault.Kind.{Kind}
 use Rattle.dw_base.specs.declared.fault.Kind.TheVariants.{Target as NoTarget, Pointer, NoBase}
 use Rattle.dw_base.specs.declared.fault.Fault.{Fault}
@@ -11,21 +11,23 @@ use Rattle.form_codec.specs.Forms.Meaning.{SectionPlace}
 use Rattle.form_codec.specs.Values.{meant_in}
 use Rattle.abbrev_tables.specs.Tables.{Declared}
 use Rattle.abbrev_tables.specs.Listings.{Listing, spec_at}
+use Rattle.entry_arena.specs.declared.entry.Entry.{Entry}
 use Rattle.entry_arena.specs.Arena.{Arena, entry_at, value_at, IsEntryAt}
 use Rattle.entry_arena.specs.Forests.{described_by}
+use Rattle.entry_arena.specs.Trees.{declared_at}
 use Rattle.entry_read.specs.Heads.{type_unit, IsHead}
 use Rattle.entry_read.specs.Units.{HeadAndForest, declarations_of, IsTable, IsUnitHeld}
 use Rattle.value_links.specs.declared.units.Units.{Units}
 use Rattle.value_links.specs.declared.parts.Parts.{Parts}
-use Rattle.value_links.specs.Attributes.{rnglists_base, loclists_base}
+use Rattle.value_links.specs.Attributes.{rnglists_base, loclists_base, addr_base}
 use Rattle.list_model.specs.declared.context.Context.{Context}
 use Rattle.value_links.specs.Reading.{Linkable, unit_at, no_context}
-use Rattle.value_links.specs.Contexts.{IsContext}
+use Rattle.value_links.specs.Contexts.{is_low_pc, IsContext}
 use Rattle.value_links.specs.Values.{entry_of, declaration_of, IsFirstBase}
 use Rattle.value_links.specs.World.{table_at}
 use Rattle.value_links.specs.Links.{held_at}
-use Rattle.value_links.specs.Linked.{Linked, Links, IsTypeEntry}
-use Rattle.value_links.specs.Faults.{IsUnread, FaultValue, FaultInUnit}
+use Rattle.value_links.specs.Linked.{Linked, Links, IsTypeEntry, IsFirstLow, HasAddress}
+use Rattle.value_links.specs.LinkFaults.{IsUnread, FaultValue, FaultInUnit}
 use Rattle.value_links.specs.Parts.{AreUnitsHeld, HoldsParts}
 
 -- WHAT IS HELD
@@ -37,6 +39,10 @@ AreSomeUnits held = (info : List ℕ) × (abbrevs : List ℕ) × AreUnitsHeld in
 -- the table of the unit with a number
 abbrev pub table_held : Units → ℕ → Listing
 table_held held u = (table_at held.tables.items (slice_index held.table_of.items u)).table
+
+-- the name of the attribute of an entry that has this number
+abbrev pub name_at : List Declared → Entry → ℕ → ℕ
+name_at ds entry column = (spec_at (declared_at ds entry.decl).columns column).name
 
 -- a unit of its section, with the table by which it was read
 pub record IsUnitWithTable (unit : HeadAndForest) (t : Listing) : Type 0 where
@@ -53,11 +59,32 @@ pub record AreContextsHeld (addresses : List ℕ) (held : Units) (contexts : Lis
   pub count : length contexts ≡ length held.units.items
   pub each : (u : ℕ) → u < length held.units.items → IsContext addresses (root_attributes (held_at held.units.items u).forest (declarations_of (table_held held u))) (slice_index_or contexts u no_context)
 
--- VALUES THAT AREN'T LINKED
-
 -- the attribute with a number is this
 abbrev pub IsAttributeAt : List (ℕ × Meaning) → ℕ → ℕ × Meaning → Type 0
 IsAttributeAt attributes i attribute = drop i attributes ≡ attribute ∷ drop (i + 1) attributes
+
+-- the attribute with a number is the first that is an address, or the number of one, of a DW_AT_low_pc
+pub record IsFirstLowIn (attributes : List (ℕ × Meaning)) (i : ℕ) : Type 0 where
+  pub attribute : ℕ × Meaning
+  pub is : is_low_pc attribute ≡ true
+  pub stands : IsAttributeAt attributes i attribute
+  pub first : filter is_low_pc (take i attributes) ≡ []
+
+-- an attribute with a name and a value is a DW_AT_addr_base that is a section offset
+abbrev pub IsAddrBase : ℕ → Value → Type 0
+IsAddrBase name (value.Offset n) = name ≡ addr_base
+IsAddrBase name v = ⊥
+
+-- an entry of a unit has one
+abbrev pub HasAddrBaseIn : HeadAndForest → Listing → ℕ → Type 0
+HasAddrBaseIn unit t id =
+    (column : ℕ) × (column < (entry_at unit.forest.entries id).count) × IsAddrBase (name_at (declarations_of t) (entry_at unit.forest.entries id) column) (value_at unit.forest.values ((entry_at unit.forest.entries id).first + column))
+
+-- some entry has one
+abbrev pub HasSomeAddrBase : HeadAndForest → Listing → Type 0
+HasSomeAddrBase unit t = (id : ℕ) × (id < length unit.forest.entries) × HasAddrBaseIn unit t id
+
+-- VALUES THAT AREN'T LINKED
 
 -- what an attribute gives as a base of a name: a section offset, where it has the name
 abbrev pub IsBaseIn : ℕ × Meaning → ℕ → Option ℕ → Type 0
@@ -115,10 +142,11 @@ AreColumnsLinked r u id n = (column : ℕ) → column < n → IsColumnLinked r u
 abbrev pub AreEntriesLinked : Linkable → ℕ → ℕ → Type 0
 AreEntriesLinked r u n = (id : ℕ) → id < n → AreColumnsLinked r u id (entry_of (unit_at r u) id).count
 
--- all values of a unit do, and a type unit has the entry of its type
+-- all values of a unit do, a type unit has the entry of its type, and the number of a first base is looked up
 pub record IsUnitLinked (r : Linkable) (u : ℕ) : Type 0 where
   pub entries : AreEntriesLinked r u (length (unit_at r u).forest.entries)
   pub typed : (unit_at r u).head.kind ≡ type_unit → (id : ℕ) × IsTypeEntry r u id
+  pub based : (i place : ℕ) → IsFirstLow r u i place → HasAddress r u i
 
 -- this holds of all that is read of which these are the parts
 abbrev pub InEach : Parts → (Linkable → Type 0) → Type 0

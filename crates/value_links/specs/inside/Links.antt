@@ -1,15 +1,13 @@
 -- What a link says of a value, and where it is looked up in what is held.
 -- Inner functions and proofs alone need what stands here.
-use Rattle.std.specs.Prelude.{◌≡◌, ◌≢◌, ◌≤◌, ◌<◌, ◌+◌, ◌^◌, ℕ, List, length, slice_index_or, Option, Some, None}
+use Rattle.std.specs.Prelude.{◌≤◌, ◌<◌, ◌+◌, ◌^◌, ℕ, List, [], length, slice_index_or, Option, Some, None}
 use Rattle.line_machine.specs.declared.head.Head.{Head}
 use Rattle.entry_arena.specs.declared.entry.Target.{Target}
 use Rattle.entry_arena.specs.Arena.{Arena}
 use Rattle.entry_arena.specs.Order.{IsInOrder}
 use Rattle.entry_read.specs.Units.{HeadAndForest}
 use Rattle.value_links.specs.declared.link.Link.{Link}
-use Rattle.value_links.specs.declared.link.Link.TheVariants.{Place, Lines, Kept as KeptPlace}
-use Rattle.value_links.specs.Attributes.{OffsetClass}
-use Rattle.value_links.specs.Attributes.OffsetClass.{LinePtr, AddrPtr, StrOffsetsPtr, MacPtr}
+use Rattle.value_links.specs.declared.link.Link.TheVariants.{Place}
 use Rattle.value_links.specs.Reading.{no_program}
 use Rattle.value_links.specs.Linked.{IsTargetAt}
 use Rattle.value_links.specs.Links.{held_at}
@@ -35,10 +33,14 @@ pub record AreProgramsApart (programs : List Head) : Type 0 where
 
 -- WHAT IS FOUND
 
--- the last unit that begins at a place or before it
+-- the last of some things that begins at a place or before it
+abbrev pub IsLastOf : {X : Type 0} → (X → ℕ) → X → List X → ℕ → Option ℕ → Type 0
+IsLastOf at d xs place (Some i) = (i < length xs) × (at (slice_index_or xs i d) ≤ place) × ((j : ℕ) → i < j → j < length xs → place < at (slice_index_or xs j d))
+IsLastOf at d xs place None = (j : ℕ) → j < length xs → place < at (slice_index_or xs j d)
+
+-- the last unit that does
 abbrev pub IsLastFrom : List HeadAndForest → ℕ → Option ℕ → Type 0
-IsLastFrom units place (Some i) = (i < length units) × ((held_at units i).head.at ≤ place) × ((j : ℕ) → i < j → j < length units → place < (held_at units j).head.at)
-IsLastFrom units place None = (j : ℕ) → j < length units → place < (held_at units j).head.at
+IsLastFrom units place found = IsLastOf (λ (u : HeadAndForest). u.head.at) (held_at [] 0) units place found
 
 -- what stands at a place of a unit
 abbrev pub IsTargetFound : Arena → ℕ → Option Target → Type 0
@@ -50,13 +52,3 @@ abbrev pub IsSectionTargetFound : List HeadAndForest → ℕ → Option Link →
 IsSectionTargetFound units place (Some (Place unit target)) = (unit < length units) × IsTargetAt (held_at units unit).forest target place
 IsSectionTargetFound units place (Some link) = ⊥
 IsSectionTargetFound units place None = (unit : ℕ) (target : Target) → unit < length units → IsTargetAt (held_at units unit).forest target place → ⊥
-
--- what a section offset of a class names
-abbrev pub IsOffsetFound : List Head → OffsetClass → ℕ → Option Link → Type 0
-IsOffsetFound programs LinePtr n (Some (Lines p)) = (p < length programs) × ((program_among programs p).at ≡ n)
-IsOffsetFound programs LinePtr n (Some link) = ⊥
-IsOffsetFound programs LinePtr n None = (p : ℕ) → p < length programs → (program_among programs p).at ≢ n
-IsOffsetFound programs AddrPtr n found = found ≡ Some (KeptPlace n)
-IsOffsetFound programs StrOffsetsPtr n found = found ≡ Some (KeptPlace n)
-IsOffsetFound programs MacPtr n found = found ≡ Some (KeptPlace n)
-IsOffsetFound programs class n found = found ≡ None

@@ -5,21 +5,31 @@ use Rattle.dw_base.specs.declared.fault.Refusal.{Refusal}
 use Rattle.entry_read.specs.Units.{HeadAndForest}
 use Rattle.value_links.specs.declared.parts.Parts.{Parts}
 use Rattle.value_links.specs.Reading.{Linkable}
+use Rattle.value_links.specs.Whole.{AreRootsRead}
 use Rattle.value_links.specs.Faults.{NamesFault}
-use Rattle.value_links.specs.Parts.{HoldsParts, AreLinked}
+use Rattle.value_links.specs.Laws.{AreLinked}
+use Rattle.value_links.specs.Parts.{HoldsParts}
 use Rattle.value_links.specs.Laws.{HaveFewRows, AreBuilt, IsImageInOrder}
 
 -- where units begin
 abbrev pub starts_of : List HeadAndForest → List ℕ
 starts_of units = map (λ (u : HeadAndForest). u.head.at) units
 
--- These parts are what is read of the file up to links, and all that the values of the units refer to is there.
+-- These parts are what is read of the file up to links, as far as the passes before it look.
+pub record ArePartsRead (file : List ℕ) (parts : Parts) : Type 0 where
+  pub r : Linkable
+  pub holds : HoldsParts file r parts
+  pub few : HaveFewRows r.programs
+  pub built : AreBuilt r.units
+
+-- And all that the values of the units refer to is there, with the first bases and the address tables.
 pub record ArePartsInOrder (file : List ℕ) (parts : Parts) : Type 0 where
   pub r : Linkable
   pub holds : HoldsParts file r parts
   pub few : HaveFewRows r.programs
   pub built : AreBuilt r.units
   pub linked : AreLinked r
+  pub roots : AreRootsRead r
 
 -- the refusal names a fault of the file, where its image is in order within the limits
 abbrev pub NamesLaterFault : List ℕ → Reach → Refusal → Type 0

@@ -4,7 +4,7 @@ use Rattle.value_links.specs.Reading.{Linkable}
 use Rattle.value_links.specs.Parts.{HoldsParts}
 use Rattle.value_links.specs.inside.Checks.{IsUnitLinked}
 use Rattle.value_links.proofs.TabledUnits.{some_few, some_section}
-use Rattle.value_links.proofs.PartValues.{known_unit, all_linked}
+use Rattle.value_links.proofs.PartValues.{known_unit, all_linked, all_based}
 use Rattle.value_links.proofs.check.check_links.Goals as goal
 
 pub overflow_cast-number-end : goal.overflow_cast-number-end
@@ -39,3 +39,8 @@ pub returns-clause-linked : goal.returns-clause-linked
 returns-clause-linked c = λ (file : List ℕ) (r : Linkable) (holds : HoldsParts file r c.args.parts.now).
     let all : c.loop-number.number ≡ length c.args.parts.now.units.units.items = omega (arith, c.len-number-end.ensures, c.loop-number-test.false, c.loop-number.auto.number-end) in
     all_linked file r c.args.parts.now holds c.loop-number.number all (c.loop-number.invariant file r holds)
+
+pub returns-clause-based : goal.returns-clause-based
+returns-clause-based c = λ (file : List ℕ) (r : Linkable) (holds : HoldsParts file r c.args.parts.now).
+    let all : c.loop-number.number ≡ length c.args.parts.now.units.units.items = omega (arith, c.len-number-end.ensures, c.loop-number-test.false, c.loop-number.auto.number-end) in
+    all_based file r c.args.parts.now holds c.loop-number.number all (c.loop-number.invariant file r holds)

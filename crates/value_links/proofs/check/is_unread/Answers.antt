@@ -5,7 +5,7 @@ use Rattle.form_codec.specs.declared.value.Value.{Value}
 use Rattle.form_codec.specs.Forms.Meaning.{Expression}
 use Rattle.form_codec.specs.Values.{meant_in, bytes_in}
 use Rattle.value_links.specs.Attributes.{is_among}
-use Rattle.value_links.specs.Faults.{unread_opcodes, IsUnread}
+use Rattle.value_links.specs.LinkFaults.{unread_opcodes, IsUnread}
 use Rattle.value_links.proofs.Causes.{unread_is}
 use Rattle.value_links.proofs.check.is_unread.Goals as goal
 

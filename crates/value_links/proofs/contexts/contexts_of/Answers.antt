@@ -25,7 +25,7 @@ loop-number-preserved c =
     let context = c.context_of.result in
     let by_unit = subst (λ (z : HeadAndForest). IsContext addr (root_attributes z.forest (declarations_of c.table_of.result.now)) context) c.unit_of-unit.ensures c.context_of.ensures in
     let here = subst (λ (z : Listing). IsContext addr (root_attributes (held_at held.units.items number).forest (declarations_of z)) context) c.table_of.ensures.table by_unit in
-    let more = one_more (λ u context. IsContext addr (root_attributes (held_at held.units.items u).forest (declarations_of (table_held held u))) context) contexts context number c.loop-number.invariant.counted c.loop-number.invariant.each here in
+    let more = one_more (λ u context. IsContext addr (root_attributes (held_at held.units.items u).forest (declarations_of (table_held held u))) context) no_context contexts context number c.loop-number.invariant.counted c.loop-number.invariant.each here in
     record {
       counted = omega (arith, ap length c.in_ok-push.ensures.items, length-append contexts (context ∷ []), c.loop-number.invariant.counted);
       each = subst (λ (cs : List Context). (u : ℕ) → u < number + 1 → IsContext addr (root_attributes (held_at held.units.items u).forest (declarations_of (table_held held u))) (get_or cs u no_context)) (sym c.in_ok-push.ensures.items) more;

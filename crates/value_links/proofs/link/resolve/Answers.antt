@@ -1,6 +1,5 @@
 use Rattle.std.proofs.Common.{◌≢◌, ℕ, List, sym, subst, refl}
 use Rattle.std.specs.Prelude.{Option, Some, None}
-use Rattle.line_machine.specs.declared.head.Head.{Head}
 use Rattle.form_codec.specs.declared.value.Value.{Value}
 use Rattle.form_codec.specs.declared.value.Value.TheVariants as value
 use Rattle.form_codec.specs.Values.{meant_in}
@@ -8,13 +7,12 @@ use Rattle.form_codec.specs.Forms.Meaning.{InUnit}
 use Rattle.entry_read.specs.Units.{HeadAndForest}
 use Rattle.value_links.specs.declared.link.Link.{Link}
 use Rattle.value_links.specs.declared.link.Link.TheVariants.{Plain, Place}
-use Rattle.value_links.specs.Attributes.{offset_class}
 use Rattle.value_links.specs.Reading.{Linkable, unit_at}
 use Rattle.value_links.specs.Linked.Linked.{Itself}
 use Rattle.value_links.specs.Parts.{HoldsParts}
 use Rattle.value_links.specs.Links.{IsLinkFound}
-use Rattle.value_links.specs.inside.Links.{IsSectionTargetFound, IsOffsetFound, AreUnitsApart, AreProgramsApart}
-use Rattle.value_links.proofs.LinkedValues.{parts_apart, heads_apart, section_place_link, section_link, local_answer, local_link, no_local_link}
+use Rattle.value_links.specs.inside.Links.{IsSectionTargetFound, AreUnitsApart}
+use Rattle.value_links.proofs.LinkedValues.{parts_apart, section_link, local_answer, local_link, no_local_link}
 use Rattle.value_links.proofs.link.resolve.Goals as goal
 
 pub returns-in_err-target-in-LocalRef : goal.returns-in_err-target-in-LocalRef
@@ -22,8 +20,8 @@ returns-in_err-target-in-LocalRef c = λ (file : List ℕ) (r : Linkable) (id : 
     let parts = c.args.parts.now in
     let section = (unit_at r c.args.unit).forest.section in
     let n = c.in-LocalRef.offset in
-    let found = local_answer file r parts holds c.args.unit id c.requires c.unit_of.result.now n None c.unit_of.ensures c.in_err-target-in-LocalRef.ensures in
-    let none : IsLinkFound r c.args.unit id c.args.name (InUnit n) None = no_local_link file r parts holds c.args.unit id c.requires c.args.name n found in
+    let found = local_answer file r parts holds c.args.unit id c.requires.unit c.unit_of.result.now n None c.unit_of.ensures c.in_err-target-in-LocalRef.ensures in
+    let none : IsLinkFound r c.args.unit id c.args.name (InUnit n) None = no_local_link file r parts holds c.args.unit id c.requires.unit c.args.name n found in
     subst (λ (z : Value). IsLinkFound r c.args.unit id c.args.name (meant_in section z) c.from_residual.result) (sym c.in-LocalRef.is)
     (subst (λ (z : Option Link). IsLinkFound r c.args.unit id c.args.name (InUnit n) z) (sym c.from_residual.ensures) none)
 
@@ -33,9 +31,9 @@ returns-in_ok-target-in-LocalRef c = λ (file : List ℕ) (r : Linkable) (id : �
     let section = (unit_at r c.args.unit).forest.section in
     let n = c.in-LocalRef.offset in
     let target = c.in_ok-target-in-LocalRef.target in
-    let found = local_answer file r parts holds c.args.unit id c.requires c.unit_of.result.now n (Some target) c.unit_of.ensures c.in_ok-target-in-LocalRef.ensures in
+    let found = local_answer file r parts holds c.args.unit id c.requires.unit c.unit_of.result.now n (Some target) c.unit_of.ensures c.in_ok-target-in-LocalRef.ensures in
     subst (λ (z : Value). IsLinkFound r c.args.unit id c.args.name (meant_in section z) (Some (Place c.args.unit target))) (sym c.in-LocalRef.is)
-    (local_link file r parts holds c.args.unit id c.requires c.args.name n target found)
+    (local_link file r parts holds c.args.unit id c.requires.unit c.args.name n target found)
 
 pub returns-in-SectionRef : goal.returns-in-SectionRef
 returns-in-SectionRef c = λ (file : List ℕ) (r : Linkable) (id : ℕ) (holds : HoldsParts file r c.args.parts.now).
@@ -47,11 +45,13 @@ returns-in-SectionRef c = λ (file : List ℕ) (r : Linkable) (id : ℕ) (holds 
 
 pub returns-in-Offset : goal.returns-in-Offset
 returns-in-Offset c = λ (file : List ℕ) (r : Linkable) (id : ℕ) (holds : HoldsParts file r c.args.parts.now).
-    let parts = c.args.parts.now in
     let section = (unit_at r c.args.unit).forest.section in
-    let found : IsOffsetFound parts.programs.items (offset_class c.args.name) c.in-Offset.place c.section_place.result =
-    subst (λ (z : List Head). IsOffsetFound z (offset_class c.args.name) c.in-Offset.place c.section_place.result) c.deref-in-Offset.ensures.value (c.section_place.ensures (subst AreProgramsApart (sym c.deref-in-Offset.ensures.value) (heads_apart file r parts holds))) in
-    subst (λ (z : Value). IsLinkFound r c.args.unit id c.args.name (meant_in section z) c.section_place.result) (sym c.in-Offset.is) (section_place_link file r parts holds c.args.unit id c.args.name c.in-Offset.place c.section_place.result found)
+    subst (λ (z : Value). IsLinkFound r c.args.unit id c.args.name (meant_in section z) c.section_place.result) (sym c.in-Offset.is) (c.section_place.ensures file r c.args.unit id holds)
+
+pub returns-in-RangeIndex : goal.returns-in-RangeIndex
+returns-in-RangeIndex c = λ (file : List ℕ) (r : Linkable) (id : ℕ) (holds : HoldsParts file r c.args.parts.now).
+    let section = (unit_at r c.args.unit).forest.section in
+    subst (λ (z : Value). IsLinkFound r c.args.unit id c.args.name (meant_in section z) c.range_slot.result) (sym c.in-RangeIndex.is) (c.range_slot.ensures file r holds)
 
 -- any other value is what it says
 itself : (r : Linkable) (u id name : ℕ) (section : List ℕ) (v : Value) → ((n : ℕ) → v ≢ value.LocalRef n) → ((n : ℕ) → v ≢ value.SectionRef n) → ((n : ℕ) → v ≢ value.Offset n) → ((i : ℕ) → v ≢ value.LocIndex i) → ((i : ℕ) → v ≢ value.RangeIndex i) → IsLinkFound r u id name (meant_in section v) (Some Plain)

@@ -1,8 +1,27 @@
+use Rattle.std.proofs.Common.{ℕ, List, length, sym, subst, rules}
+use Rattle.std.specs.Prelude.{MatchOption}
+use Rattle.dw_base.specs.Refusals.{IsFaultOf}
+use Rattle.list_model.specs.declared.tables.AddrTable.{AddrTable}
+use Rattle.list_model.specs.Addresses.{TablesFollow}
+use Rattle.list_model.specs.Faults.{FaultTables as FaultTablesOf}
+use Rattle.value_links.specs.Sections.{offset_named, debug_addr, addr_name}
 use Rattle.value_links.proofs.WorldLaws.{world_read, world_held}
 use Rattle.value_links.proofs.world.World.read.Goals as goal
 
+pub check_parts-requires-clause-fault : goal.check_parts-requires-clause-fault
+check_parts-requires-clause-fault c =
+    let addr : List ℕ = debug_addr c.args.file.now in
+    let read = c.in_ok-tables.field-0 in
+    subst (λ (z : List AddrTable). MatchOption read.fault (TablesFollow addr z 0 (length addr)) (IsFaultOf (FaultTablesOf addr) (offset_named c.args.file.now addr_name))) (sym c.in_ok-parts.ensures.tables) c.in_ok-tables.ensures.fault
+
+pub read_named_lists-requires-clause-parts : goal.read_named_lists-requires-clause-parts
+read_named_lists-requires-clause-parts c = (c.args.reach, c.in_ok-image.ensures.order, c.in_ok-check_parts.ensures.linked c.args.reach c.in_ok-image.ensures.order)
+
+pub returns-in_err-lists-clause-refused : goal.returns-in_err-lists-clause-refused
+returns-in_err-lists-clause-refused c = let refused = c.in_err-lists.ensures.refused c.in_ok-image.ensures.order in search (rules, refused)
+
 pub invariant_of-result : goal.invariant_of-result
-invariant_of-result c = (c.args.reach, world_held c.args.file.now c.in_ok-parts.parts (c.in_ok-parts.ensures.parts c.args.reach c.in_ok-image.ensures.order) c.in_ok-image.image c.args.reach c.in_ok-sets.sets.items c.in_ok-image.ensures.image c.in_ok-image.ensures.order c.in_ok-sets.ensures.sets)
+invariant_of-result c = world_held c.args.file.now c.in_ok-parts.parts (c.in_ok-check_parts.ensures.linked c.args.reach c.in_ok-image.ensures.order) c.in_ok-sets.sets.items c.in_ok-sets.ensures.sets c.args.reach c.in_ok-image.ensures.order c.in_ok-lists.lists.items c.in_ok-lists.ensures.lists c.in_ok-image.image c.in_ok-image.ensures.image
 
 pub returns-clause-world : goal.returns-clause-world
-returns-clause-world c = world_read c.args.file.now c.in_ok-parts.parts (c.in_ok-parts.ensures.parts c.args.reach c.in_ok-image.ensures.order) c.in_ok-image.image c.args.reach c.in_ok-sets.sets.items c.in_ok-image.ensures.image c.in_ok-image.ensures.order c.in_ok-sets.ensures.sets
+returns-clause-world c = world_read c.args.file.now c.in_ok-parts.parts (c.in_ok-check_parts.ensures.linked c.args.reach c.in_ok-image.ensures.order) c.in_ok-sets.sets.items c.in_ok-sets.ensures.sets c.args.reach c.in_ok-image.ensures.order c.in_ok-lists.lists.items c.in_ok-lists.ensures.lists c.in_ok-image.image c.in_ok-image.ensures.image

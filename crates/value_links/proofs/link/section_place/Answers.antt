@@ -1,0 +1,34 @@
+use Rattle.std.proofs.Common.{inl, inr, ℕ, List, sym, subst, refl}
+use Rattle.std.specs.Prelude.{Some}
+use Rattle.value_links.specs.declared.link.Link.TheVariants.{Kept as KeptPlace}
+use Rattle.value_links.specs.Attributes.{offset_class}
+use Rattle.value_links.specs.Reading.{Linkable}
+use Rattle.value_links.specs.Linked.{OffsetLinks}
+use Rattle.value_links.specs.Linked.Linked.{Kept}
+use Rattle.value_links.specs.Links.{IsFoundFor}
+use Rattle.value_links.specs.Parts.{HoldsParts}
+use Rattle.value_links.proofs.link.section_place.Goals as goal
+
+pub returns-in-16 : goal.returns-in-16
+returns-in-16 c = λ (file : List ℕ) (r : Linkable) (u id : ℕ) (holds : HoldsParts file r c.args.parts.now).
+    subst (λ (z : ℕ). IsFoundFor (OffsetLinks r u id (offset_class z) c.args.place) c.lines_at.result) (sym c.in-16.is) (c.lines_at.ensures file r u id holds)
+
+pub returns-in-85 : goal.returns-in-85
+returns-in-85 c = λ (file : List ℕ) (r : Linkable) (u id : ℕ) (holds : HoldsParts file r c.args.parts.now). elim c.in-85.is [
+  | inl is ↦ subst (λ (z : ℕ). IsFoundFor (OffsetLinks r u id (offset_class z) c.args.place) c.list_at.result) (sym is) (c.list_at.ensures file r u id holds)
+  | inr is ↦ subst (λ (z : ℕ). IsFoundFor (OffsetLinks r u id (offset_class z) c.args.place) c.list_at.result) (sym is) (c.list_at.ensures file r u id holds)
+]
+
+pub returns-in-116 : goal.returns-in-116
+returns-in-116 c = λ (file : List ℕ) (r : Linkable) (u id : ℕ) (holds : HoldsParts file r c.args.parts.now).
+    subst (λ (z : ℕ). IsFoundFor (OffsetLinks r u id (offset_class z) c.args.place) c.base_at.result) (sym c.in-116.is) (c.base_at.ensures file r u id holds)
+
+pub returns-in-115 : goal.returns-in-115
+returns-in-115 c = λ (file : List ℕ) (r : Linkable) (u id : ℕ) (holds : HoldsParts file r c.args.parts.now).
+    subst (λ (z : ℕ). IsFoundFor (OffsetLinks r u id (offset_class z) c.args.place) c.addresses_at.result) (sym c.in-115.is) (c.addresses_at.ensures file r u id holds)
+
+pub returns-in-114 : goal.returns-in-114
+returns-in-114 c = λ (file : List ℕ) (r : Linkable) (u id : ℕ) (holds : HoldsParts file r c.args.parts.now). elim c.in-114.is [
+  | inl is ↦ subst (λ (z : ℕ). IsFoundFor (OffsetLinks r u id (offset_class z) c.args.place) (Some (KeptPlace c.args.place))) (sym is) (Kept c.args.place, refl, refl)
+  | inr is ↦ subst (λ (z : ℕ). IsFoundFor (OffsetLinks r u id (offset_class z) c.args.place) (Some (KeptPlace c.args.place))) (sym is) (Kept c.args.place, refl, refl)
+]
