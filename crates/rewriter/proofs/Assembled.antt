@@ -37,17 +37,19 @@ unlisted : (new : NewSections) (name : List ℕ) → is_written name ≡ false �
 unlisted new name kept =
     All-weaker (λ (n : NewBytes). is_written n.name ≡ true) (λ (n : NewBytes). name ≢ n.name) (λ (n : NewBytes) anew. unwritten name n.name anew kept) (new_bytes new) (written new)
 
--- the four bodies, one after the other
-pub four_added : (file : List ℕ) (new : NewSections) (first second third fourth : List ℕ) (none one two three four : List NewBody) → first ≡ info_name → second ≡ abbrev_name → third ≡ line_name → fourth ≡ aranges_name → none ≡ [] → AddsBody file (record { name = first; bytes = new.info.items }) none one → AddsBody file (record { name = second; bytes = new.abbrevs.items }) one two → AddsBody file (record { name = third; bytes = new.lines.items }) two three → AddsBody file (record { name = fourth; bytes = new.aranges.items }) three four → AreBodiesWith file (new_bytes new) four
-four_added file new first second third fourth none one two three four e f g h empty info abbrevs lines aranges =
+-- the five bodies, one after the other
+pub five_added : (file : List ℕ) (new : NewSections) (first second third fourth fifth : List ℕ) (none one two three four five : List NewBody) → first ≡ info_name → second ≡ abbrev_name → third ≡ line_name → fourth ≡ rnglists_name → fifth ≡ aranges_name → none ≡ [] → AddsBody file (record { name = first; bytes = new.info.items }) none one → AddsBody file (record { name = second; bytes = new.abbrevs.items }) one two → AddsBody file (record { name = third; bytes = new.lines.items }) two three → AddsBody file (record { name = fourth; bytes = new.ranges.items }) three four → AddsBody file (record { name = fifth; bytes = new.aranges.items }) four five → AreBodiesWith file (new_bytes new) five
+five_added file new first second third fourth fifth none one two three four five e f g h i empty info abbrevs lines ranges aranges =
     let a : NewBytes = record { name = info_name; bytes = new.info.items } in
     let b : NewBytes = record { name = abbrev_name; bytes = new.abbrevs.items } in
     let c : NewBytes = record { name = line_name; bytes = new.lines.items } in
-    let d : NewBytes = record { name = aranges_name; bytes = new.aranges.items } in
+    let d : NewBytes = record { name = rnglists_name; bytes = new.ranges.items } in
+    let l : NewBytes = record { name = aranges_name; bytes = new.aranges.items } in
     let with_info = added file [] a none one empty (subst (λ (z : List ℕ). AddsBody file (record { name = z; bytes = new.info.items }) none one) e info) in
     let with_abbrevs = added file (a ∷ []) b one two with_info (subst (λ (z : List ℕ). AddsBody file (record { name = z; bytes = new.abbrevs.items }) one two) f abbrevs) in
     let with_lines = added file (a ∷ b ∷ []) c two three with_abbrevs (subst (λ (z : List ℕ). AddsBody file (record { name = z; bytes = new.lines.items }) two three) g lines) in
-    added file (a ∷ b ∷ c ∷ []) d three four with_lines (subst (λ (z : List ℕ). AddsBody file (record { name = z; bytes = new.aranges.items }) three four) h aranges)
+    let with_ranges = added file (a ∷ b ∷ c ∷ []) d three four with_lines (subst (λ (z : List ℕ). AddsBody file (record { name = z; bytes = new.ranges.items }) three four) h ranges) in
+    added file (a ∷ b ∷ c ∷ d ∷ []) l four five with_ranges (subst (λ (z : List ℕ). AddsBody file (record { name = z; bytes = new.aranges.items }) four five) i aranges)
 
 -- WHERE THE SECTIONS STAND
 
@@ -95,7 +97,7 @@ module _ (file : List ℕ) (new : NewSections) (bodies : List NewBody) (made : A
         kept i (names_stay (is_written (name_of file i)) (is_movable file i) (i == i) (eq-eqb i i refl) (order.image.sound.sections i (order.image.whole.section_table.names some)).placed)
 
   module _ (fits : AreFor file new) where
-    total : bytes_of bodies ≤ 4 * 2 ^ 32
+    total : bytes_of bodies ≤ 5 * 2 ^ 32
     total =
         let few : bytes_of bodies ≤ bytes_in (new_bytes new) = bodies_few file (new_bytes new) bodies made in
         let most : bytes_in (new_bytes new) ≤ length (new_bytes new) * 2 ^ 32 = bytes_few (new_bytes new) fits.fit in
@@ -136,7 +138,7 @@ module _ (file : List ℕ) (new : NewSections) (bodies : List NewBody) (made : A
       still_no_lists none = λ i lt is.
           let count : section_count written ≡ section_count file = same.headers.count in
           let name : name_of written i ≡ name_of file i = same.names i (omega arith) in
-          none i (omega arith) (ap (λ z. bytes_eq z rnglists_name || bytes_eq z loclists_name) (sym name) ∙ is)
+          none i (omega arith) (ap (λ z. bytes_eq z loclists_name) (sym name) ∙ is)
 
       pub has_sections : AreFor file new → IsRead written Wide → HasNoLists file → All (λ (body : NewBody). body_of written body.section ≡ body.bytes.items) bodies → (section_count file ≡ 0 → written ≡ file) → (section_count file ≢ 0 → IsLaidOut file (body_after file bodies) written) → HasSections file new written
       has_sections lacks read lists holds bare placed =

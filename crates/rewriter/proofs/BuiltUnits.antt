@@ -42,7 +42,7 @@ module _ (stand : DeclarationsStand) (file : List ℕ) (reach : Reach) (r : Read
       let s = stand (debug_abbrev file) at unit.table i is.table known in
       let inner : ℕ = (decl_at unit.table.decls i).at - at in
       let fault : FaultTables (debug_info file) (debug_abbrev file) Unbuilt (at + inner) = (at, inner, (unit.head, unit_head (debug_info file) r.links.units u read.links.units.tiled inside, refl, is.named), refl, record { before = take i (declarations_in unit.table.specs unit.table.decls); d = declared_in unit.table.specs (decl_at unit.table.decls i); stands = s.1; unbuilt = short }) in
-      valid OfUnits Unbuilt (offset_named file abbrev_name + (at + inner)) (inr (at + inner, refl, fault))
+      valid OfUnits Unbuilt (offset_named file abbrev_name + (at + inner)) (inr (inl (at + inner, refl, fault)))
 
   -- the declarations of a table that a unit names can be written
   pub unit_built : (u : ℕ) → u < length r.links.units → All IsBuilt (declarations (unit_at r.links u))

@@ -24,7 +24,7 @@ use Rattle.rewriter.specs.inside.Follows.{AreReadAnew, LinksFollow}
 use Rattle.rewriter.proofs.MovedPlaces.{entry_moves}
 use Rattle.rewriter.proofs.MovedEntries.{moved, entry_moved, entries_count, same_declared}
 use Rattle.rewriter.proofs.MovedAttributes.{IsMovedAttribute, says, attributes_moved}
-use Rattle.rewriter.proofs.MovedLinks.{value_follows}
+use Rattle.rewriter.proofs.ListMeanings.{value_follows}
 
 abbrev no_entry : Entry
 no_entry = record { at = 0; len = 0; depth = 0; decl = 0; first = 0; count = 0 }

@@ -1,25 +1,31 @@
 -- What the link of a value tells of what it means, and the new number that follows.
-use Rattle.std.proofs.Common.{◌≡◌, ◌<◌, ◌+◌, inl, inr, ℕ, List, [], length, slice_index, get_or, ◌∙◌, sym, ap, refl, subst, arith}
+use Rattle.std.proofs.Common.{◌≡◌, ◌<◌, ◌+◌, inl, inr, ℕ, List, [], ◌∷◌, length, slice_index, get_or, ◌∙◌, sym, ap, refl, subst, arith}
 use Rattle.std.specs.Prelude.{◌⊎◌, Some}
 use Rattle.std.proofs.lemmas.List.{get_or_read, get_or-map, length-map}
 use Rattle.form_codec.specs.Forms.Meaning.{InUnit, InSection, SectionPlace}
 use Rattle.entry_arena.specs.declared.entry.Target.{Target}
 use Rattle.entry_read.specs.Units.{HeadAndForest}
+use Rattle.list_model.specs.declared.contribution.Contribution.{Contribution}
+use Rattle.list_model.specs.declared.entry.ListKind.{ListKind}
+use Rattle.list_model.specs.declared.entry.ListKind.TheVariants.{Ranges}
+use Rattle.list_model.specs.Contributions.{offsets_at}
+use Rattle.list_write.specs.Written.{part_at, moved_at}
 use Rattle.unit_write.specs.declared.places.Places.{Places}
 use Rattle.value_links.specs.declared.link.Link.{Link}
-use Rattle.value_links.specs.declared.link.Link.TheVariants.{Place, Lines, Kept as KeptPlace}
+use Rattle.value_links.specs.declared.link.Link.TheVariants.{Place, Lines, List as AtList, Base, Kept as KeptPlace}
 use Rattle.value_links.specs.Attributes.{OffsetClass, offset_class}
 use Rattle.value_links.specs.Attributes.OffsetClass.{LinePtr, RngList, LocList, RngListsPtr, LocListsPtr, AddrPtr, StrOffsetsPtr, MacPtr, Views, NoOffset}
-use Rattle.value_links.specs.Reading.{Linkable, Reading, ProgramRead, unit_at}
-use Rattle.value_links.specs.Linked.{Linked, IsTargetAt, IsLocalTarget, IsSectionTarget, OffsetLinks}
-use Rattle.value_links.specs.Linked.Linked.{Program, Kept}
+use Rattle.value_links.specs.Reading.{Linkable, Reading, ProgramRead, unit_at, list_at}
+use Rattle.value_links.specs.Linked.{Linked, IsTargetAt, IsLocalTarget, IsSectionTarget, OffsetLinks, Links}
+use Rattle.value_links.specs.Linked.Linked.{Program, ListAt, BaseOf, Kept}
 use Rattle.value_links.specs.Links.{IsLinkOf, IsLinkFound}
 use Rattle.value_links.specs.World.{World, Holds}
+use Rattle.rewriter.specs.declared.new_places.ListPlaces.{ListPlaces}
 use Rattle.rewriter.specs.declared.new_places.NewPlaces.{NewPlaces}
 use Rattle.rewriter.specs.inside.Placed.{PlacesAnew, places_anew, places_at, unit_in}
-use Rattle.rewriter.specs.inside.NewPlaces.{IsNewOffset, IsOffsetAnew}
+use Rattle.rewriter.specs.inside.NewPlaces.{IsMovedTo, IsNewOffset, IsOffsetAnew}
 use Rattle.rewriter.specs.inside.Numbers.{MovesTo}
-use Rattle.rewriter.specs.inside.Held.{HavePlaces, AllHavePlaces}
+use Rattle.rewriter.specs.inside.Held.{HavePlaces, AllHavePlaces, AreListPlaces}
 use Rattle.rewriter.proofs.Standing.{held_unit, held_count}
 
 -- what is read of a list of units, and of their places
@@ -86,66 +92,147 @@ section_moved file world r places u n new holds inside m =
 
 -- SECTION OFFSETS
 
--- a section offset names a program, or is kept
-offset_parts : (r : Linkable) (u id n : ℕ) (class : OffsetClass) (linked : Linked) → OffsetLinks r u id class n linked → ((p : ℕ) × (p < length r.programs) × (linked ≡ Program p)) ⊎ (linked ≡ Kept n)
+-- a section offset names a program, a range list or a contribution of these, or is kept
+abbrev OffsetParts : Linkable → ℕ → Linked → Type 0
+OffsetParts r n linked =
+    ((p : ℕ) × (p < length r.programs) × (linked ≡ Program p))
+    ⊎ ((linked ≡ ListAt Ranges n)
+    ⊎ (((p : ℕ) × (p < length r.ranges.parts) × (linked ≡ BaseOf Ranges p))
+    ⊎ (linked ≡ Kept n)))
+
+offset_parts : (r : Linkable) (u id n : ℕ) (class : OffsetClass) (linked : Linked) → OffsetLinks r u id class n linked → OffsetParts r n linked
 offset_parts r u id n LinePtr linked (p, is, e) = inl (p, is.0, e)
-offset_parts r u id n RngList linked links = absurd links
-offset_parts r u id n LocList linked links = absurd links
-offset_parts r u id n RngListsPtr linked links = absurd links
-offset_parts r u id n LocListsPtr linked links = absurd links
-offset_parts r u id n AddrPtr linked links = inr links
-offset_parts r u id n StrOffsetsPtr linked links = inr links
-offset_parts r u id n MacPtr linked links = inr links
+offset_parts r u id n RngList linked (is, e) = inr (inl e)
+offset_parts r u id n LocList linked ((p, is), e) = absurd (let none : p < 0 = is.0 in omega arith)
+offset_parts r u id n RngListsPtr linked (p, is, e) = inr (inr (inl (p, is.0, e)))
+offset_parts r u id n LocListsPtr linked (p, is, e) = absurd (let none : p < 0 = is.0 in omega arith)
+offset_parts r u id n AddrPtr linked (is, e) = inr (inr (inr e))
+offset_parts r u id n StrOffsetsPtr linked links = inr (inr (inr links))
+offset_parts r u id n MacPtr linked links = inr (inr (inr links))
 offset_parts r u id n Views linked links = absurd links
 offset_parts r u id n NoOffset linked links = absurd links
 
 -- the same, with the link that tells it
 abbrev OffsetFound : Linkable → ℕ → Link → Linked → Type 0
-OffsetFound r n link linked = ((p : ℕ) × (p < length r.programs) × (linked ≡ Program p) × (link ≡ Lines p)) ⊎ ((linked ≡ Kept n) × (link ≡ KeptPlace n))
+OffsetFound r n link linked =
+    ((p : ℕ) × (p < length r.programs) × (linked ≡ Program p) × (link ≡ Lines p))
+    ⊎ (((linked ≡ ListAt Ranges n) × (link ≡ AtList Ranges n))
+    ⊎ (((p : ℕ) × (p < length r.ranges.parts) × (linked ≡ BaseOf Ranges p) × (link ≡ Base Ranges p))
+    ⊎ ((linked ≡ Kept n) × (link ≡ KeptPlace n))))
 
 offset_found : (r : Linkable) (u id name n : ℕ) (link : Link) (found : IsLinkFound r u id name (SectionPlace n) (Some link)) → OffsetFound r n link found.0
 offset_found r u id name n link (linked, links, tells) =
     elim (offset_parts r u id n (offset_class name) linked links) [
       | inl (p, inside, is) ↦ inl (p, inside, is, subst (λ (z : Linked). IsLinkOf z link) is tells)
-      | inr is ↦ inr (is, subst (λ (z : Linked). IsLinkOf z link) is tells)
+      | inr (inl is) ↦ inr (inl (is, subst (λ (z : Linked). IsLinkOf z link) is tells))
+      | inr (inr (inl (p, inside, is))) ↦ inr (inr (inl (p, inside, is, subst (λ (z : Linked). IsLinkOf z link) is tells)))
+      | inr (inr (inr is)) ↦ inr (inr (inr (is, subst (λ (z : Linked). IsLinkOf z link) is tells)))
     ]
 
-pub offset_link : (r : Linkable) (u id name n : ℕ) (link : Link) → IsLinkFound r u id name (SectionPlace n) (Some link) → ((p : ℕ) → link ≡ Lines p → ⊥) → ((m : ℕ) → link ≡ KeptPlace m → ⊥) → ⊥
-offset_link r u id name n link found no_lines no_place =
+pub offset_link : (r : Linkable) (u id name n : ℕ) (link : Link) → IsLinkFound r u id name (SectionPlace n) (Some link) → ((p : ℕ) → link ≡ Lines p → ⊥) → ((kind : ListKind) (m : ℕ) → link ≡ AtList kind m → ⊥) → ((kind : ListKind) (p : ℕ) → link ≡ Base kind p → ⊥) → ((m : ℕ) → link ≡ KeptPlace m → ⊥) → ⊥
+offset_link r u id name n link found no_lines no_list no_base no_place =
     elim (offset_found r u id name n link found) [
       | inl (p, inside, is, lines) ↦ no_lines p lines
-      | inr (is, kept) ↦ no_place n kept
+      | inr (inl (is, list)) ↦ no_list Ranges n list
+      | inr (inr (inl (p, inside, is, base))) ↦ no_base Ranges p base
+      | inr (inr (inr (is, kept))) ↦ no_place n kept
+    ]
+
+-- what each link tells
+lines_tell : (r : Linkable) (u id name n p : ℕ) (found : IsLinkFound r u id name (SectionPlace n) (Some (Lines p))) → (p < length r.programs) × (found.0 ≡ Program p)
+lines_tell r u id name n p found =
+    elim (offset_found r u id name n (Lines p) found) [
+      | inl (q, inside, is, lines) ↦ (let same : q ≡ p = cc in (subst (λ (z : ℕ). z < length r.programs) same inside, is ∙ ap (λ (z : ℕ). Program z) same))
+      | inr (inl (is, list)) ↦ absurd (cc)
+      | inr (inr (inl (q, inside, is, base))) ↦ absurd (cc)
+      | inr (inr (inr (is, kept))) ↦ absurd (cc)
+    ]
+
+list_tells : (r : Linkable) (u id name n m : ℕ) (kind : ListKind) (found : IsLinkFound r u id name (SectionPlace n) (Some (AtList kind m))) → (kind ≡ Ranges) × (found.0 ≡ ListAt Ranges n)
+list_tells r u id name n m kind found =
+    elim (offset_found r u id name n (AtList kind m) found) [
+      | inl (q, inside, is, lines) ↦ absurd (cc)
+      | inr (inl (is, list)) ↦ (cc, is)
+      | inr (inr (inl (q, inside, is, base))) ↦ absurd (cc)
+      | inr (inr (inr (is, kept))) ↦ absurd (cc)
+    ]
+
+base_tells : (r : Linkable) (u id name n p : ℕ) (kind : ListKind) (found : IsLinkFound r u id name (SectionPlace n) (Some (Base kind p))) → (kind ≡ Ranges) × (p < length r.ranges.parts) × (found.0 ≡ BaseOf Ranges p)
+base_tells r u id name n p kind found =
+    elim (offset_found r u id name n (Base kind p) found) [
+      | inl (q, inside, is, lines) ↦ absurd (cc)
+      | inr (inl (is, list)) ↦ absurd (cc)
+      | inr (inr (inl (q, inside, is, base))) ↦ (let same : q ≡ p = cc in (cc, subst (λ (z : ℕ). z < length r.ranges.parts) same inside, is ∙ ap (λ (z : ℕ). BaseOf Ranges z) same))
+      | inr (inr (inr (is, kept))) ↦ absurd (cc)
+    ]
+
+kept_tells : (r : Linkable) (u id name n m : ℕ) (found : IsLinkFound r u id name (SectionPlace n) (Some (KeptPlace m))) → found.0 ≡ Kept n
+kept_tells r u id name n m found =
+    elim (offset_found r u id name n (KeptPlace m) found) [
+      | inl (q, inside, is, lines) ↦ absurd (cc)
+      | inr (inl (is, list)) ↦ absurd (cc)
+      | inr (inr (inl (q, inside, is, base))) ↦ absurd (cc)
+      | inr (inr (inr (is, kept))) ↦ is
     ]
 
 pub lines_inside : (r : Linkable) (u id name n p : ℕ) → IsLinkFound r u id name (SectionPlace n) (Some (Lines p)) → p < length r.programs
-lines_inside r u id name n p found =
-    elim (offset_found r u id name n (Lines p) found) [
-      | inl (q, inside, is, lines) ↦ (let same : q ≡ p = cc in subst (λ (z : ℕ). z < length r.programs) same inside)
-      | inr (is, kept) ↦ absurd (cc)
-    ]
+lines_inside r u id name n p found = (lines_tell r u id name n p found).0
+
+pub base_kind : (r : Linkable) (u id name n p : ℕ) (kind : ListKind) → IsLinkFound r u id name (SectionPlace n) (Some (Base kind p)) → kind ≡ Ranges
+base_kind r u id name n p kind found = (base_tells r u id name n p kind found).0
+
+pub base_inside : (r : Linkable) (u id name n p : ℕ) (kind : ListKind) → IsLinkFound r u id name (SectionPlace n) (Some (Base kind p)) → p < length r.ranges.parts
+base_inside r u id name n p kind found = (base_tells r u id name n p kind found).1
+
+pub list_kind : (r : Linkable) (u id name n m : ℕ) (kind : ListKind) → IsLinkFound r u id name (SectionPlace n) (Some (AtList kind m)) → kind ≡ Ranges
+list_kind r u id name n m kind found = (list_tells r u id name n m kind found).0
+
+pub list_links : (r : Linkable) (u id name n m : ℕ) (kind : ListKind) → IsLinkFound r u id name (SectionPlace n) (Some (AtList kind m)) → Links r u id name (SectionPlace n) (ListAt Ranges n)
+list_links r u id name n m kind found = subst (λ (z : Linked). Links r u id name (SectionPlace n) z) (list_tells r u id name n m kind found).1 found.1
 
 pub held_programs : (file : List ℕ) (world : World) (r : Reading) → Holds file world r → length world.programs ≡ length r.links.programs
 held_programs file world r holds = ap length holds.programs ∙ length-map r.links.programs (λ (p : ProgramRead). p.head)
 
+pub held_parts : (file : List ℕ) (world : World) (r : Reading) → Holds file world r → length world.contributions ≡ length r.links.ranges.parts
+held_parts file world r holds = ap (λ (z : List Contribution). length z) holds.contributions
+
+-- something of a list that has something
+pub some_of : {X : Type 0} (xs : List X) (k : ℕ) → k < length xs → X
+some_of [] k inside = absurd (omega arith)
+some_of (x ∷ xs) k inside = x
+
+-- a list that is read began where it was moved from
+pub held_list : (file : List ℕ) (world : World) (r : Reading) (places : ListPlaces) (k : ℕ) → Holds file world r → AreListPlaces world places → k < length r.range_lists → (k < length places.lists.items) × ((moved_at places.lists.items k).old ≡ (list_at r.range_lists k).at)
+held_list file world r places k holds are inside =
+    let count : length world.lists ≡ length r.range_lists = holds.lists.count in
+    let size : length places.lists.items ≡ length world.lists = are.lists in
+    let held : k < length world.lists = omega arith in
+    let some = some_of world.lists k held in
+    (omega arith, are.from k some held ∙ (holds.lists.each k some inside).at)
+
+-- a contribution that a section offset names is at its new place
+pub part_there : (file : List ℕ) (world : World) (r : Reading) (places : ListPlaces) (u id name n p : ℕ) (kind : ListKind) → Holds file world r → AreListPlaces world places → IsLinkFound r.links u id name (SectionPlace n) (Some (Base kind p)) → p < length places.parts.items
+part_there file world r places u id name n p kind holds are found =
+    let inside : p < length r.links.ranges.parts = base_inside r.links u id name n p kind found in
+    let count : length world.contributions ≡ length r.links.ranges.parts = held_parts file world r holds in
+    let size : length places.parts.items ≡ length world.contributions = are.parts in
+    omega arith
+
+pub part_read : (parts : List Contribution) (p : ℕ) (part : Contribution) → p < length parts → part ≡ get_or parts p part → part ≡ part_at parts p
+part_read parts p part inside is = get_or_read parts p part inside is (record { at = 0; len = 0; slots = 0 })
+
 -- the new number of each
+new_offset : (r : Linkable) (u id name n : ℕ) (link : Link) (places : NewPlaces) (new : ℕ) (linked : Linked) (found : IsLinkFound r u id name (SectionPlace n) (Some link)) → found.0 ≡ linked → IsNewOffset places linked new → IsOffsetAnew r places u id name n new
+new_offset r u id name n link places new linked found is here = (found.0, found.1, subst (λ (z : Linked). IsNewOffset places z new) (sym is) here)
+
 pub new_lines : (r : Linkable) (u id name n p : ℕ) (places : NewPlaces) (new : ℕ) → p < length places.programs.items → new ≡ slice_index places.programs.items p → IsLinkFound r u id name (SectionPlace n) (Some (Lines p)) → IsOffsetAnew r places u id name n new
-new_lines r u id name n p places new inside here (linked, links, tells) = (
-  linked,
-  links,
-  elim (offset_found r u id name n (Lines p) (linked, links, tells)) [
-    | inl (q, _, is, lines) ↦
-        let same : p ≡ q = cc in
-        subst (λ (z : Linked). IsNewOffset places z new) (sym is) (subst (λ (z : ℕ). IsNewOffset places (Program z) new) same (inside, here))
-    | inr (is, kept) ↦ absurd (cc)
-  ],
-)
+new_lines r u id name n p places new inside here found = new_offset r u id name n (Lines p) places new (Program p) found (lines_tell r u id name n p found).1 (inside, here)
+
+pub new_list : (r : Linkable) (u id name n m : ℕ) (kind : ListKind) (places : NewPlaces) (new : ℕ) → IsMovedTo places.ranges n new → IsLinkFound r u id name (SectionPlace n) (Some (AtList kind m)) → IsOffsetAnew r places u id name n new
+new_list r u id name n m kind places new moved found = new_offset r u id name n (AtList kind m) places new (ListAt Ranges n) found (list_tells r u id name n m kind found).1 moved
+
+pub new_base : (r : Linkable) (u id name n p : ℕ) (kind : ListKind) (places : NewPlaces) (new : ℕ) → p < length places.ranges.parts.items → new ≡ offsets_at (part_at places.ranges.parts.items p).at → IsLinkFound r u id name (SectionPlace n) (Some (Base kind p)) → IsOffsetAnew r places u id name n new
+new_base r u id name n p kind places new inside here found = new_offset r u id name n (Base kind p) places new (BaseOf Ranges p) found (base_tells r u id name n p kind found).2 (inside, here)
 
 pub new_kept : (r : Linkable) (u id name n m : ℕ) (places : NewPlaces) → IsLinkFound r u id name (SectionPlace n) (Some (KeptPlace m)) → IsOffsetAnew r places u id name n n
-new_kept r u id name n m places (linked, links, tells) = (
-  linked,
-  links,
-  elim (offset_found r u id name n (KeptPlace m) (linked, links, tells)) [
-    | inl (q, _, is, lines) ↦ absurd (cc)
-    | inr (is, kept) ↦ subst (λ (z : Linked). IsNewOffset places z n) (sym is) refl
-  ],
-)
+new_kept r u id name n m places found = new_offset r u id name n (KeptPlace m) places n (Kept n) found (kept_tells r u id name n m found) refl

@@ -2,7 +2,7 @@
 use Rattle.std.proofs.Common.{◌≡◌, ◌≤◌, ◌<◌, ◌+◌, ◌-◌, ℕ, zero, suc, List, [], ◌∷◌, length, get_or, take, drop, ◌∙◌, sym, ap, subst, arith}
 use Rattle.std.specs.Prelude.{slice_index_or, Option, Some, None}
 use Rattle.std.specs.List.{All, AllZip}
-use Rattle.std.proofs.lemmas.List.{length-map, length-drop, length-take-le, get_or-take, get_or-drop}
+use Rattle.std.proofs.lemmas.List.{get_or_default, length-map, length-drop, length-take-le, get_or-take, get_or-drop}
 use Rattle.std.proofs.lemmas.List.Elements.{All-get_or}
 use Rattle.std.proofs.Math.ListN.{get_or-map}
 use Rattle.dw_base.specs.declared.fault.Reach.{Reach}
@@ -25,11 +25,16 @@ use Rattle.entry_read.specs.Places.{HaveOwners}
 use Rattle.entry_read.proofs.Declarations.{columns_inside, count_same, declared_is}
 use Rattle.entry_read.proofs.OwnerLaws.{values_belong}
 use Rattle.value_links.specs.Sections.{debug_info, debug_abbrev}
-use Rattle.value_links.specs.Reading.{UnitRead, Reading, no_unit, declarations, unit_at, IsUnitRead}
-use Rattle.value_links.specs.Resolved.{Resolved, Resolves}
+use Rattle.list_model.specs.declared.entry.ListKind.TheVariants.{Ranges}
+use Rattle.value_links.specs.Reading.{UnitRead, ListRead, Reading, no_unit, declarations, unit_at, list_at, IsUnitRead}
+use Rattle.value_links.specs.Whole.{IsReading}
+use Rattle.value_links.specs.Linked.{Linked, Links}
+use Rattle.value_links.specs.Linked.Linked.{ListAt}
+use Rattle.value_links.specs.Resolved.{Resolved, ResolvesLink, Resolves}
 use Rattle.value_links.specs.Debug.{EntryMeaning, UnitMeaning, described, MeansAttribute, MeansEntry, MeansType, MeansUnit}
 use Rattle.value_links.specs.World.{World, head_and_forest, IsWorldOf}
 use Rattle.value_links.specs.declared.units.NamedTable.{NamedTable}
+use Rattle.value_links.proofs.LinkedOnce.{linked_once}
 use Rattle.rewriter.specs.inside.Placed.{unit_in}
 use Rattle.rewriter.specs.inside.Held.{FitsOffset, MeansSomething, table_for, HaveAllValues, UnitMeans, HasType}
 use Rattle.rewriter.proofs.OffsetSizes.{offsets_fit}
@@ -146,6 +151,17 @@ attribute_means info abbrevs r u id j unit is means inside below =
     let named : Resolves r u id (spec_at (unit_at r.links u).table.specs ((decl_at (unit_at r.links u).table.decls e.decl).first + j)).name (meant_in (unit_at r.links u).forest.section (value_at values j)) at.0.1 = subst (λ (c : Spec). Resolves r u id c.name (meant_in (unit_at r.links u).forest.section (value_at values j)) at.0.1) (column_same info abbrevs (unit_at r.links u) is id inside j below) raw in
     (at.0.1, subst (λ (v : Value). Resolves r u id (spec_at (unit_at r.links u).table.specs ((decl_at (unit_at r.links u).table.decls e.decl).first + j)).name (meant_in (unit_at r.links u).forest.section v) at.0.1) (value_same info abbrevs (unit_at r.links u) is id inside j below) named)
 
+-- a list that a value means is one of those that are read
+list_read : (r : Reading) (n : ℕ) (v : Resolved) → ResolvesLink r (ListAt Ranges n) v → (k : ℕ) × (k < length r.range_lists) × ((list_at r.range_lists k).at ≡ n)
+list_read r n v (meaning, means, e) =
+    let (k, inside, is) = means.one in
+    (k, inside, ap (λ (l : ListRead). l.at) (get_or_default r.range_lists k (record { at = 0; part = 0; raws = [] }) means.list inside ∙ is) ∙ means.here)
+
+-- a value means what that means to which it refers
+means_it : (file : List ℕ) (r : Reading) (u id name : ℕ) (meaning : Meaning) (v : Resolved) (linked : Linked) → IsReading file r → u < length r.links.units → Resolves r u id name meaning v → Links r.links u id name meaning linked → ResolvesLink r linked v
+means_it file r u id name meaning v linked read inside means links =
+    subst (λ (z : Linked). ResolvesLink r z v) (linked_once file r.links u id name meaning means.linked linked read.links inside means.links links) means.resolves
+
 -- THE WORLD
 
 -- what is said of an entry, of a unit and a table that are given
@@ -185,7 +201,7 @@ module _ (world : World) (u : ℕ) (reach : Reach) (is : IsWorldOf world.image r
     values = (owners (debug_info world.image) (debug_abbrev world.image) (unit_at is.r.links u) unit_is).inside id inside;
     means = λ column below.
         let m = attribute_means (debug_info world.image) (debug_abbrev world.image) is.r u id column (slice_index_or is.debug.units u (record { unit_type = 0; signature = 0; type_entry = None; forest = [] })) unit_is means_unit inside below in
-        record { file = world.image; r = is.r; holds = is.holds; id = id; linked = m.1.linked; links = m.1.links; fits = offset_fits (debug_info world.image) (debug_abbrev world.image) (unit_at is.r.links u) unit_is id inside column below };
+        record { file = world.image; r = is.r; holds = is.holds; id = id; linked = m.1.linked; links = m.1.links; listed = λ n links. list_read is.r n m.0 (means_it world.image is.r u id _ _ m.0 (ListAt Ranges n) is.read inside_read m.1 links); fits = offset_fits (debug_info world.image) (debug_abbrev world.image) (unit_at is.r.links u) unit_is id inside column below };
   }
 
   pub unit_means : UnitMeans world u

@@ -1,5 +1,5 @@
 -- A section offset that was read fits 32 bits.
-use Rattle.std.proofs.Common.{◌≡◌, ◌<◌, ◌^◌, ℕ, zero, suc, List, [], ◌∷◌, true, sym, subst, arith}
+use Rattle.std.proofs.Common.{◌≡◌, ◌<◌, ◌^◌, ℕ, zero, suc, List, [], ◌∷◌, length, true, sym, subst, arith}
 use Rattle.std.specs.Prelude.{ℤ}
 use Rattle.spelled.specs.Spelled.{AreBytes}
 use Rattle.form_codec.specs.declared.form.Form.{Form}

@@ -1,6 +1,6 @@
 -- A file that has its new sections is read, means what the old one means, is valid, has the codes and the forms of columns that
 -- take the least bytes, and holds nothing else.
-use Rattle.std.proofs.Common.{◌≡◌, ◌<◌, ◌+◌, ◌∙◌, inl, ℕ, List, [], length, sym, ap, subst, refl, arith}
+use Rattle.std.proofs.Common.{◌≡◌, ◌≤◌, ◌<◌, ◌+◌, ◌*◌, ◌^◌, ◌∙◌, inl, ℕ, List, [], length, sym, ap, subst, refl, arith}
 use Rattle.std.specs.Prelude.{map, slice_index}
 use Rattle.dw_base.specs.declared.fault.Kind.TheVariants.{Unbuilt}
 use Rattle.dw_base.specs.declared.fault.Reach.{Reach}
@@ -10,19 +10,20 @@ use Rattle.line_write.specs.Least.{LeastLines, OrderedLines}
 use Rattle.line_write.specs.Meaning.{HaveMeanings}
 use Rattle.companions.specs.declared.set.ArangeSet.{ArangeSet}
 use Rattle.companions.specs.Aranges.{SetsTile}
-use Rattle.value_links.specs.Sections.{offset_named, info_name, debug_info, debug_abbrev, debug_addr, debug_aranges, debug_line}
+use Rattle.value_links.specs.Sections.{offset_named, info_name, debug_info, debug_abbrev, debug_addr, debug_aranges, debug_line, debug_rnglists}
 use Rattle.value_links.specs.Reading.{Linkable, Reading, line_heads, unit_starts, AreProgramsIn, AreUnitsIn}
-use Rattle.value_links.specs.Whole.{AreContexts, IsReading}
+use Rattle.value_links.specs.Whole.{AreContexts, ArePartsOf, IsReading}
+use Rattle.value_links.specs.ListFaults.{entry_total}
 use Rattle.value_links.specs.Debug.{Debug, set_meaning, MeansDebug}
 use Rattle.value_links.specs.Faults.{IsValid}
 use Rattle.value_links.specs.Faults.Pass.{OfLinks}
-use Rattle.value_links.specs.Laws.{HasNoUnread, IsImageInOrder, AreUnitsInOrder, MeaningFilesAreValid}
+use Rattle.value_links.specs.Laws.{HasNoUnread, IsImageInOrder, AreUnitsInOrder, HaveFewEntries, MeaningFilesAreValid}
 use Rattle.value_links.specs.Same.{Same}
 use Rattle.value_links.specs.World.{World, Holds, IsWorldOf}
 use Rattle.rewriter.specs.declared.sections.NewSections.{NewSections}
 use Rattle.rewriter.specs.inside.Bodies.{NewBytes}
 use Rattle.rewriter.specs.inside.Sections.{HasSections}
-use Rattle.value_links.specs.Classes.{OfBoth, HasLeastCodes, HasOrderedCodes, HaveLeastCodes, HaveOrderedCodes, HaveColumns, HaveLeastColumns, HaveFirstColumns}
+use Rattle.value_links.specs.Classes.{OfBoth, HasLeastCodes, HasOrderedCodes, HaveLeastCodes, HaveOrderedCodes, HaveColumns, HaveLeastColumns, HaveFirstColumns, HaveLeastRanges}
 use Rattle.rewriter.specs.inside.Anew.{AreAnew}
 use Rattle.rewriter.specs.inside.Follows.{AreReadAnew}
 use Rattle.value_links.specs.Tidy.{AreTidy, IsTidy}
@@ -30,6 +31,9 @@ use Rattle.rewriter.specs.inside.Rewritten.{IsRewritten}
 use Rattle.rewriter.proofs.Codes.{least_codes, ordered_codes}
 use Rattle.rewriter.proofs.ContextsStay.{contexts_stay, addresses_stay}
 use Rattle.rewriter.proofs.Following.{links_follow}
+use Rattle.rewriter.proofs.ListMeanings.{lists_stay, parts_follow, tidy_lists}
+use Rattle.rewriter.proofs.RangesAnew.{totals_double}
+use Rattle.rewriter.proofs.RootsStay.{roots_stay}
 use Rattle.rewriter.proofs.NoneUnread.{none_is_unread}
 use Rattle.rewriter.proofs.Tidied.{are_tidy}
 use Rattle.rewriter.proofs.LeastColumns.{least_columns, first_columns}
@@ -64,8 +68,11 @@ module _ (file written : List ℕ) (new : NewSections) (has : HasSections file n
   lines_are : debug_line written ≡ new.lines.items
   lines_are = has.sections 2 none (omega arith)
 
+  ranges_are : debug_rnglists written ≡ new.ranges.items
+  ranges_are = has.sections 3 none (omega arith)
+
   aranges_are : debug_aranges written ≡ new.aranges.items
-  aranges_are = has.sections 3 none (omega arith)
+  aranges_are = has.sections 4 none (omega arith)
 
 module _ (file written : List ℕ) (world : World) (r s : Reading) (new : NewSections) (read : IsReading file r) (holds : Holds file world r) (anew : AreAnew file world r s new) (has : HasSections file new written) where
   all_anew : AreReadAnew file world anew.tables anew.places anew.new_places new.info.items new.abbrevs.items r s
@@ -75,7 +82,14 @@ module _ (file written : List ℕ) (world : World) (r s : Reading) (new : NewSec
     tables_written = anew.tables_written;
     units = anew.units;
     programs = record { count = anew.programs.count; places = anew.programs.places };
+    ranges = anew.ranges;
+    addresses = anew.addresses;
+    contexts = anew.contexts;
   }
+
+  -- the contributions are all of the written section
+  parts_anew : ArePartsOf (debug_rnglists written) s.links.ranges
+  parts_anew = record { bytes_are = anew.section ∙ sym (ranges_are file written new has); tiled = anew.ranges.tiled }
 
   -- what is read of the new sections is what is read of the file that has them
   pub reads_anew : IsReading written s
@@ -89,7 +103,10 @@ module _ (file written : List ℕ) (world : World) (r s : Reading) (new : NewSec
           units = subst (λ (z : List ℕ). AreUnitsIn z (debug_abbrev written) s.links.units) (sym (info_is file written new has)) by_abbrevs;
           addresses = addresses;
           contexts = subst (AreContexts s.links.addresses s.links.units) (sym anew.contexts) contexts;
+          ranges = parts_anew;
         };
+        roots = roots_stay all_anew;
+        ranges = lists_stay all_anew;
         sets = subst (λ (z : List ℕ). SetsTile z (unit_starts s.links.units) s.sets) (sym (aranges_are file written new has)) anew.sets.tiled;
       }
 
@@ -98,6 +115,7 @@ module _ (file written : List ℕ) (world : World) (r s : Reading) (new : NewSec
   means_anew debug means = record {
     programs = subst (λ (z : List ℕ). HaveMeanings z (line_heads s.links.programs) debug.programs) (sym (lines_are file written new has)) (anew.programs.means debug.programs means.programs);
     units = links_follow file world anew.tables anew.places anew.new_places new.info.items new.abbrevs.items r s debug.units all_anew means.units;
+    ranges = parts_follow all_anew debug.ranges means.ranges;
     aranges = means.aranges ∙ ap (λ (z : List ArangeSet). map set_meaning z) (sym anew.sets.same);
   }
 
@@ -118,13 +136,20 @@ module _ (file written : List ℕ) (world : World) (r s : Reading) (new : NewSec
     before = record { before = has.order; programs = reads_anew.links.programs; few = anew.programs.few };
     units = reads_anew.links.units;
     built = anew.units.built;
+    ranges = parts_anew;
   }
 
+  -- a list has at most twice the entries of the old one
+  few_anew : entry_total r.range_lists ≤ 2 ^ 24 → HaveFewEntries s Wide
+  few_anew few =
+      let most : entry_total s.range_lists ≤ 2 * entry_total r.range_lists = totals_double r.range_lists s.range_lists anew.ranges.count (λ k inside. (anew.ranges.each k inside).few) in
+      omega (arith, few, most)
+
   -- and it is valid
-  pub valid_anew : MeaningFilesAreValid → (reach : Reach) → IsValid file reach → (debug : Debug) → MeansDebug file r debug → IsValid written Wide
-  valid_anew law reach valid debug means =
+  pub valid_anew : MeaningFilesAreValid → (reach : Reach) → IsValid file reach → (debug : Debug) → MeansDebug file r debug → entry_total r.range_lists ≤ 2 ^ 24 → IsValid written Wide
+  valid_anew law reach valid debug means few =
       let read_all : HasNoUnread s.links = none_is_unread file world anew.tables anew.places anew.new_places new.info.items new.abbrevs.items r s all_anew (none_unread file reach r valid read) in
-      law written Wide s debug units_in_order reads_anew (means_anew debug means) read_all
+      law written Wide s debug units_in_order reads_anew (means_anew debug means) read_all (few_anew few)
 
   -- both are read, so that what holds of what is read of them holds of both
   of_both : (Holds : Linkable → Linkable → Type 0) → Holds r.links s.links → OfBoth Holds file written
@@ -143,21 +168,28 @@ module _ (file written : List ℕ) (world : World) (r s : Reading) (new : NewSec
   pub columns_in_order : HaveFirstColumns file written
   columns_in_order = of_both (HaveColumns IsFirstColumn) (first_columns all_anew)
 
-  -- the sections hold the tables and units, and nothing else
+  -- each list is in the shortest bytes of its class
+  pub ranges_anew : HaveLeastRanges file written
+  ranges_anew =
+      (r, s, read, reads_anew, λ k inside. (let list = anew.ranges.each k inside in record { bytes = list.bytes; rest = list.rest; stands = list.stands; least = list.least }))
+
+  -- the sections hold the tables, the units and the lists, and nothing else
   pub tidy_anew : IsTidy file written
   tidy_anew =
-      of_both (AreTidy (debug_abbrev written)) (subst (λ (z : List ℕ). AreTidy z r.links s.links) (sym (abbrevs_are file written new has)) (are_tidy all_anew))
+      let tidy : AreTidy new.abbrevs.items r s = are_tidy all_anew (tidy_lists all_anew anew.filled) in
+      (r, s, read, reads_anew, subst (λ (z : List ℕ). AreTidy z r s) (sym (abbrevs_are file written new has)) tidy)
 
 -- the sections of a valid file are written anew, and the file is assembled of them
-pub rewritten : (file image : List ℕ) (world : World) (new : NewSections) (written : List ℕ) → MeaningFilesAreValid → IsWorldOf file Narrow world → image ≡ file → ((r : Reading) → Holds file world r → (s : Reading) × AreAnew file world r s new) → LeastLines (debug_line file) new.lines.items → OrderedLines (debug_line file) new.lines.items → HasSections image new written → IsRewritten file written
-rewritten file image world new written law known is anew least order has_image =
-    let (s, all) = anew known.r known.holds in
+pub rewritten : (file image : List ℕ) (world : World) (new : NewSections) (written : List ℕ) → MeaningFilesAreValid → (known : IsWorldOf file Narrow world) → entry_total known.r.range_lists ≤ 2 ^ 24 → image ≡ file → ((r : Reading) → IsReading file r → Holds file world r → (s : Reading) × AreAnew file world r s new) → LeastLines (debug_line file) new.lines.items → OrderedLines (debug_line file) new.lines.items → HasSections image new written → IsRewritten file written
+rewritten file image world new written law known few is anew least order has_image =
+    let (s, all) = anew known.r known.read known.holds in
     let has : HasSections file new written = subst (λ (z : List ℕ). HasSections z new written) is has_image in
     record {
       same = same_anew file written world known.r s new known.read known.holds all has known.debug known.means;
-      still_valid = valid_anew file written world known.r s new known.read known.holds all has law Narrow known.valid known.debug known.means;
+      still_valid = valid_anew file written world known.r s new known.read known.holds all has law Narrow known.valid known.debug known.means few;
       least = subst (λ (z : List ℕ). LeastLines (debug_line file) z) (sym (lines_are file written new has)) least;
       order = subst (λ (z : List ℕ). OrderedLines (debug_line file) z) (sym (lines_are file written new has)) order;
+      ranges = ranges_anew file written world known.r s new known.read known.holds all has;
       tidy = tidy_anew file written world known.r s new known.read known.holds all has;
       columns = columns_anew file written world known.r s new known.read known.holds all has;
       columns_order = columns_in_order file written world known.r s new known.read known.holds all has;

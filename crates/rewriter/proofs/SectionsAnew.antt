@@ -3,7 +3,7 @@ use Rattle.std.proofs.Common.{◌≡◌, ◌≤◌, ◌<◌, ◌+◌, ◌-◌, �
 use Rattle.std.specs.Prelude.{slice_index}
 use Rattle.std.specs.List.{All}
 use Rattle.std.proofs.lemmas.Bool.{cases_lt}
-use Rattle.std.proofs.lemmas.List.{get_or-map, length-map}
+use Rattle.std.proofs.lemmas.List.{get_or-map, length-map, nil_from_length}
 use Rattle.std.proofs.lemmas.List.Elements.{All-nil, All-cons, All-head, All-tail, All-map, All-get_or, All-from_get_or}
 use Rattle.std.proofs.lemmas.Grind.{same_number_lists}
 use Rattle.dw_base.specs.declared.fault.Reach.TheVariants.{Narrow}
@@ -23,9 +23,11 @@ use Rattle.entry_read.specs.Units.{HeadAndForest}
 use Rattle.unit_write.specs.declared.places.Places.{Places}
 use Rattle.unit_write.specs.Sizes.{NumbersHaveSizes, ShortestHaveSizes}
 use Rattle.unit_write.proofs.UnitLaws.{placed_order}
-use Rattle.value_links.specs.Sections.{body_named, body_or_none, debug_info, debug_abbrev, debug_line, debug_aranges, info_name, abbrev_name, line_name, aranges_name}
-use Rattle.value_links.specs.Reading.{ProgramRead, UnitRead, Reading, no_program, no_unit, line_heads, unit_heads, unit_starts, program_at}
+use Rattle.value_links.specs.Sections.{body_named, body_or_none, debug_info, debug_abbrev, debug_line, debug_aranges, info_name, abbrev_name, line_name, rnglists_name, aranges_name}
+use Rattle.list_model.specs.declared.entry.ListKind.TheVariants.{Ranges}
+use Rattle.value_links.specs.Reading.{ProgramRead, UnitRead, ListSection, ListRead, Reading, no_program, no_unit, line_heads, unit_heads, unit_starts}
 use Rattle.value_links.specs.Whole.{IsReading}
+use Rattle.value_links.specs.TidyLists.{IsFilled}
 use Rattle.value_links.specs.Faults.{IsValid}
 use Rattle.value_links.specs.World.{World, head_and_forest, Holds, IsWorldOf}
 use Rattle.value_links.proofs.SectionLaws.{sections_are_found}
@@ -38,9 +40,12 @@ use Rattle.rewriter.specs.inside.Units.{AreUnitsWritten}
 use Rattle.rewriter.specs.inside.Bodies.{NewBytes, new_bytes}
 use Rattle.rewriter.specs.inside.Sections.{IsFor, AreFor}
 use Rattle.rewriter.specs.inside.Anew.{AreProgramsAnew, AreAnew}
-use Rattle.rewriter.specs.inside.Held.{AreNewPlaces}
+use Rattle.rewriter.specs.inside.Held.{AreListPlaces, AreNewPlaces}
+use Rattle.rewriter.specs.inside.Ranges.{AreRangesWritten}
+use Rattle.rewriter.specs.inside.ListsAnew.{AreListsAnew}
 use Rattle.rewriter.proofs.DebugSizes.{debug_short}
 use Rattle.rewriter.proofs.FewRows.{AreProgramsFew, programs_few, few_rows, programs_read}
+use Rattle.rewriter.proofs.RangesAnew.{ranges_for}
 use Rattle.rewriter.proofs.ChosenColumns.{chosen_columns_are_writable}
 use Rattle.rewriter.proofs.UsedDeclarations.{unit_is}
 
@@ -49,10 +54,6 @@ use Rattle.rewriter.proofs.UsedDeclarations.{unit_is}
 -- a section that no section has the name of is empty
 pub none_empty : (file name : List ℕ) → HasNone file name → body_named file name ≡ []
 none_empty file name none = ap (body_or_none file) ((sections_are_found.missing file name).1 none)
-
-empty_list : {X : Type 0} (xs : List X) → length xs ≡ 0 → xs ≡ []
-empty_list [] e = refl
-empty_list (x ∷ xs) e = absurd (omega (arith, e))
 
 no_programs : (section : List ℕ) (heads : List Head) → section ≡ [] → ProgramsTile section heads → length heads ≡ 0
 no_programs section [] none tile = refl
@@ -70,23 +71,23 @@ no_units section (head ∷ heads) none tile =
     absurd (omega (arith, inside, size))
 
 programs_empty : (section : List ℕ) (heads : List Head) → length heads ≡ 0 → ProgramsTile section heads → section ≡ []
-programs_empty section [] none tile = empty_list section (sym tile)
+programs_empty section [] none tile = nil_from_length section (sym tile)
 programs_empty section (head ∷ heads) none tile = absurd (omega (arith, none))
 
 units_empty : (section : List ℕ) (heads : List UnitHead) → length heads ≡ 0 → UnitsTile section heads → section ≡ []
-units_empty section [] none tile = empty_list section (sym tile)
+units_empty section [] none tile = nil_from_length section (sym tile)
 units_empty section (head ∷ heads) none tile = absurd (omega (arith, none))
 
 tables_empty : (section : List ℕ) (tables : List NewTable) → length tables ≡ 0 → TablesStand section (map table_anew tables) 0 → section ≡ []
-tables_empty section [] none tile = empty_list section (sym tile)
+tables_empty section [] none tile = nil_from_length section (sym tile)
 tables_empty section (table ∷ tables) none tile = absurd (omega (arith, none))
 
 -- THE NEW SECTIONS
 
 -- what holds of the bytes of each section holds of all
-pub each_section : (P : NewBytes → Type 0) (new : NewSections) → P (record { name = info_name; bytes = new.info.items }) → P (record { name = abbrev_name; bytes = new.abbrevs.items }) → P (record { name = line_name; bytes = new.lines.items }) → P (record { name = aranges_name; bytes = new.aranges.items }) → All P (new_bytes new)
-each_section P new info abbrevs lines aranges =
-    All-cons P _ (drop 1 (new_bytes new)) info (All-cons P _ (drop 2 (new_bytes new)) abbrevs (All-cons P _ (drop 3 (new_bytes new)) lines (All-cons P _ [] aranges (All-nil P))))
+pub each_section : (P : NewBytes → Type 0) (new : NewSections) → P (record { name = info_name; bytes = new.info.items }) → P (record { name = abbrev_name; bytes = new.abbrevs.items }) → P (record { name = line_name; bytes = new.lines.items }) → P (record { name = rnglists_name; bytes = new.ranges.items }) → P (record { name = aranges_name; bytes = new.aranges.items }) → All P (new_bytes new)
+each_section P new info abbrevs lines ranges aranges =
+    All-cons P _ (drop 1 (new_bytes new)) info (All-cons P _ (drop 2 (new_bytes new)) abbrevs (All-cons P _ (drop 3 (new_bytes new)) lines (All-cons P _ (drop 4 (new_bytes new)) ranges (All-cons P _ [] aranges (All-nil P)))))
 
 -- PARTS
 
@@ -102,9 +103,10 @@ start_at (p ∷ places) u inside =
 start_at [] u inside = absurd (omega arith)
 
 -- What the steps of the writer give, for one reading of the file.
-pub record AreParts (file : List ℕ) (world : World) (r : Reading) (tables : List NewTable) (places : List Places) (new_places : NewPlaces) (info abbrevs lines aranges : List ℕ) : Type 0 where
+pub record AreParts (file : List ℕ) (world : World) (r : Reading) (tables : List NewTable) (places : List Places) (new_places : NewPlaces) (info abbrevs lines ranges aranges : List ℕ) : Type 0 where
   pub holds : Holds file world r
   pub stand : StandAnew (debug_line file) world.programs lines new_places.programs.items
+  pub lists : AreRangesWritten r ranges new_places.ranges.parts.items new_places.ranges.lists.items
   pub written : AreTablesWritten world abbrevs tables
   pub count : length places ≡ length world.units
   pub units : (units : List UnitRead) × AreUnitsWritten world r.links tables places new_places info abbrevs units
@@ -112,10 +114,10 @@ pub record AreParts (file : List ℕ) (world : World) (r : Reading) (tables : Li
   pub others : (k : ℕ) → IsOutside world.sets k → slice_index aranges k ≡ slice_index (debug_aranges file) k
   pub size : length aranges ≡ length (debug_aranges file)
 
-pub parts_of : {file : List ℕ} {world : World} {r : Reading} {tables : List NewTable} {places : List Places} {new_places : NewPlaces} {info abbrevs lines aranges : List ℕ} → Holds file world r → StandAnew (debug_line file) world.programs lines new_places.programs.items → AreTablesWritten world abbrevs tables → length places ≡ length world.units → ((units : List UnitRead) × AreUnitsWritten world r.links tables places new_places info abbrevs units) → SetsTile aranges (starts_of places) world.sets → ((k : ℕ) → IsOutside world.sets k → slice_index aranges k ≡ slice_index (debug_aranges file) k) → length aranges ≡ length (debug_aranges file) → AreParts file world r tables places new_places info abbrevs lines aranges
-parts_of holds stand written count units tiled others size = record { holds = holds; stand = stand; written = written; count = count; units = units; tiled = tiled; others = others; size = size }
+pub parts_of : {file : List ℕ} {world : World} {r : Reading} {tables : List NewTable} {places : List Places} {new_places : NewPlaces} {info abbrevs lines ranges aranges : List ℕ} → Holds file world r → StandAnew (debug_line file) world.programs lines new_places.programs.items → AreRangesWritten r ranges new_places.ranges.parts.items new_places.ranges.lists.items → AreTablesWritten world abbrevs tables → length places ≡ length world.units → ((units : List UnitRead) × AreUnitsWritten world r.links tables places new_places info abbrevs units) → SetsTile aranges (starts_of places) world.sets → ((k : ℕ) → IsOutside world.sets k → slice_index aranges k ≡ slice_index (debug_aranges file) k) → length aranges ≡ length (debug_aranges file) → AreParts file world r tables places new_places info abbrevs lines ranges aranges
+parts_of holds stand lists written count units tiled others size = record { holds = holds; stand = stand; lists = lists; written = written; count = count; units = units; tiled = tiled; others = others; size = size }
 
-module _ {file : List ℕ} {world : World} {r : Reading} {tables : List NewTable} {places : List Places} {new_places : NewPlaces} {info abbrevs lines aranges : List ℕ} (parts : AreParts file world r tables places new_places info abbrevs lines aranges) where
+module _ {file : List ℕ} {world : World} {r : Reading} {tables : List NewTable} {places : List Places} {new_places : NewPlaces} {info abbrevs lines ranges aranges : List ℕ} (parts : AreParts file world r tables places new_places info abbrevs lines ranges aranges) where
   units_count : length world.units ≡ length r.links.units
   units_count = ap (λ (z : List HeadAndForest). length z) parts.holds.units ∙ length-map r.links.units head_and_forest
 
@@ -139,12 +141,6 @@ module _ {file : List ℕ} {world : World} {r : Reading} {tables : List NewTable
   abbrev few : AreProgramsFew lines parts.stand.written
   few = programs_few lines parts.stand.written parts.stand.read
 
-  abbrev new_reading : Reading
-  new_reading = record {
-    links = record { programs = few.programs; units = parts.units.0; addresses = r.links.addresses; contexts = r.links.contexts };
-    sets = r.sets;
-  }
-
   programs_count : length few.programs ≡ length r.links.programs
   programs_count =
       sym (length-map few.programs (λ (p : ProgramRead). p.head))
@@ -153,12 +149,12 @@ module _ {file : List ℕ} {world : World} {r : Reading} {tables : List NewTable
       ∙ ap (λ (z : List Head). length z) parts.holds.programs
       ∙ length-map r.links.programs (λ (p : ProgramRead). p.head)
 
-  program_place : (p : ℕ) → p < length r.links.programs → (program_at new_reading.links p).head.at ≡ slice_index new_places.programs.items p
+  program_place : (p : ℕ) → p < length r.links.programs → (get_or few.programs p no_program).head.at ≡ slice_index new_places.programs.items p
   program_place p inside =
       let count = programs_count in
       let here : p < length few.programs = omega (arith, inside, count) in
       let size : length (line_heads few.programs) ≡ length few.programs = length-map few.programs (λ (x : ProgramRead). x.head) in
-      let head : get_or (line_heads few.programs) p no_program.head ≡ (program_at new_reading.links p).head = get_or-map (λ (x : ProgramRead). x.head) few.programs p no_program no_program.head here in
+      let head : get_or (line_heads few.programs) p no_program.head ≡ (get_or few.programs p no_program).head = get_or-map (λ (x : ProgramRead). x.head) few.programs p no_program no_program.head here in
       let at : get_or (map (λ (h : Head). h.at) (line_heads few.programs)) p 0 ≡ (get_or (line_heads few.programs) p no_program.head).at = get_or-map (λ (h : Head). h.at) (line_heads few.programs) p no_program.head 0 (omega (arith, here, size)) in
       let all : new_places.programs.items ≡ map (λ (h : Head). h.at) (line_heads few.programs) = parts.stand.places ∙ ap (λ (z : List Head). map (λ (h : Head). h.at) z) (sym few.same) in
       sym (ap (λ (z : List ℕ). get_or z p 0) all ∙ at ∙ ap (λ (h : Head). h.at) head)
@@ -168,37 +164,58 @@ module _ {file : List ℕ} {world : World} {r : Reading} {tables : List NewTable
       let old = subst (λ (z : List Head). HaveMeanings (debug_line file) z meanings) (sym parts.holds.programs) means in
       subst (λ (z : List Head). HaveMeanings lines z meanings) (sym few.same) (parts.stand.means meanings old)
 
-  programs_anew : AreProgramsAnew (debug_line file) r.links new_reading.links lines new_places
-  programs_anew = record { read = few.are; few = few.few; count = programs_count; places = program_place; means = programs_mean }
-
   sets_tile : SetsTile aranges (unit_starts parts.units.0) r.sets
   sets_tile =
       let by_sets = subst (λ (z : List ArangeSet). SetsTile aranges (starts_of places) z) parts.holds.sets parts.tiled in
       subst (λ (z : List ℕ). SetsTile aranges z r.sets) starts_are by_sets
 
-  -- The new sections are read, and mean what the old ones mean.
-  pub are_anew : (new : NewSections) → new.info.items ≡ info → new.abbrevs.items ≡ abbrevs → new.lines.items ≡ lines → new.aranges.items ≡ aranges → (s : Reading) × AreAnew file world r s new
-  are_anew new i a l g = (
-    new_reading,
-    record {
-      tables = tables;
-      places = places;
-      new_places = new_places;
-      tables_written = subst (λ (z : List ℕ). AreTablesWritten world z tables) (sym a) parts.written;
-      programs = subst (λ (z : List ℕ). AreProgramsAnew (debug_line file) r.links new_reading.links z new_places) (sym l) programs_anew;
-      addresses = refl;
-      contexts = refl;
-      units = subst (λ (z : List ℕ). AreUnitsWritten world r.links tables places new_places z new.abbrevs.items parts.units.0) (sym i) (subst (λ (z : List ℕ). AreUnitsWritten world r.links tables places new_places info z parts.units.0) (sym a) parts.units.1);
-      sets = record {
-        same = refl;
-        tiled = subst (λ (z : List ℕ). SetsTile z (unit_starts parts.units.0) r.sets) (sym g) sets_tile;
-        size = ap (λ (z : List ℕ). length z) g ∙ parts.size;
-        bytes = λ k outside. ap (λ (z : List ℕ). slice_index z k) g ∙ parts.others k (subst (λ (z : List ArangeSet). IsOutside z k) (sym parts.holds.sets) outside);
-      };
-    },
-  )
+  abbrev new_ranges : ListSection
+  new_ranges = record { section = ranges; parts = new_places.ranges.parts.items }
 
-module _ {file : List ℕ} {world : World} {r : Reading} {tables : List NewTable} {places : List Places} {new_places : NewPlaces} {info abbrevs lines aranges : List ℕ} (parts : AreParts file world r tables places new_places info abbrevs lines aranges) (read : IsReading file r) (valid : IsValid file Narrow) where
+  -- the lists are read again
+  module _ (lists : List ListRead) (lists_are : AreListsAnew r new_ranges lists new_places.ranges) (filled : (s : Reading) → s.links.ranges ≡ new_ranges → s.range_lists ≡ lists → (p : ℕ) → p < length new_places.ranges.parts.items → IsFilled Ranges s p) where
+    abbrev new_reading : Reading
+    new_reading = record {
+      links = record {
+        programs = few.programs;
+        units = parts.units.0;
+        addresses = r.links.addresses;
+        contexts = r.links.contexts;
+        ranges = new_ranges;
+      };
+      range_lists = lists;
+      sets = r.sets;
+    }
+
+    programs_anew : AreProgramsAnew (debug_line file) r.links new_reading.links lines new_places
+    programs_anew = record { read = few.are; few = few.few; count = programs_count; places = program_place; means = programs_mean }
+
+    -- The new sections are read, and mean what the old ones mean.
+    pub are_anew : (new : NewSections) → new.info.items ≡ info → new.abbrevs.items ≡ abbrevs → new.lines.items ≡ lines → new.ranges.items ≡ ranges → new.aranges.items ≡ aranges → (s : Reading) × AreAnew file world r s new
+    are_anew new i a l n g = (
+      new_reading,
+      record {
+        tables = tables;
+        places = places;
+        new_places = new_places;
+        tables_written = subst (λ (z : List ℕ). AreTablesWritten world z tables) (sym a) parts.written;
+        programs = subst (λ (z : List ℕ). AreProgramsAnew (debug_line file) r.links new_reading.links z new_places) (sym l) programs_anew;
+        section = sym n;
+        ranges = lists_are;
+        filled = filled new_reading refl refl;
+        addresses = refl;
+        contexts = refl;
+        units = subst (λ (z : List ℕ). AreUnitsWritten world r.links tables places new_places z new.abbrevs.items parts.units.0) (sym i) (subst (λ (z : List ℕ). AreUnitsWritten world r.links tables places new_places info z parts.units.0) (sym a) parts.units.1);
+        sets = record {
+          same = refl;
+          tiled = subst (λ (z : List ℕ). SetsTile z (unit_starts parts.units.0) r.sets) (sym g) sets_tile;
+          size = ap (λ (z : List ℕ). length z) g ∙ parts.size;
+          bytes = λ k outside. ap (λ (z : List ℕ). slice_index z k) g ∙ parts.others k (subst (λ (z : List ArangeSet). IsOutside z k) (sym parts.holds.sets) outside);
+        };
+      },
+    )
+
+module _ {file : List ℕ} {world : World} {r : Reading} {tables : List NewTable} {places : List Places} {new_places : NewPlaces} {info abbrevs lines ranges aranges : List ℕ} (parts : AreParts file world r tables places new_places info abbrevs lines ranges aranges) (read : IsReading file r) (valid : IsValid file Narrow) where
   -- A section that the file lacks has no new bytes.
   pub lines_for : IsFor file line_name lines
   lines_for none =
@@ -230,11 +247,14 @@ module _ {file : List ℕ} {world : World} {r : Reading} {tables : List NewTable
         | inr few ↦ (let count = parts.written.count in tables_empty abbrevs tables (omega (arith, few, count)) parts.written.tiled)
       ]
 
+  pub rnglists_for : IsFor file rnglists_name ranges
+  rnglists_for none = ranges_for read parts.lists (none_empty file rnglists_name none)
+
   pub aranges_for : IsFor file aranges_name aranges
   aranges_for none =
       let empty : length (debug_aranges file) ≡ 0 = ap (λ (z : List ℕ). length z) (none_empty file aranges_name none) in
       let size = parts.size in
-      empty_list aranges (omega (arith, size, empty))
+      nil_from_length aranges (omega (arith, size, empty))
 
   pub aranges_fit : length aranges < 2 ^ 32 - 1
   aranges_fit =
@@ -242,10 +262,10 @@ module _ {file : List ℕ} {world : World} {r : Reading} {tables : List NewTable
       let size = parts.size in
       omega (arith, size, small)
 
-  pub are_for : (new : NewSections) → new.info.items ≡ info → new.abbrevs.items ≡ abbrevs → new.lines.items ≡ lines → new.aranges.items ≡ aranges → length info < 2 ^ 32 - 1 → length abbrevs < 2 ^ 32 - 1 → length lines < 2 ^ 32 - 1 → AreFor file new
-  are_for new i a l g info_fits abbrevs_fit all_lines_fit = record {
-    each = each_section (λ (n : NewBytes). IsFor file n.name n.bytes) new (λ none. i ∙ info_for none) (λ none. a ∙ abbrevs_for none) (λ none. l ∙ lines_for none) (λ none. g ∙ aranges_for none);
-    fit = each_section (λ (n : NewBytes). length n.bytes < 2 ^ 32 - 1) new (subst (λ (z : List ℕ). length z < 2 ^ 32 - 1) (sym i) info_fits) (subst (λ (z : List ℕ). length z < 2 ^ 32 - 1) (sym a) abbrevs_fit) (subst (λ (z : List ℕ). length z < 2 ^ 32 - 1) (sym l) all_lines_fit) (subst (λ (z : List ℕ). length z < 2 ^ 32 - 1) (sym g) aranges_fit);
+  pub are_for : (new : NewSections) → new.info.items ≡ info → new.abbrevs.items ≡ abbrevs → new.lines.items ≡ lines → new.ranges.items ≡ ranges → new.aranges.items ≡ aranges → length info < 2 ^ 32 - 1 → length abbrevs < 2 ^ 32 - 1 → length lines < 2 ^ 32 - 1 → length ranges < 2 ^ 32 - 1 → AreFor file new
+  are_for new i a l n g info_fits abbrevs_fit all_lines_fit all_ranges_fit = record {
+    each = each_section (λ (n : NewBytes). IsFor file n.name n.bytes) new (λ none. i ∙ info_for none) (λ none. a ∙ abbrevs_for none) (λ none. l ∙ lines_for none) (λ none. n ∙ rnglists_for none) (λ none. g ∙ aranges_for none);
+    fit = each_section (λ (n : NewBytes). length n.bytes < 2 ^ 32 - 1) new (subst (λ (z : List ℕ). length z < 2 ^ 32 - 1) (sym i) info_fits) (subst (λ (z : List ℕ). length z < 2 ^ 32 - 1) (sym a) abbrevs_fit) (subst (λ (z : List ℕ). length z < 2 ^ 32 - 1) (sym l) all_lines_fit) (subst (λ (z : List ℕ). length z < 2 ^ 32 - 1) (sym n) all_ranges_fit) (subst (λ (z : List ℕ). length z < 2 ^ 32 - 1) (sym g) aranges_fit);
   }
 
 -- WHAT THE STEPS ASK FOR
@@ -267,15 +287,16 @@ heads_below section (head ∷ heads) a e follow =
     let inside = b.inside in
     All-cons (λ (h : Head). h.at < length section) head heads (omega (arith, inside)) (heads_below section heads (a + head.len) e follow.2)
 
-pub places_are_new : (section : List ℕ) (world : World) (bytes : List ℕ) (new_places : NewPlaces) → StandAnew section world.programs bytes new_places.programs.items → length bytes < 2 ^ 32 → AreNewPlaces world new_places
-places_are_new section world bytes new_places stand few =
+pub places_are_new : (section : List ℕ) (world : World) (bytes : List ℕ) (new_places : NewPlaces) → StandAnew section world.programs bytes new_places.programs.items → length bytes < 2 ^ 32 → AreListPlaces world new_places.ranges → AreNewPlaces world new_places
+places_are_new section world bytes new_places stand short lists =
     let size : length (map (λ (h : Head). h.at) stand.written) ≡ length stand.written = length-map stand.written (λ (h : Head). h.at) in
     let below = heads_below bytes stand.written 0 (length bytes) stand.read.tiled in
     let none : Head = no_program.head in
-    let each : All (λ (h : Head). h.at < 2 ^ 32) stand.written = All-from_get_or (λ (h : Head). h.at < 2 ^ 32) stand.written none (λ k inside. (let l : (get_or stand.written k none).at < length bytes = All-get_or (λ (h : Head). h.at < length bytes) stand.written k none inside below in omega (arith, l, few))) in
+    let each : All (λ (h : Head). h.at < 2 ^ 32) stand.written = All-from_get_or (λ (h : Head). h.at < 2 ^ 32) stand.written none (λ k inside. (let l : (get_or stand.written k none).at < length bytes = All-get_or (λ (h : Head). h.at < length bytes) stand.written k none inside below in omega (arith, l, short))) in
     record {
       programs = ap (λ (z : List ℕ). length z) stand.places ∙ size ∙ stand.count;
       programs_fit = subst (λ (z : List ℕ). All (λ start. start < 2 ^ 32) z) (sym stand.places) (All-map (λ start. start < 2 ^ 32) (λ (h : Head). h.at) stand.written each);
+      ranges = lists;
     }
 
 places_from : (places : List Places) (at end : ℕ) → All (λ (p : Places). p.start ≤ p.end) places → PlacesFollow places at end → (at ≤ end) × All (λ (p : Places). p.start ≤ end) places

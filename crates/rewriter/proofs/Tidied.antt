@@ -1,4 +1,4 @@
--- A file that is written anew holds tables and units, and nothing else.
+-- A file that is written anew holds tables, units and lists, and nothing else.
 use Rattle.std.proofs.Common.{◌≡◌, ◌≤◌, ◌<◌, ◌+◌, ◌-◌, ◌∙◌, ℕ, suc, List, [], ◌∷◌, length, get_or, map, refl, sym, ap, subst, arith}
 use Rattle.std.specs.Prelude.{slice_index}
 use Rattle.std.specs.List.{All}
@@ -16,6 +16,8 @@ use Rattle.value_links.specs.declared.units.NamedTable.{NamedTable}
 use Rattle.value_links.specs.Reading.{Reading, no_unit}
 use Rattle.value_links.specs.World.{World, table_at}
 use Rattle.value_links.specs.Uses.{AreUses}
+use Rattle.list_model.specs.declared.entry.ListKind.TheVariants.{Ranges}
+use Rattle.value_links.specs.TidyLists.{AreTidyLists}
 use Rattle.value_links.specs.Tidy.{TablesTile, names_of, IsRenewed, IsTidyTable, AreTidyTables, IsTidyUnit, AreTidy}
 use Rattle.rewriter.specs.declared.tables.NewTable.{NewTable}
 use Rattle.rewriter.specs.declared.new_places.NewPlaces.{NewPlaces}
@@ -121,5 +123,5 @@ module _ {file : List ℕ} {world : World} {tables : List NewTable} {places : Li
       let moved = all.units.each u (subst (λ (n : ℕ). u < n) all.units.count inside) in
       record { short = moved.short; ends = moved.ends_short; filled = moved.filled })
 
-  pub are_tidy : AreTidy abbrevs r.links s.links
-  are_tidy = record { tables = tidy_tables; units = tidy_units }
+  pub are_tidy : AreTidyLists Ranges r s → AreTidy abbrevs r s
+  are_tidy ranges = record { tables = tidy_tables; units = tidy_units; ranges = ranges }

@@ -6,9 +6,12 @@ pub mod Columns
 pub mod Counting
 pub mod Follows
 pub mod Held
+pub mod ListsAnew
 pub mod NewPlaces
 pub mod Numbers
 pub mod Placed
+pub mod Plans
+pub mod Ranges
 pub mod Rewritten
 pub mod Sections
 pub mod Tables

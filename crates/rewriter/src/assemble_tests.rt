@@ -63,9 +63,6 @@ fn with_sections(
     let Some(_) = image.find(b".debug_line".as_slice()) else {
         return Err(NoMemory);
     };
-    let None = image.find(b".debug_rnglists".as_slice()) else {
-        return Err(NoMemory);
-    };
     let None = image.find(b".debug_loclists".as_slice()) else {
         return Err(NoMemory);
     };
@@ -73,6 +70,7 @@ fn with_sections(
         info,
         abbrevs: Vec::new(alloc),
         lines,
+        ranges: Vec::new(alloc),
         aranges: Vec::new(alloc),
     };
     assemble(alloc, &image, sections)

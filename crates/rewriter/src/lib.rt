@@ -1,4 +1,4 @@
-//! A whole file written anew: its line number programs, abbreviation tables and units, with all that refers to them.
+//! A whole file written anew: its line number programs, range lists, abbreviation tables and units, with all that refers to them.
 #![tactic(auto)]
 
 mod anew;
@@ -14,6 +14,7 @@ mod numbers;
 #[cfg(test)]
 mod place_tests;
 mod places;
+mod ranges;
 #[cfg(test)]
 mod section_tests;
 mod sections;

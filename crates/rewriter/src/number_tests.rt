@@ -1,8 +1,7 @@
 // What references and section offsets become, worked out by hand.
-use crate::new_places::NewPlaces;
 use crate::numbers::new_numbers;
 use crate::places::place_units;
-use crate::test_file::{FILE, tables_of, world_of};
+use crate::test_file::{FILE, new_places_of, tables_of, world_of};
 use dw_base::NoMemory;
 use std::alloc::Global;
 use std::test::Fail;
@@ -14,14 +13,9 @@ fn numbers_of(alloc: Global, unit: u32) -> Result<NewNumbers, NoMemory> {
     if unit as usize >= world.units().len() {
         return Err(NoMemory);
     }
-    if world.programs().len() != 2 {
-        return Err(NoMemory);
-    }
     let tables = tables_of(alloc, &world)?;
     let places = place_units(alloc, &world, &tables.tables)?;
-    let new_places = NewPlaces {
-        programs: vec![in alloc; 0u64, 43]?,
-    };
+    let new_places = new_places_of(alloc, &world)?;
     new_numbers(alloc, &world, &tables.tables, &places, &new_places, unit)
 }
 

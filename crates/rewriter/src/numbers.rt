@@ -3,6 +3,8 @@ ghost use Rattle.std.specs.Prelude.{◌≡◌, ◌≤◌, ◌<◌, ◌+◌, ◌^
 ghost use Rattle.dw_base.specs.declared.fault.Reach.{Reach};
 ghost use Rattle.entry_arena.specs.declared.entry.Target.{Target};
 ghost use Rattle.entry_arena.specs.Arena.{entry_at, chain_end_at, HasChainEnd};
+ghost use Rattle.list_model.specs.declared.entry.ListKind.TheVariants.{Ranges};
+ghost use Rattle.list_write.specs.Written.{moved_at};
 ghost use Rattle.value_links.specs.Reading.{Reading};
 ghost use Rattle.value_links.specs.Linked.{IsTargetAt};
 ghost use Rattle.value_links.specs.World.{IsWorldOf, Holds};
@@ -12,16 +14,21 @@ ghost use Rattle.rewriter.specs.inside.Placed.{places_anew, ArePlacesOf};
 ghost use Rattle.rewriter.specs.inside.Numbers.{MovesTo, AreNewNumbers};
 ghost use Rattle.rewriter.specs.inside.Held.{HavePlaces, AllHavePlaces, AreNewPlaces, MeansSomething, IsLinkFor, IsNumberOf, EntryMeans, entry_in, name_in, value_in, AreNumbersOf, UnitMeans, AreNumbered, HasType, IsTypeMoved};
 
-use crate::new_places::NewPlaces;
+use crate::new_places::{ListPlaces, NewPlaces};
 use crate::tables::NewTable;
 use dw_base::NoMemory;
 use dw_base::constants::DW_UT_TYPE;
 use entry_arena::{ChainEnd, Entry, Target};
 use entry_read::Unit;
 use form_codec::Value;
+use list_model::ListKind;
+use list_write::Moved;
 use std::alloc::Global;
 use unit_write::{NewNumbers, Places};
 use value_links::{Link, World};
+
+// The bytes of a contribution's header, behind which its offsets begin (DWARF 5 section 7.28).
+const HEADER_SIZE: u64 = 12;
 
 // The number of the entry that stands at a place.
 fn entry_number(entries: &[Entry], place: u64) -> usize
@@ -129,7 +136,32 @@ fn section_number(world: &World<'_>, places: &Vec<Places>, unit: u32, name: u64,
     }
 }
 
-// The new number of a section offset: the place of a line number program, else the old number.
+// The new place of the list that began at a place.
+fn list_place(moved: &[Moved], old: u64) -> u64
+    requires rising { (j k : ℕ) → j < k → k < length moved.now → (moved_at moved.now j).old < (moved_at moved.now k).old }
+    requires stands { (k : ℕ) × (k < length moved.now) × ((moved_at moved.now k).old ≡ old) }
+    ensures { (k : ℕ) × (k < length moved.now) × ((moved_at moved.now k).old ≡ old) × ((moved_at moved.now k).new ≡ result) }
+{
+    match moved.binary_search_by_key(&old, |list| list.old) {
+        Ok(number) => moved[number].new,
+        // A list began there.
+        Err(_) => unreachable!(),
+    }
+}
+
+// The new places of lists of a kind.
+fn places_of(new_places: &NewPlaces, kind: ListKind) -> &ListPlaces
+    requires { kind ≡ Ranges }
+    ensures { result.now ≡ new_places.now.ranges }
+{
+    match kind {
+        ListKind::Ranges => &new_places.ranges,
+        // No file with location lists is rewritten yet.
+        ListKind::Locations => unreachable!(),
+    }
+}
+
+// The new number of a section offset: the place of a line number program, a range list or a contribution, else the old number.
 fn offset_number(world: &World<'_>, new_places: &NewPlaces, unit: u32, name: u64, old: u64) -> u64
     requires unit { unit < length world.now.units }
     requires new_places { AreNewPlaces world.now new_places.now }
@@ -139,8 +171,10 @@ fn offset_number(world: &World<'_>, new_places: &NewPlaces, unit: u32, name: u64
 {
     match link_of(world, unit, name, &Value::Offset(old)) {
         Link::Lines(program) => new_places.programs[program as usize],
+        Link::List(kind, _) => list_place(&places_of(new_places, kind).lists, old),
+        Link::Base(kind, part) => places_of(new_places, kind).parts[part as usize].at + HEADER_SIZE,
         Link::Kept(_) => old,
-        // A section offset names a program, or is kept.
+        // A section offset names a program, a range list or a contribution of these, or is kept.
         _ => unreachable!(),
     }
 }

@@ -4,17 +4,20 @@ ghost use Rattle.dw_base.specs.declared.fault.Reach.TheVariants.{Narrow};
 ghost use Rattle.line_write.specs.Least.{LeastLines, OrderedLines};
 ghost use Rattle.value_links.specs.Sections.{debug_line};
 ghost use Rattle.value_links.specs.Reading.{Reading};
+ghost use Rattle.value_links.specs.Whole.{IsReading};
 ghost use Rattle.value_links.specs.World.{Holds, IsWorldOf};
 ghost use Rattle.rewriter.specs.inside.Sections.{AreFor};
 ghost use Rattle.rewriter.specs.inside.Anew.{AreAnew};
 
 use crate::anew::{write_aranges, write_lines};
-use crate::new_places::NewPlaces;
+use crate::new_places::{ListPlaces, NewPlaces};
 use crate::places::place_units;
+use crate::ranges::write_ranges;
 use crate::tables::write_tables;
 use crate::units::write_units;
 use abbrev_tables::listings;
 use dw_base::NoMemory;
+use range_lists::ranges_written;
 use std::alloc::Global;
 use unit_write::values_have_sizes;
 use value_links::World;
@@ -28,28 +31,37 @@ pub struct NewSections {
     pub abbrevs: Vec<u8>,
     /// .debug_line
     pub lines: Vec<u8>,
+    /// .debug_rnglists
+    pub ranges: Vec<u8>,
     /// .debug_aranges
     pub aranges: Vec<u8>,
 }
 
-/// Writes the debug sections of a file anew: its line number programs, then its abbreviation tables, then its units, and the sets
-/// of address ranges that name these. Each section has fewer than the 2^32 - 1 bytes that one of the 32-bit format can't have
+/// Writes the debug sections of a file anew: its line number programs and range lists, then its abbreviation tables, then its units,
+/// and the sets of address ranges that name these. Each section has fewer than the 2^32 - 1 bytes that one of the 32-bit format can't have
 /// (DWARF 5 section 7.4). The only error is want of memory.
 pub fn write_sections(alloc: Global, world: &World<'_>) -> Result<NewSections, NoMemory>
     requires world { IsWorldOf world.now.image Narrow world.now }
-    ensures anew { IfOk result (λ new. (r : Reading) → Holds world.now.image world.now r → (s : Reading) × AreAnew world.now.image world.now r s new) }
+    ensures anew { IfOk result (λ new. (r : Reading) → IsReading world.now.image r → Holds world.now.image world.now r → (s : Reading) × AreAnew world.now.image world.now r s new) }
     ensures sections { IfOk result (λ new. AreFor world.now.image new) }
     ensures least { IfOk result (λ new. LeastLines (debug_line world.now.image) new.lines.items) }
     ensures order { IfOk result (λ new. OrderedLines (debug_line world.now.image) new.lines.items) }
 {
-    // Laws, which cost nothing: what was read of a unit can be written, and declarations stand where they are listed.
+    // Laws, which cost nothing: what was read of a unit can be written, declarations stand where they are listed, and range lists that
+    // are written are read.
     values_have_sizes();
     listings();
+    ranges_written();
     let lines = write_lines(alloc, world)?;
+    let ranges = write_ranges(alloc, world)?;
     let tables = write_tables(alloc, world)?;
     let places = place_units(alloc, world, &tables.tables)?;
     let new_places = NewPlaces {
         programs: lines.starts,
+        ranges: ListPlaces {
+            parts: ranges.parts,
+            lists: ranges.lists,
+        },
     };
     let info = write_units(alloc, world, &tables, &places, &new_places)?;
     let aranges = write_aranges(alloc, world, &places)?;
@@ -57,6 +69,7 @@ pub fn write_sections(alloc: Global, world: &World<'_>) -> Result<NewSections, N
         info,
         abbrevs: tables.bytes,
         lines: lines.bytes,
+        ranges: ranges.bytes,
         aranges,
     })
 }

@@ -4,10 +4,13 @@ ghost use Rattle.dw_base.specs.declared.fault.Reach.TheVariants.{Narrow};
 ghost use Rattle.value_links.specs.World.{IsWorldOf};
 ghost use Rattle.rewriter.specs.inside.Tables.{AreTablesWritten};
 ghost use Rattle.rewriter.specs.inside.Placed.{AreWritable};
+ghost use Rattle.rewriter.specs.inside.Held.{AreNewPlaces};
 
+use crate::new_places::{ListPlaces, NewPlaces};
 use crate::tables::{Tables, write_tables};
 use abbrev_tables::listings;
 use dw_base::{NoMemory, Reach};
+use list_model::ListKind;
 use std::alloc::Global;
 use unit_write::values_have_sizes;
 use value_links::World;
@@ -120,4 +123,26 @@ pub fn tables_of(alloc: Global, world: &World<'_>) -> Result<Tables, NoMemory>
     values_have_sizes();
     listings();
     write_tables(alloc, world)
+}
+
+/// The new places of what section offsets name in the file: its second line number program is at 43 now, and it has no range lists.
+pub fn new_places_of(alloc: Global, world: &World<'_>) -> Result<NewPlaces, NoMemory>
+    ensures { IfOk result (AreNewPlaces world.now) }
+{
+    if world.programs().len() != 2 {
+        return Err(NoMemory);
+    }
+    if !world.contributions(ListKind::Ranges).is_empty() {
+        return Err(NoMemory);
+    }
+    if !world.lists(ListKind::Ranges).is_empty() {
+        return Err(NoMemory);
+    }
+    Ok(NewPlaces {
+        programs: vec![in alloc; 0u64, 43]?,
+        ranges: ListPlaces {
+            parts: Vec::new(alloc),
+            lists: Vec::new(alloc),
+        },
+    })
 }

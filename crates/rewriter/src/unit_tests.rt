@@ -1,7 +1,6 @@
 // Units as they are written anew, worked out by hand.
-use crate::new_places::NewPlaces;
 use crate::places::place_units;
-use crate::test_file::{FILE, NEW_INFO, tables_of, world_of};
+use crate::test_file::{FILE, NEW_INFO, new_places_of, tables_of, world_of};
 use crate::units::write_units;
 use dw_base::NoMemory;
 use std::alloc::Global;
@@ -10,14 +9,9 @@ use std::test::Fail;
 // The units of the file, whose second line number program is at 43 now.
 fn units_of(alloc: Global) -> Result<Vec<u8>, NoMemory> {
     let world = world_of(alloc, &FILE)?;
-    if world.programs().len() != 2 {
-        return Err(NoMemory);
-    }
     let tables = tables_of(alloc, &world)?;
     let places = place_units(alloc, &world, &tables.tables)?;
-    let new_places = NewPlaces {
-        programs: vec![in alloc; 0u64, 43]?,
-    };
+    let new_places = new_places_of(alloc, &world)?;
     write_units(alloc, &world, &tables, &places, &new_places)
 }
 

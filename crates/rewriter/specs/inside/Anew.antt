@@ -5,6 +5,8 @@ use Rattle.companions.specs.Aranges.{IsOutside, SetsTile}
 use Rattle.unit_write.specs.declared.places.Places.{Places}
 use Rattle.value_links.specs.Sections.{debug_line, debug_aranges}
 use Rattle.value_links.specs.Reading.{Linkable, Reading, line_heads, unit_starts, program_at, AreProgramsIn}
+use Rattle.list_model.specs.declared.entry.ListKind.TheVariants.{Ranges}
+use Rattle.value_links.specs.TidyLists.{IsFilled}
 use Rattle.value_links.specs.Laws.{HaveFewRows}
 use Rattle.value_links.specs.World.{World}
 use Rattle.rewriter.specs.declared.tables.NewTable.{NewTable}
@@ -12,6 +14,7 @@ use Rattle.rewriter.specs.declared.new_places.NewPlaces.{NewPlaces}
 use Rattle.rewriter.specs.declared.sections.NewSections.{NewSections}
 use Rattle.rewriter.specs.inside.Tables.{AreTablesWritten}
 use Rattle.rewriter.specs.inside.Units.{AreUnitsWritten}
+use Rattle.rewriter.specs.inside.ListsAnew.{AreListsAnew}
 
 -- The programs of the new section begin at their new places, give few rows, and mean what the old ones mean, one by one.
 pub record AreProgramsAnew (old_lines : List ℕ) (r s : Linkable) (lines : List ℕ) (new_places : NewPlaces) : Type 0 where
@@ -35,6 +38,9 @@ pub record AreAnew (file : List ℕ) (world : World) (r s : Reading) (new : NewS
   pub new_places : NewPlaces
   pub tables_written : AreTablesWritten world new.abbrevs.items tables
   pub programs : AreProgramsAnew (debug_line file) r.links s.links new.lines.items new_places
+  pub section : s.links.ranges.section ≡ new.ranges.items
+  pub ranges : AreListsAnew r s.links.ranges s.range_lists new_places.ranges
+  pub filled : (p : ℕ) → p < length s.links.ranges.parts → IsFilled Ranges s p
   pub addresses : s.links.addresses ≡ r.links.addresses
   pub contexts : s.links.contexts ≡ r.links.contexts
   pub units : AreUnitsWritten world r.links tables places new_places new.info.items new.abbrevs.items s.links.units

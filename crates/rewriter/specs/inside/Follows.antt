@@ -10,6 +10,7 @@ use Rattle.rewriter.specs.declared.tables.NewTable.{NewTable}
 use Rattle.rewriter.specs.declared.new_places.NewPlaces.{NewPlaces}
 use Rattle.rewriter.specs.inside.Tables.{AreTablesWritten}
 use Rattle.rewriter.specs.inside.Units.{AreUnitsWritten}
+use Rattle.rewriter.specs.inside.ListsAnew.{AreListsAnew}
 
 -- there are as many line number programs, and they begin at their new places
 pub record AreProgramsMoved (r s : Linkable) (new_places : NewPlaces) : Type 0 where
@@ -23,6 +24,9 @@ pub record AreReadAnew (file : List ℕ) (world : World) (tables : List NewTable
   pub tables_written : AreTablesWritten world abbrevs tables
   pub units : AreUnitsWritten world r.links tables places new_places info abbrevs s.links.units
   pub programs : AreProgramsMoved r.links s.links new_places
+  pub ranges : AreListsAnew r s.links.ranges s.range_lists new_places.ranges
+  pub addresses : s.links.addresses ≡ r.links.addresses
+  pub contexts : s.links.contexts ≡ r.links.contexts
 
 -- The units mean the same, with their entries and all values.
 abbrev pub LinksFollow : Type 0

@@ -1,14 +1,28 @@
 -- Where what section offsets name stands in a file that is written anew.
 use Rattle.std.specs.Prelude.{◌≡◌, ◌<◌, ℕ, length, slice_index}
 use Rattle.form_codec.specs.Forms.Meaning.{SectionPlace}
+use Rattle.list_model.specs.declared.entry.ListKind.TheVariants.{Ranges}
+use Rattle.list_model.specs.Contributions.{offsets_at}
+use Rattle.list_write.specs.Written.{part_at, moved_at}
 use Rattle.value_links.specs.Reading.{Linkable}
 use Rattle.value_links.specs.Linked.{Linked, Links}
-use Rattle.value_links.specs.Linked.Linked.{Program, Kept}
+use Rattle.value_links.specs.Linked.Linked.{Program, ListAt, BaseOf, Kept}
+use Rattle.rewriter.specs.declared.new_places.ListPlaces.{ListPlaces}
 use Rattle.rewriter.specs.declared.new_places.NewPlaces.{NewPlaces}
 
--- The new number of a section offset, by what it refers to: the new place of a line number program, or the number that it is.
+-- a list that began at a place begins at another now
+pub record IsMovedTo (places : ListPlaces) (old new : ℕ) : Type 0 where
+  pub number : ℕ
+  pub inside : number < length places.lists.items
+  pub from : (moved_at places.lists.items number).old ≡ old
+  pub to : (moved_at places.lists.items number).new ≡ new
+
+-- The new number of a section offset, by what it refers to: the new place of a line number program, of a range list or of the
+-- offsets of a contribution of range lists, or the number that it is.
 abbrev pub IsNewOffset : NewPlaces → Linked → ℕ → Type 0
 IsNewOffset places (Program p) new = (p < length places.programs.items) × (new ≡ slice_index places.programs.items p)
+IsNewOffset places (ListAt Ranges n) new = IsMovedTo places.ranges n new
+IsNewOffset places (BaseOf Ranges p) new = (p < length places.ranges.parts.items) × (new ≡ offsets_at (part_at places.ranges.parts.items p).at)
 IsNewOffset places (Kept n) new = new ≡ n
 IsNewOffset places linked new = ⊥
 

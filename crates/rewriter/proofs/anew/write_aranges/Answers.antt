@@ -6,7 +6,7 @@ use Rattle.std.proofs.lemmas.List.Elements.{All-map}
 use Rattle.companions.specs.Aranges.{IsOutside}
 use Rattle.companions.specs.declared.set.ArangeSet.{ArangeSet}
 use Rattle.unit_write.specs.declared.places.Places.{Places}
-use Rattle.value_links.specs.Sections.{body_named, debug_aranges, aranges_name}
+use Rattle.value_links.specs.Sections.{debug_aranges}
 use Rattle.rewriter.proofs.SectionsAnew.{old_sets, old_units}
 use Rattle.rewriter.proofs.anew.write_aranges.Goals as goal
 

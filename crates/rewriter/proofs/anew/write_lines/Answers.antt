@@ -1,10 +1,10 @@
-use Rattle.std.proofs.Common.{◌≤◌, ◌<◌, ◌+◌, ◌-◌, ◌*◌, ◌^◌, ◌∙◌, ℕ, List, length, sym, ap, refl, subst, arith}
+use Rattle.std.proofs.Common.{◌≤◌, ◌<◌, ◌+◌, ◌-◌, ◌*◌, ◌^◌, ℕ, List, length, sym, refl, subst, arith}
 use Rattle.std.specs.Prelude.{IfOk}
 use Rattle.std.proofs.lemmas.Result.{IfOk-weaker}
 use Rattle.line_machine.specs.declared.head.Head.{Head}
 use Rattle.line_write.specs.Readings.{StandAnew}
 use Rattle.line_write.specs.Least.{LeastLines, OrderedLines}
-use Rattle.value_links.specs.Sections.{body_named, debug_line, line_name}
+use Rattle.value_links.specs.Sections.{debug_line, line_name}
 use Rattle.line_write.specs.Faults.{total_limit}
 use Rattle.line_write.specs.declared.lines.Lines.{Lines}
 use Rattle.rewriter.proofs.DebugSizes.{debug_short, lines_short}

@@ -1,4 +1,6 @@
 use Rattle.std.proofs.Common.{refl, arith}
+use Rattle.rewriter.proofs.ListsAnew.{lists_anew}
+use Rattle.rewriter.proofs.RangesAnew.{list_places}
 use Rattle.rewriter.proofs.SectionsAnew.{parts_of, are_anew, are_for, writable, places_are_new, places_fit}
 use Rattle.rewriter.proofs.sections.write_sections.Goals as goal
 
@@ -15,7 +17,9 @@ write_units-requires-clause-writable c =
 
 pub write_units-requires-clause-new_places : goal.write_units-requires-clause-new_places
 write_units-requires-clause-new_places c =
-    places_are_new _ c.args.world.now c.in_ok-lines.lines.bytes.items (record { programs = c.in_ok-lines.lines.starts }) c.in_ok-lines.ensures.stand (let fits = c.in_ok-lines.ensures.fits in omega (arith, fits))
+    let w = c.requires.world in
+    let fits = c.in_ok-lines.ensures.fits in
+    places_are_new _ c.args.world.now c.in_ok-lines.lines.bytes.items _ c.in_ok-lines.ensures.stand (omega (arith, fits)) (list_places w.read (c.in_ok-ranges.ensures.written w.r w.holds) c.args.world.now w.holds _ refl refl)
 
 pub write_aranges-requires-clause-fit : goal.write_aranges-requires-clause-fit
 write_aranges-requires-clause-fit c =
@@ -23,13 +27,16 @@ write_aranges-requires-clause-fit c =
 
 pub returns-clause-anew : goal.returns-clause-anew
 returns-clause-anew c =
-    λ r holds.
-    let parts = parts_of holds c.in_ok-lines.ensures.stand c.in_ok-tables.ensures.written c.in_ok-places.ensures.placed.1.count (c.in_ok-info.ensures.written c.args.world.now.image r holds) c.in_ok-aranges.ensures.tiled c.in_ok-aranges.ensures.others c.in_ok-aranges.ensures.size in
-    are_anew parts _ refl refl refl refl
+    λ r read holds.
+    let written = c.in_ok-ranges.ensures.written r holds in
+    let parts = parts_of holds c.in_ok-lines.ensures.stand written c.in_ok-tables.ensures.written c.in_ok-places.ensures.placed.1.count (c.in_ok-info.ensures.written c.args.world.now.image r holds) c.in_ok-aranges.ensures.tiled c.in_ok-aranges.ensures.others c.in_ok-aranges.ensures.size in
+    let lists = lists_anew c.ranges_written.ensures c.args.world.now.image r read _ _ _ written in
+    are_anew parts lists.0 (lists.1 _ refl refl) lists.2 _ refl refl refl refl refl
 
 pub returns-clause-sections : goal.returns-clause-sections
 returns-clause-sections c =
     let w = c.requires.world in
-    let parts = parts_of w.holds c.in_ok-lines.ensures.stand c.in_ok-tables.ensures.written c.in_ok-places.ensures.placed.1.count (c.in_ok-info.ensures.written c.args.world.now.image w.r w.holds) c.in_ok-aranges.ensures.tiled c.in_ok-aranges.ensures.others c.in_ok-aranges.ensures.size in
+    let parts = parts_of w.holds c.in_ok-lines.ensures.stand (c.in_ok-ranges.ensures.written w.r w.holds) c.in_ok-tables.ensures.written c.in_ok-places.ensures.placed.1.count (c.in_ok-info.ensures.written c.args.world.now.image w.r w.holds) c.in_ok-aranges.ensures.tiled c.in_ok-aranges.ensures.others c.in_ok-aranges.ensures.size in
     let info = c.in_ok-info.ensures.fits in
-    are_for parts w.read w.valid _ refl refl refl refl (omega (arith, info)) c.in_ok-tables.ensures.fits c.in_ok-lines.ensures.fits
+    let ranges = c.in_ok-ranges.ensures.fits in
+    are_for parts w.read w.valid _ refl refl refl refl refl (omega (arith, info)) c.in_ok-tables.ensures.fits c.in_ok-lines.ensures.fits (omega (arith, ranges))

@@ -1,4 +1,4 @@
-use Rattle.std.proofs.Common.{◌≡◌, [], ◌∷◌, List, refl, sym, subst, inr, arith}
+use Rattle.std.proofs.Common.{[], List, refl, sym, subst, inr, arith}
 use Rattle.std.specs.Prelude.{pos}
 use Rattle.std.specs.List.{All}
 use Rattle.std.proofs.lemmas.List.Elements.{All-cons, All-nil}

@@ -1,0 +1,336 @@
+-- Plans of range lists that are held.
+use Rattle.std.proofs.Common.{◌≡◌, ◌≤◌, ◌<◌, ◌+◌, ◌*◌, ◌^◌, ◌∙◌, ℕ, suc, List, [], ◌∷◌, length, get_or, map, cond, Bool, true, false, Result, Ok, Err, inl, inr, sym, ap, refl, subst, arith}
+use Rattle.std.specs.Prelude.{Option, Some, None, IfOk, not, filter}
+use Rattle.std.specs.List.{All, Contains}
+use Rattle.std.proofs.lemmas.Bool.{cases_lt}
+use Rattle.std.proofs.lemmas.Option.{none-some, same_Some}
+use Rattle.std.proofs.lemmas.List.{get_or-map, length-map}
+use Rattle.std.proofs.lemmas.List.Elements.{All-nil, All-cons}
+use Rattle.dw_base.specs.declared.fault.Reach.{Reach}
+use Rattle.dw_base.specs.declared.fault.Span.{Span}
+use Rattle.spelled.specs.Spelled.{AreBytes}
+use Rattle.fixed_width.proofs.Numbers.{number_small}
+use Rattle.leb_codec.proofs.Lens.{least_below}
+use Rattle.list_model.specs.declared.context.Context.{Context}
+use Rattle.list_model.specs.declared.contribution.Contribution.{Contribution}
+use Rattle.list_model.specs.declared.entry.EntryKind.{EntryKind}
+use Rattle.list_model.specs.declared.entry.EntryKind.TheVariants.{BaseAddressx, StartxEndx, StartxLength, OffsetPair, DefaultLocation, BaseAddress, StartEnd, StartLength}
+use Rattle.list_model.specs.declared.entry.ListKind.{ListKind}
+use Rattle.list_model.specs.declared.entry.ListKind.TheVariants.{Ranges}
+use Rattle.list_model.specs.declared.entry.Operand.{Operand}
+use Rattle.list_model.specs.declared.entry.Operand.TheVariants.{Absent, Number, Address}
+use Rattle.list_model.specs.declared.entry.RawEntry.{RawEntry}
+use Rattle.list_model.specs.declared.item.Item.{Item}
+use Rattle.list_model.specs.declared.item.Meaning.{Meaning}
+use Rattle.list_model.specs.declared.item.Meaning.TheVariants.{Live, Dead}
+use Rattle.list_model.specs.Costs.{operand_bytes, entry_bytes}
+use Rattle.list_model.specs.Entries.{Entry, SpellsOperand, AreSaid, code_of, first_operand, second_operand, no_expr}
+use Rattle.list_model.specs.Items.{Bounds, SetsBase, HasBounds, GiveFrom, Give, sets_base, item_of}
+use Rattle.list_model.specs.Items.Bounds.{between, elsewhere}
+use Rattle.list_model.specs.Laws.{OneSaying, OneWalk}
+use Rattle.list_model.specs.Members.{IsLeastList, IsLeastFrozen}
+use Rattle.list_model.specs.Potentials.{AcceptsList}
+use Rattle.list_model.specs.Reading.{AreReadFrom}
+use Rattle.list_least.specs.declared.pick.Pick.{Pick}
+use Rattle.list_least.specs.declared.plan.Plan.{Plan}
+use Rattle.list_least.specs.Laws.{ShortestLists, PlannedLeast, FrozenLeast}
+use Rattle.list_least.specs.Plans.{bounds_of, entries_bytes, ArePicks, IsPlanned, IsItemOf, item_at}
+use Rattle.list_least.specs.Shortest.{FitsOperand, FitOperands}
+use Rattle.list_write.specs.Written.{ToWrite, to_write}
+use Rattle.range_lists.specs.Ranges.{IsRead, IsRangeList, IsMeaning}
+use Rattle.value_links.specs.declared.lists.ListRead.{ListRead as HeldList}
+use Rattle.value_links.specs.Reading.{ListRead, Linkable, Reading, part_at, list_at, context_at}
+use Rattle.value_links.specs.Lists.{IsOwner, IsFrozen, item_count, AreListsOf}
+use Rattle.value_links.specs.World.{World, HoldsMeaning, HoldsList, Holds, IsWorldOf}
+use Rattle.rewriter.specs.inside.Plans.{with_plan, IsContextIn}
+use Rattle.rewriter.specs.inside.Ranges.{IsPlannedFor}
+use Rattle.rewriter.proofs.Standing.{held_count}
+use Rattle.rewriter.proofs.AddressTables.{context_same}
+
+-- ---- counts
+
+-- what is read of entries says as many
+pub said_count : (list : ListKind) (raws : List RawEntry) (entries : List Entry) → AreSaid list raws entries → length raws ≡ length entries
+said_count list [] [] said = refl
+said_count list [] (e ∷ es) said = absurd said
+said_count list (r ∷ raws) [] said = absurd said
+said_count list (r ∷ raws) (e ∷ es) said = ap (λ (n : ℕ). suc n) (said_count list raws es said.1)
+
+picks_count : (list : ListKind) (picks : List Pick) (entries : List Entry) → ArePicks list picks entries → length picks ≡ length entries
+picks_count list [] [] picked = refl
+picks_count list [] (e ∷ es) picked = absurd picked
+picks_count list (p ∷ picks) [] picked = absurd picked
+picks_count list (p ∷ picks) (e ∷ es) picked = ap (λ (n : ℕ). suc n) (picks_count list picks es picked.1)
+
+setter_sets : (addr : List ℕ) (context : Context) (kind : EntryKind) (a base : ℕ) → SetsBase addr context kind a base → sets_base kind ≡ true
+setter_sets addr context BaseAddressx a base f = refl
+setter_sets addr context BaseAddress a base f = refl
+setter_sets addr context _ a base f = absurd f
+
+item_sets_none : (addr : List ℕ) (context : Context) (base : ℕ) (kind : EntryKind) (a b : ℕ) (item : Bounds) → HasBounds addr context base kind a b item → sets_base kind ≡ false
+item_sets_none addr context base BaseAddressx a b item f = absurd f
+item_sets_none addr context base BaseAddress a b item f = absurd f
+item_sets_none addr context base _ a b item f = refl
+
+items_in : List Entry → List Entry
+items_in entries = filter (λ (entry : Entry). not (sets_base entry.kind)) entries
+
+-- entries give as many items as they have entries that don't set the base
+pub items_counted : (addr : List ℕ) (context : Context) (base : ℕ) (entries : List Entry) (bounds : List Bounds) → GiveFrom addr context base entries bounds → length bounds ≡ item_count entries
+unfolding items_in
+items_counted addr context base [] bounds gives = ap length gives
+items_counted addr context base (entry ∷ entries) bounds (inl (next, sets, rest)) =
+    items_counted addr context next entries bounds rest
+    ∙ sym (ap (λ (b : Bool). length (cond (not b) (entry ∷ items_in entries) (items_in entries))) (setter_sets addr context entry.kind entry.a next sets))
+items_counted addr context base (entry ∷ entries) bounds (inr (item, rest, has, is, more)) =
+    ap length is ∙ ap (λ (n : ℕ). suc n) (items_counted addr context base entries rest more)
+    ∙ sym (ap (λ (b : Bool). length (cond (not b) (entry ∷ items_in entries) (items_in entries))) (item_sets_none addr context base entry.kind entry.a entry.b item has))
+
+cond_most : (b : Bool) (x : Entry) (xs : List Entry) → length (cond (not b) (x ∷ xs) xs) ≤ suc (length xs)
+cond_most true x xs = omega arith
+cond_most false x xs = omega arith
+
+items_most : (entries : List Entry) → item_count entries ≤ length entries
+unfolding items_in
+items_most [] = omega arith
+items_most (entry ∷ entries) = omega (arith, cond_most (sets_base entry.kind) entry (items_in entries), items_most entries)
+
+-- ---- items
+
+bounds_back : (expr : Span) (bounds : Bounds) → bounds_of (item_of expr bounds) ≡ bounds
+bounds_back expr (between start end) = refl
+bounds_back expr elsewhere = refl
+
+pub all_back : (bounds : List Bounds) → map bounds_of (map (item_of no_expr) bounds) ≡ bounds
+all_back [] = refl
+all_back (b ∷ bounds) = ap (λ (z : Bounds). z ∷ map bounds_of (map (item_of no_expr) bounds)) (bounds_back no_expr b) ∙ ap (λ (z : List Bounds). b ∷ z) (all_back bounds)
+
+-- no entry of a range list is a default location
+range_item : (addr : List ℕ) (context : Context) (base : ℕ) (kind : EntryKind) (a b code : ℕ) (item : Bounds) → code_of Ranges kind ≡ Some code → HasBounds addr context base kind a b item → IsItemOf Ranges item
+range_item addr context base StartxEndx a b code item known (s, e, i, j, is) = subst (λ (z : Bounds). IsItemOf Ranges z) (sym is) tt
+range_item addr context base StartxLength a b code item known (s, i, is) = subst (λ (z : Bounds). IsItemOf Ranges z) (sym is) tt
+range_item addr context base OffsetPair a b code item known is = subst (λ (z : Bounds). IsItemOf Ranges z) (sym is) tt
+range_item addr context base DefaultLocation a b code item known is = absurd (none-some code known)
+range_item addr context base StartEnd a b code item known is = subst (λ (z : Bounds). IsItemOf Ranges z) (sym is) tt
+range_item addr context base StartLength a b code item known is = subst (λ (z : Bounds). IsItemOf Ranges z) (sym is) tt
+range_item addr context base BaseAddressx a b code item known is = absurd is
+range_item addr context base BaseAddress a b code item known is = absurd is
+
+range_items : (addr : List ℕ) (context : Context) (base : ℕ) (raws : List RawEntry) (entries : List Entry) (bounds : List Bounds) → AreSaid Ranges raws entries → GiveFrom addr context base entries bounds → All (IsItemOf Ranges) bounds
+range_items addr context base [] [] bounds said gives = subst (λ (z : List Bounds). All (IsItemOf Ranges) z) (sym gives) (All-nil (IsItemOf Ranges))
+range_items addr context base [] (e ∷ es) bounds said gives = absurd said
+range_items addr context base (r ∷ raws) [] bounds said gives = absurd said
+range_items addr context base (r ∷ raws) (e ∷ es) bounds said (inl (next, sets, rest)) = range_items addr context next raws es bounds said.1 rest
+range_items addr context base (r ∷ raws) (e ∷ es) bounds said (inr (item, rest, has, is, more)) =
+    subst (λ (z : List Bounds). All (IsItemOf Ranges) z) (sym is) (All-cons (IsItemOf Ranges) item rest (range_item addr context base e.kind e.a e.b r.code item said.0.of_code has) (range_items addr context base raws es rest said.1 more))
+
+-- ---- bytes
+
+operand_most : (operand : Operand) (value : ℕ) → FitsOperand operand value → operand_bytes operand value ≤ 10
+operand_most Absent value fits = omega arith
+operand_most Number value fits = least_below value 10 (record { some = omega arith; below = omega (arith, fits) })
+operand_most Address value fits = omega arith
+
+entry_most : (entry : Entry) → FitOperands entry.kind entry.a entry.b → entry_bytes entry.kind entry.a entry.b ≤ 21
+entry_most entry fit = omega (arith, operand_most (first_operand entry.kind) entry.a fit.first, operand_most (second_operand entry.kind) entry.b fit.second)
+
+picked_most : (list : ListKind) (picks : List Pick) (entries : List Entry) → ArePicks list picks entries → entries_bytes entries ≤ 21 * length entries
+picked_most list [] [] picked = omega arith
+picked_most list [] (e ∷ es) picked = absurd picked
+picked_most list (p ∷ picks) [] picked = absurd picked
+picked_most list (p ∷ picks) (e ∷ es) picked = omega (arith, entry_most e picked.0.operands, picked_most list picks es picked.1)
+
+-- ---- owners
+
+pub one_owner : (r : Linkable) (kind : ListKind) (at u v : ℕ) → IsOwner r kind at (Some u) → IsOwner r kind at (Some v) → u ≡ v
+one_owner r kind at u v (named, first) (too, other) = elim (cases_lt u v) [
+  | inl less ↦ absurd (other u less named)
+  | inr most ↦ elim (cases_lt v u) [
+    | inl less ↦ absurd (first v less too)
+    | inr least ↦ omega arith
+  ]
+]
+
+-- ---- a list that isn't frozen
+
+module _ (r : Reading) (old : ListRead) (list : HeldList) (held : HoldsList r.links Ranges old list) (items : List Item) (live : list.meaning ≡ Live items) where
+  meant : HoldsMeaning r.links Ranges old list.owner (Live items)
+  meant = subst (λ (z : Meaning). HoldsMeaning r.links Ranges old list.owner z) live held.meaning
+
+  meaning : IsMeaning r.links.addresses (context_at r.links meant.1.0) old.raws (Live items)
+  meaning = meant.1.2
+
+  owned : IsOwner r.links Ranges old.at (Some meant.1.0)
+  owned = subst (λ (z : Option ℕ). IsOwner r.links Ranges old.at z) meant.1.1 held.owner
+
+  -- a unit owns it
+  pub owner_known : (u : ℕ) → list.owner ≡ Some u → u < length r.links.units
+  owner_known u is = (subst (λ (z : Option ℕ). IsOwner r.links Ranges old.at z) is held.owner).0.known
+
+  pub has_owner : list.owner ≡ None → ⊥
+  has_owner none = none-some meant.1.0 (sym none ∙ meant.1.1)
+
+  items_are : items ≡ map (item_of no_expr) meaning.bounds
+  items_are = meaning.means.1
+
+  bounds_are : map bounds_of items ≡ meaning.bounds
+  bounds_are = ap (λ (z : List Item). map bounds_of z) items_are ∙ all_back meaning.bounds
+
+  items_count : length items ≡ item_count meaning.entries
+  items_count = ap length items_are ∙ length-map meaning.bounds (item_of no_expr) ∙ items_counted r.links.addresses (context_at r.links meant.1.0) (context_at r.links meant.1.0).base meaning.entries meaning.bounds meaning.gives
+
+  -- it isn't long
+  pub few_items : length items ≤ 16384
+  few_items = elim (cases_lt 16384 (item_count meaning.entries)) [
+    | inl long ↦ absurd (meant.0 (meaning.entries, meaning.said, inr (inr (inr long))))
+    | inr few ↦ omega (arith, items_count)
+  ]
+
+  -- its items are ranges
+  pub are_ranges : (i : ℕ) → i < length items → IsItemOf Ranges (bounds_of (item_at items i))
+  are_ranges i less =
+      let within : i < length meaning.bounds = omega (arith, ap length items_are, length-map meaning.bounds (item_of no_expr)) in
+      let is : item_at items i ≡ item_of no_expr (get_or meaning.bounds i elsewhere) = ap (λ (z : List Item). item_at z i) items_are ∙ get_or-map (item_of no_expr) meaning.bounds i elsewhere (item_at [] 0) within in
+      let same : bounds_of (item_at items i) ≡ get_or meaning.bounds i elsewhere = ap bounds_of is ∙ bounds_back no_expr (get_or meaning.bounds i elsewhere) in
+      subst (λ (z : Bounds). IsItemOf Ranges z) (sym same) (range_items r.links.addresses (context_at r.links meant.1.0) (context_at r.links meant.1.0).base old.raws meaning.entries meaning.bounds meaning.said meaning.gives i elsewhere within)
+
+  module _ (saying : OneSaying) (walk : OneWalk) (shortest : ShortestLists) (planned : PlannedLeast) (small : AreBytes r.links.addresses) (owner : ℕ) (owner_is : list.owner ≡ Some owner) (potentials : List ℕ) (plan : Plan) (is : IsPlanned Ranges r.links.addresses (context_at r.links owner) (map bounds_of items) plan.picks.items plan.size) (accepted : AcceptsList r.links.addresses (context_at r.links owner) (map bounds_of items) potentials plan.size) (few : length plan.picks.items ≤ 2 * length items) where
+    same_owner : meant.1.0 ≡ owner
+    same_owner = same_Some meant.1.0 owner (sym meant.1.1 ∙ owner_is)
+
+    -- what the entries give in the context of the owner is what the plan gives
+    gives_same : (u : ℕ) (before : List Entry) (bounds : List Bounds) → IsOwner r.links Ranges old.at (Some u) → AreSaid Ranges old.raws before → Give r.links.addresses (context_at r.links u) before bounds → (owner ≡ u) × (map bounds_of items ≡ bounds)
+    gives_same u before bounds own said gives =
+        let here : meant.1.0 ≡ u = one_owner r.links Ranges old.at meant.1.0 u owned own in
+        let entries : meaning.entries ≡ before = saying Ranges old.raws meaning.entries before meaning.said said in
+        let there = subst (λ (z : List Entry). Give r.links.addresses (context_at r.links u) z bounds) (sym entries) gives in
+        let given = subst (λ (z : ℕ). Give r.links.addresses (context_at r.links z) meaning.entries bounds) (sym here) there in
+        (sym same_owner ∙ here, bounds_are ∙ walk r.links.addresses (context_at r.links meant.1.0) meaning.entries meaning.bounds bounds meaning.gives given)
+
+    -- some bytes are the shortest of its entries
+    size_is : plan.size ≡ entries_bytes is.entries + 1
+    size_is =
+        let some = shortest.of_picks Ranges plan.picks.items is.entries is.picked in
+        let least = planned Ranges r.links.addresses (context_at r.links owner) (map bounds_of items) potentials plan.size plan.picks.items is.entries some.0 small accepted is is.picked some.1 in
+        sym least.1 ∙ shortest.size Ranges is.entries some.0 some.1
+
+    pub live_planned : IsPlannedFor r old (to_write (with_plan list plan))
+    live_planned = record {
+      part = held.part;
+      at = held.at;
+      entries = is.entries;
+      picked = is.picked;
+      size = size_is;
+      few = omega (arith, few, picks_count Ranges plan.picks.items is.entries is.picked, items_count, items_most meaning.entries, said_count Ranges old.raws meaning.entries meaning.said);
+      same = λ before said. record {
+        live = λ free u bounds own gives.
+            let same = gives_same u before bounds own said gives in
+            subst (λ (z : ℕ). Give r.links.addresses (context_at r.links z) is.entries bounds) same.0 (subst (λ (z : List Bounds). Give r.links.addresses (context_at r.links owner) is.entries z) same.1 is.gives);
+        frozen = λ kept. absurd (meant.0 kept);
+      };
+      least = λ bytes short. record {
+        live = λ free u before bounds own said gives.
+            let same = gives_same u before bounds own said gives in
+            let least = planned Ranges r.links.addresses (context_at r.links owner) (map bounds_of items) potentials plan.size plan.picks.items is.entries bytes small accepted is is.picked short in
+            subst (λ (z : ℕ). IsLeastList Ranges r.links.addresses (context_at r.links z) bounds bytes) same.0 (subst (λ (z : List Bounds). IsLeastList Ranges r.links.addresses (context_at r.links owner) z bytes) same.1 least.0);
+        frozen = λ kept. absurd (meant.0 kept);
+      };
+    }
+
+-- the same, by the bytes of .debug_addr and the context as they are given to the search
+pub planned_by : (r : Reading) (old : ListRead) (list : HeldList) → HoldsList r.links Ranges old list → (items : List Item) → list.meaning ≡ Live items → OneSaying → OneWalk → ShortestLists → PlannedLeast →
+    (addr : List ℕ) → AreBytes addr → addr ≡ r.links.addresses → (context : Context) (owner : ℕ) → list.owner ≡ Some owner → context ≡ context_at r.links owner → (plan : Plan) →
+    IsPlanned Ranges addr context (map bounds_of items) plan.picks.items plan.size → AcceptsList addr context (map bounds_of items) plan.potentials.items plan.size → length plan.picks.items ≤ 2 * length items → IsPlannedFor r old (to_write (with_plan list plan))
+planned_by r old list held items live saying walk shortest planned addr small addr_is context owner owner_is context_is plan is accepted few =
+    live_planned r old list held items live saying walk shortest planned (subst (λ (z : List ℕ). AreBytes z) addr_is small) owner owner_is plan.potentials.items plan
+    (subst (λ (z : Context). IsPlanned Ranges r.links.addresses z (map bounds_of items) plan.picks.items plan.size) context_is (subst (λ (z : List ℕ). IsPlanned Ranges z context (map bounds_of items) plan.picks.items plan.size) addr_is is))
+    (subst (λ (z : Context). AcceptsList r.links.addresses z (map bounds_of items) plan.potentials.items plan.size) context_is (subst (λ (z : List ℕ). AcceptsList z context (map bounds_of items) plan.potentials.items plan.size) addr_is accepted))
+    few
+
+-- ---- a list that is frozen
+
+operand_fits : (operand : Operand) (value : ℕ) (bytes : List ℕ) → SpellsOperand operand value bytes → FitsOperand operand value
+operand_fits Absent value bytes s = s.1
+operand_fits Number value bytes s = s.1
+operand_fits Address value bytes s = subst (λ (z : ℕ). z < 2 ^ 64) (sym s.is) (number_small 8 bytes s.bounded)
+
+abbrev pub CanBeSpelled : Entry → Type 0
+CanBeSpelled entry = FitOperands entry.kind entry.a entry.b
+
+read_said : (at : ℕ) (raws : List RawEntry) (entries : List Entry) (bytes : List ℕ) → AreReadFrom IsRead at raws entries bytes → AreSaid Ranges raws entries × All CanBeSpelled entries
+read_said at [] [] bytes read = (tt, All-nil CanBeSpelled)
+read_said at [] (e ∷ es) bytes read = absurd read
+read_said at (r ∷ raws) [] bytes read = absurd read
+read_said at (r ∷ raws) (e ∷ es) bytes (first, rest, here, more, whole) =
+    let behind = read_said (at + length first) raws es rest more in
+    let o = here.spelled.spelled in
+    let fit : CanBeSpelled e = record { first = operand_fits (first_operand e.kind) e.a o.0 o.2; second = operand_fits (second_operand e.kind) e.b o.1 o.3 } in
+    ((here.says, behind.0), All-cons CanBeSpelled e es fit behind.1)
+
+-- what is read of a list says entries, which some bytes spell
+pub range_said : (section : List ℕ) (part : Contribution) (at : ℕ) (raws : List RawEntry) → IsRangeList section part at raws → (entries : List Entry) × AreSaid Ranges raws entries × All CanBeSpelled entries
+range_said section part at raws read = let s = read_said at raws read.entries read.front read.read in (read.entries, s.0, s.1)
+
+module _ (r : Reading) (old : ListRead) (list : HeldList) (held : HoldsList r.links Ranges old list) (dead : list.meaning ≡ Dead) (saying : OneSaying) (frozen_least : FrozenLeast) (plan : Plan) where
+  frozen : IsFrozen r.links Ranges old
+  frozen = subst (λ (z : Meaning). HoldsMeaning r.links Ranges old list.owner z) dead held.meaning
+
+  said_held : AreSaid Ranges list.raw.items frozen.0
+  said_held = subst (λ (z : List RawEntry). AreSaid Ranges z frozen.0) (sym held.raws) frozen.1
+
+  pub frozen_planned : ((entries : List Entry) → AreSaid Ranges list.raw.items entries → ArePicks Ranges plan.picks.items entries) → ((entries : List Entry) → AreSaid Ranges list.raw.items entries → plan.size ≡ entries_bytes entries + 1) → IsPlannedFor r old (to_write (with_plan list plan))
+  frozen_planned picked bytes = record {
+    part = held.part;
+    at = held.at;
+    entries = frozen.0;
+    picked = picked frozen.0 said_held;
+    size = bytes frozen.0 said_held;
+    few = omega (arith, said_count Ranges old.raws frozen.0 frozen.1);
+    same = λ before said. record {
+      live = λ free u bounds own gives. absurd (free frozen);
+      frozen = λ kept. saying Ranges old.raws frozen.0 before frozen.1 said;
+    };
+    least = λ bytes short. record {
+      live = λ free u before bounds own said gives. absurd (free frozen);
+      frozen = λ kept before said. subst (λ (z : List Entry). IsLeastFrozen Ranges z bytes) (saying Ranges old.raws frozen.0 before frozen.1 said) (frozen_least Ranges frozen.0 bytes short);
+    };
+  }
+
+-- ---- the bytes of a list that is planned
+
+pub planned_most : (r : Reading) (old : ListRead) (written : ToWrite) → IsPlannedFor r old written → written.size ≤ 42 * length old.raws + 1
+planned_most r old written is = omega (arith, is.size, is.few, picked_most Ranges written.picks is.entries is.picked)
+
+-- ---- what is held
+
+-- a list that is held is one that is read
+pub held_list : (file : List ℕ) (world : World) (r : Reading) (list : HeldList) → Holds file world r → Contains world.lists list → (k : ℕ) × (k < length r.range_lists) × HoldsList r.links Ranges (list_at r.range_lists k) list
+held_list file world r list holds (k, less, is) =
+    let inside : k < length r.range_lists = omega (arith, holds.lists.count) in
+    (k, inside, subst (λ (z : HeldList). HoldsList r.links Ranges (list_at r.range_lists k) z) is (holds.lists.each k list inside))
+
+-- the context of the owner of a list that isn't frozen is that of a unit
+pub owner_context : (world : World) (reach : Reach) (is : IsWorldOf world.image reach world) (list : HeldList) → Contains world.lists list → (items : List Item) → list.meaning ≡ Live items → (owner : ℕ) → list.owner ≡ Some owner → (context : Context) → ((file : List ℕ) (r : Reading) → Holds file world r → context ≡ context_at r.links owner) → IsContextIn world context
+owner_context world reach is list one items live owner owner_is context context_is =
+    let held = held_list world.image world is.r list is.holds one in
+    let known : owner < length is.r.links.units = owner_known is.r (list_at is.r.range_lists held.0) list held.2 items live owner owner_is in
+    let count : length world.units ≡ length is.r.links.units = held_count world.image world is.r is.holds in
+    (owner, omega (arith, known, count), context_is world.image is.r is.holds ∙ sym (context_same world.image world is.r owner is.holds))
+
+-- the entries of a list that is read are said by what is held, and some bytes spell them
+pub held_said : (r : Reading) (k : ℕ) → k < length r.range_lists → AreListsOf r.links Ranges r.range_lists → (raws : List RawEntry) → raws ≡ (list_at r.range_lists k).raws → (entries : List Entry) × AreSaid Ranges raws entries × All CanBeSpelled entries
+held_said r k inside lists raws same =
+    let list = list_at r.range_lists k in
+    let said = range_said r.links.ranges.section (part_at r.links.ranges list.part) list.at list.raws (lists.each k inside).read in
+    (said.0, subst (λ (z : List RawEntry). AreSaid Ranges z said.0) (sym same) said.1, said.2)
+
+-- ---- answers
+
+-- what some clauses of a result give together
+pub if_all : {T E : Type 0} (result : Result T E) (P Q R S : T → Type 0) → ((x : T) → P x → Q x → R x → S x) → IfOk result P → IfOk result Q → IfOk result R → IfOk result S
+if_all (Ok x) P Q R S all p q r = all x p q r
+if_all (Err e) P Q R S all p q r = tt
+
+pub if_both : {T E : Type 0} (result : Result T E) (P Q S : T → Type 0) → ((x : T) → P x → Q x → S x) → IfOk result P → IfOk result Q → IfOk result S
+if_both (Ok x) P Q S all p q = all x p q
+if_both (Err e) P Q S all p q = tt
