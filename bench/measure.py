@@ -2,7 +2,7 @@
 """Times the proved cores beside plain Rust that does the same work, and compares what they print.
 
   bench/measure.py [--program PROGRAM] [--megabytes N] [--steps N] [--pairs N] [--slots N] [--values N]
-                   [--columns N] [--runs N]
+                   [--columns N] [--items N] [--runs N]
 
 The proved program is built by `rt run` in crates/measure, and the plain ones from bench/plain by rustc. Each run is
 timed whole, its start included; the least of the runs is taken, of wall time and of processor time each for itself.
@@ -19,6 +19,7 @@ import time
 
 BENCH = os.path.dirname(os.path.abspath(__file__))
 PROGRAM = os.path.join(os.path.dirname(BENCH), "crates", "measure", "out", "measure")
+LONGEST_LIST = 16_384
 RUSTC = ["rustc", "-O", "--edition", "2021", "-C", "target-cpu=x86-64-v2"]
 
 
@@ -49,10 +50,11 @@ def build(name, folder):
     return program
 
 
-def measure(program, plain, word, operand, nouns, runs):
+def measure(program, plain, word, operands, nouns, runs):
     """Prints a line, and tells whether both programs print the same. That begins with a count of each noun."""
-    said, seconds, processor, memory = least([program, word, operand], runs)
-    plain_said, plain_seconds, plain_processor, plain_memory = least([plain, operand], runs)
+    said, seconds, processor, memory = least([program, word, *operands], runs)
+    plain_said, plain_seconds, plain_processor, plain_memory = least([plain, *operands], runs)
+    word = " ".join([word, *operands[:-1]])
     counts = said.split()[::2]
     rates = ", ".join(f"{int(count) / processor / 1e6:.2f} million {noun}" for count, noun in zip(counts, nouns))
     print(
@@ -75,25 +77,33 @@ def main():
     parser.add_argument("--slots", type=int, default=1 << 22)
     parser.add_argument("--values", type=int, default=2_000_000, help="values drawn, each of which is read 64 times")
     parser.add_argument("--columns", type=int, default=10_000_000, help="values of columns, summed in each form")
+    parser.add_argument("--items", type=int, default=1_000_000, help="ranges, in lists of 1 to 50")
     parser.add_argument("--runs", type=int, default=3)
     options = parser.parse_args()
     if not os.path.exists(options.program):
         sys.exit(f"{options.program} is missing: run `rt run` in crates/measure")
     with tempfile.TemporaryDirectory(dir=os.environ.get("TMPDIR")) as scratch:
-        names = ("lines", "steps", "pairs", "layout", "values", "columns", "entries")
-        lines, steps, pairs, layout, values, columns, entries = (build(name, scratch) for name in names)
+        names = ("lines", "steps", "pairs", "layout", "values", "columns", "entries", "ranges")
+        lines, steps, pairs, layout, values, columns, entries, ranges = (build(name, scratch) for name in names)
         section = os.path.join(scratch, "section")
         units = os.path.join(scratch, "units")
         for script, file in (("make_lines.py", section), ("make_entries.py", units)):
             make = [sys.executable, os.path.join(BENCH, script), file, "--megabytes", str(options.megabytes)]
             subprocess.run(make, check=True)
-        same = measure(options.program, lines, "lines", section, ["rows"], options.runs)
-        same &= measure(options.program, steps, "steps", str(options.steps), ["steps"], options.runs)
-        same &= measure(options.program, pairs, "pairs", str(options.pairs), ["pairs"], options.runs)
-        same &= measure(options.program, layout, "layout", str(options.slots), ["slots"], options.runs)
-        same &= measure(options.program, values, "values", str(options.values), ["values", "bytes"], options.runs)
-        same &= measure(options.program, columns, "columns", str(options.columns), ["values"], options.runs)
-        same &= measure(options.program, entries, "entries", units, ["entries", "values"], options.runs)
+        same = measure(options.program, lines, "lines", [section], ["rows"], options.runs)
+        same &= measure(options.program, steps, "steps", [str(options.steps)], ["steps"], options.runs)
+        same &= measure(options.program, pairs, "pairs", [str(options.pairs)], ["pairs"], options.runs)
+        same &= measure(options.program, layout, "layout", [str(options.slots)], ["slots"], options.runs)
+        same &= measure(options.program, values, "values", [str(options.values)], ["values", "bytes"], options.runs)
+        same &= measure(options.program, columns, "columns", [str(options.columns)], ["values"], options.runs)
+        same &= measure(options.program, entries, "entries", [units], ["entries", "values"], options.runs)
+        for shape, items in (
+            ("lists", options.items),
+            ("indexed-lists", options.items),
+            ("list", LONGEST_LIST),
+            ("indexed-list", LONGEST_LIST),
+        ):
+            same &= measure(options.program, ranges, "ranges", [shape, str(items)], ["ranges"], options.runs)
     print(f"load average {os.getloadavg()[0]:.1f} on {os.cpu_count()} processors")
     return 0 if same else 1
 

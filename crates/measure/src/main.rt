@@ -7,6 +7,7 @@ mod entries;
 mod layout;
 mod lines;
 mod pairs;
+mod ranges;
 mod steps;
 mod values;
 mod words;
@@ -16,6 +17,7 @@ use entries::totals_of_entries;
 use layout::{SLOT_LIMIT, totals_of_layout};
 use lines::sums_of;
 use pairs::sum_of_pairs;
+use ranges::{ITEM_LIMIT, Shape, sums_of_ranges};
 use std::io::{self, ErrorKind};
 use std::process::ExitCode;
 use std::{env, fs};
@@ -80,6 +82,19 @@ fn measure_values(rt: &HostRuntime, count: u64) -> io::Result<()> {
     }
 }
 
+fn measure_ranges(rt: &HostRuntime, shape: Shape, count: u32) -> io::Result<()> {
+    if shape.is_one && count > ITEM_LIMIT {
+        return Err(ErrorKind::InvalidInput.into());
+    }
+    match sums_of_ranges(rt.alloc(), shape, count) {
+        Ok(sums) => println!(rt;
+            "{count} items, sizes {}, potentials {}, picks {}",
+            sums.sizes, sums.potentials, sums.picks
+        ),
+        Err(_) => Err(ErrorKind::OutOfMemory.into()),
+    }
+}
+
 fn measure_entries(rt: &HostRuntime, file: &str) -> io::Result<()> {
     let info = fs::read(rt, file)?;
     let name = format!(in rt.alloc(); "{file}.abbrev")?;
@@ -118,9 +133,10 @@ fn main(rt: HostRuntime) -> io::Result<ExitCode> {
         Some(Work::Values(count)) => measure_values(&rt, count)?,
         Some(Work::Columns(count)) => measure_columns(&rt, count)?,
         Some(Work::Entries(file)) => measure_entries(&rt, file)?,
+        Some(Work::Ranges(shape, count)) => measure_ranges(&rt, shape, count)?,
         None => {
             eprintln!(rt;
-                "usage: measure lines FILE | measure steps COUNT | measure pairs COUNT | measure layout COUNT | measure values COUNT | measure columns COUNT | measure entries FILE"
+                "usage: measure lines FILE | measure steps COUNT | measure pairs COUNT | measure layout COUNT | measure values COUNT | measure columns COUNT | measure entries FILE | measure ranges lists|indexed-lists|list|indexed-list COUNT"
             )?;
             return Ok(ExitCode::from(2));
         }

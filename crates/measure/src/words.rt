@@ -1,4 +1,5 @@
 // The words of the command line.
+use crate::ranges::Shape;
 
 /// What is to be measured.
 #[derive(Clone, Copy)]
@@ -18,15 +19,25 @@ pub enum Work<'a> {
     /// The entries of this file, which holds the bytes of a .debug_info section. The table of all units stands in a file
     /// with the same name and `.abbrev` behind it.
     Entries(&'a str),
+    /// The shortest range lists with so many items.
+    Ranges(Shape, u32),
 }
 
-/// What is asked for, where the words are right.
-pub fn work_of(words: &[String]) -> Option<Work<'_>> {
-    let [verb, operand] = words else {
-        return None;
+// The drawn range lists with this name.
+fn shape_of(name: &str) -> Option<Shape> {
+    let (is_one, has_table) = match name {
+        "lists" => (false, false),
+        "indexed-lists" => (false, true),
+        "list" => (true, false),
+        "indexed-list" => (true, true),
+        _ => return None,
     };
-    let operand = operand.as_str();
-    match verb.as_str() {
+    Some(Shape { is_one, has_table })
+}
+
+// What is asked for by a verb with one operand.
+fn work_on<'a>(verb: &str, operand: &'a str) -> Option<Work<'a>> {
+    match verb {
         "lines" => Some(Work::Lines(operand)),
         "steps" => Some(Work::Steps(operand.parse().ok()?)),
         "pairs" => Some(Work::Pairs(operand.parse().ok()?)),
@@ -34,6 +45,18 @@ pub fn work_of(words: &[String]) -> Option<Work<'_>> {
         "values" => Some(Work::Values(operand.parse().ok()?)),
         "columns" => Some(Work::Columns(operand.parse().ok()?)),
         "entries" => Some(Work::Entries(operand)),
+        _ => None,
+    }
+}
+
+/// What is asked for, where the words are right.
+pub fn work_of(words: &[String]) -> Option<Work<'_>> {
+    match words {
+        [verb, operand] => work_on(verb.as_str(), operand.as_str()),
+        [verb, name, count] if verb.as_str() == "ranges" => {
+            let shape = shape_of(name.as_str())?;
+            Some(Work::Ranges(shape, count.as_str().parse().ok()?))
+        }
         _ => None,
     }
 }
