@@ -44,9 +44,11 @@ fn files_that_are_no_elf_files(rt: HostRuntime) -> Result<(), Fail> {
 #[test]
 fn sections_that_are_refused(rt: HostRuntime) -> Result<(), Fail> {
     let alloc = rt.alloc();
-    let table: [(&str, &[u8], &str); 2] = [
+    let table: [(&str, &[u8], &str); 3] = [
         (".debug_macro", &[0; 4], "refused Companion at 64\n"),
-        (".debug_rnglists", &[0], "refused Unbuilt at 64\n"),
+        // one byte holds no initial length
+        (".debug_rnglists", &[0], "refused Short at 64\n"),
+        (".debug_loclists", &[0], "refused Unbuilt at 64\n"),
     ];
     for (name, body, said) in table {
         let answer = shrunk(alloc, &[(name, body)])?;

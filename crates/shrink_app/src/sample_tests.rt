@@ -66,10 +66,10 @@ fn location_lists_of_gcc_are_refused(rt: HostRuntime) -> Result<(), Fail> {
     Ok(())
 }
 
-// .debug_info at 64, .debug_abbrev at 64 + 77, .debug_line at 141 + 76, and the first section of lists, .debug_rnglists, at
-// 217 + 34.
+// .debug_info at 64, .debug_abbrev at 64 + 77, .debug_line at 141 + 76, .debug_rnglists at 217 + 34, and
+// .debug_loclists at 251 + 23.
 #[test]
-fn lists_of_clang_are_refused(rt: HostRuntime) -> Result<(), Fail> {
+fn location_lists_of_clang_are_refused(rt: HostRuntime) -> Result<(), Fail> {
     let sections: [(&str, &[u8]); 6] = [
         (".debug_info", &CLANG_INFO),
         (".debug_abbrev", &CLANG_ABBREVS),
@@ -79,7 +79,7 @@ fn lists_of_clang_are_refused(rt: HostRuntime) -> Result<(), Fail> {
         (".debug_addr", &CLANG_ADDRESSES),
     ];
     let answer = shrunk(rt.alloc(), &sections)?;
-    is_unwritten(&rt, &answer, 3, "refused Unbuilt at 251\n");
+    is_unwritten(&rt, &answer, 3, "refused Unbuilt at 274\n");
     Ok(())
 }
 
