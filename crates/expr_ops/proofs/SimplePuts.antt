@@ -1,0 +1,157 @@
+-- Operations without branches and entry_values, each written with its next reference.
+use Rattle.std.proofs.Common.{◌≡◌, ◌≢◌, ◌<◌, ◌≤◌, ◌+◌, ◌^◌, ℕ, List, [], ◌∷◌, ◌++◌, length, get_or, take, drop, map, ◌∙◌, sym, ap, refl, subst, arith, inl, true, false, Option, Some}
+use Rattle.std.proofs.lemmas.Bool.{ne_eqb}
+use Rattle.std.proofs.lemmas.List.{append_assoc, append-nil, map-append, length-map, get_or-map, drop_more, drop_all}
+use Rattle.std.proofs.lemmas.List.Elements.{All-drop}
+use Rattle.std.specs.Prelude.{nat_eq}
+use Rattle.spelled.specs.Spelled.{Joined}
+use Rattle.spelled.proofs.Joins.{joined_push}
+use Rattle.leb_codec.specs.Digits.{Extends}
+use Rattle.dw_base.specs.declared.fault.Reach.TheVariants.{Narrow}
+use Rattle.expr_ops.specs.declared.op.Op.{Op}
+use Rattle.expr_ops.specs.declared.table.Operands.{Operands}
+use Rattle.expr_ops.specs.declared.write.Draft.{Draft}
+use Rattle.expr_ops.specs.Table.{operands_of}
+use Rattle.expr_ops.specs.Ops.{meant, all_meant}
+use Rattle.expr_ops.specs.Expressions.{Operation, IsBranch, IsExpression}
+use Rattle.expr_ops.specs.Puts.{Holds, Adds}
+use Rattle.expr_ops.specs.Drafts.{has_reference, with_refs, all_ops, all_slots, sizes_in, total, starts_from, PutsDraft, IsFirstAmong, AreFirsts, AreAimed, AreDrafts, IsPut}
+use Rattle.expr_ops.specs.Plain.{plain_slot, plain_own, plain_length, plain_sizes, AreSimple, IsWrittenPlain}
+use Rattle.expr_ops.proofs.DraftLaws.{no_draft}
+use Rattle.expr_ops.proofs.PlainLaws.{expression_sized}
+use Rattle.expr_ops.proofs.PlainSizes.{plain_slots, slots_plain, put_length}
+use Rattle.expr_ops.proofs.PlainFits.{AreSmall, known_at, ref_small, holds_plain, draft_code, drafts_count}
+use Rattle.expr_ops.proofs.PlainFew.{plain_written}
+use Rattle.expr_ops.proofs.Written.{written}
+
+-- WHAT WAS WRITTEN SO FAR
+
+-- what is there and what is left make the whole
+pub record ArePut (refs bytes : List ℕ) (ops : List Op) (old new : List ℕ) (i r : ℕ) : Type 0 where
+  pub drafts : List Draft
+  pub own : List ℕ
+  pub made : all_ops bytes drafts ++ with_refs (drop r refs) (all_meant bytes (drop i ops)) ≡ with_refs refs (all_meant bytes ops)
+  pub slots : all_slots drafts ++ plain_slots (all_meant bytes (drop i ops)) ≡ plain_slots (all_meant bytes ops)
+  pub spelled : Joined (PutsDraft bytes) drafts own
+  pub items : new ≡ old ++ own
+
+pub none_put : (refs bytes : List ℕ) (ops : List Op) (old : List ℕ) → ArePut refs bytes ops old old 0 0
+none_put refs bytes ops old = record { drafts = []; own = []; made = refl; slots = refl; spelled = refl; items = sym (append-nil old) }
+
+pub put_extends : (refs bytes : List ℕ) (ops : List Op) (old mid new : List ℕ) (i r : ℕ) → ArePut refs bytes ops old mid i r → Extends mid new → Extends old new
+put_extends refs bytes ops old mid new i r p (more, e) = (p.own ++ more, e ∙ ap (λ z. z ++ more) p.items ∙ append_assoc old p.own more)
+
+-- the slot of an operation that holds none is the same whatever it holds
+slot_any : (o : Operation) (m n : ℕ) → o.code ≢ 163 → plain_slot o m ≡ plain_slot o n
+slot_any o m n other = let e : nat_eq o.code 163 ≡ false = ne_eqb o.code 163 other in rw e refl
+
+module _ (refs bytes : List ℕ) (ops : List Op) (simple : AreSimple ops) where
+  pub put_more : (old mid new : List ℕ) (i r s : ℕ) (d next : Op) (slot : Option ℕ) → ArePut refs bytes ops old mid i r → i < length ops → ((more : List Operation) → with_refs (drop r refs) (meant bytes (get_or ops i d) ∷ more) ≡ meant bytes next ∷ with_refs (drop s refs) more) → slot ≡ plain_slot (meant bytes (get_or ops i d)) 0 → Adds (PutsDraft bytes (record { op = next; slot = slot })) mid new → ArePut refs bytes ops old new (i + 1) s
+  put_more old mid new i r s d next slot p lt renamed same (first, puts, whole) =
+      let o = meant bytes (get_or ops i d) in
+      let rest = all_meant bytes (drop (i + 1) ops) in
+      let draft : Draft = record { op = next; slot = slot } in
+      let here : slot ≡ plain_slot o (total (take o.inner (plain_own rest))) = same ∙ slot_any o 0 (total (take o.inner (plain_own rest))) (simple i d lt).1 in
+      record {
+        drafts = p.drafts ++ draft ∷ [];
+        own = p.own ++ first;
+        made =
+            ap (λ z. z ++ with_refs (drop s refs) rest) (map-append (λ (x : Draft). meant bytes x.op) p.drafts (draft ∷ []))
+            ∙ append_assoc (all_ops bytes p.drafts) (meant bytes next ∷ []) (with_refs (drop s refs) rest)
+            ∙ ap (λ z. all_ops bytes p.drafts ++ z) (sym (renamed rest))
+            ∙ ap (λ (z : List Op). all_ops bytes p.drafts ++ with_refs (drop r refs) (all_meant bytes z)) (sym (drop_more ops i d lt))
+            ∙ p.made;
+        slots =
+            ap (λ z. z ++ plain_slots rest) (map-append (λ (x : Draft). x.slot) p.drafts (draft ∷ []))
+            ∙ append_assoc (all_slots p.drafts) (slot ∷ []) (plain_slots rest)
+            ∙ ap (λ (z : Option ℕ). all_slots p.drafts ++ z ∷ plain_slots rest) here
+            ∙ ap (λ (z : List Op). all_slots p.drafts ++ plain_slots (all_meant bytes z)) (sym (drop_more ops i d lt))
+            ∙ p.slots;
+        spelled = joined_push (PutsDraft bytes) p.drafts draft p.own first p.spelled puts;
+        items = whole ∙ ap (λ z. z ++ first) p.items ∙ append_assoc old p.own first;
+      }
+
+  -- THE NEXT CAN BE WRITTEN
+
+  pub next_known : (i : ℕ) (d next : Op) → IsExpression Narrow (all_meant bytes ops) bytes → i < length ops → next.code ≡ (get_or ops i d).code → (kinds : Operands) × (operands_of next.code ≡ Some kinds)
+  next_known i d next old lt same =
+      let count : length (all_meant bytes ops) ≡ length ops = length-map ops (meant bytes) in
+      let known = known_at (all_meant bytes ops) i (meant bytes d) (expression_sized Narrow (all_meant bytes ops) bytes old).known (omega (arith, lt, count)) in
+      (known.0, ap operands_of (same ∙ sym (ap (λ (z : Operation). z.code) (get_or-map (meant bytes) ops i d (meant bytes d) lt))) ∙ known.1)
+
+  pub next_holds : (i r s : ℕ) (d next : Op) (slot : Option ℕ) → AreSmall refs → i < length ops → next.code ≡ (get_or ops i d).code → ((more : List Operation) → with_refs (drop r refs) (meant bytes (get_or ops i d) ∷ more) ≡ meant bytes next ∷ with_refs (drop s refs) more) → slot ≡ plain_slot (meant bytes (get_or ops i d)) 0 → Holds slot next.code next.a
+  next_holds i r s d next slot small lt same renamed is =
+      let o = meant bytes (get_or ops i d) in
+      let number : (get_or (with_refs (drop r refs) (o ∷ [])) 0 o).a ≡ next.a = ap (λ (z : List Operation). (get_or z 0 o).a) (renamed []) in
+      let below : has_reference o.code ≡ true → next.a < 2 ^ 32 = λ t.
+      let h = ref_small (drop r refs) (o ∷ []) 0 o (All-drop (λ (n : ℕ). n < 2 ^ 32) r refs small) (omega arith) t in
+      omega (arith, h, number)
+      in
+      subst (λ (z : Option ℕ). Holds z next.code next.a) (sym is) (subst (λ (c : ℕ). Holds (plain_slot o 0) c next.a) (sym same) (holds_plain o 0 next.a (simple i d lt).1 below))
+
+  -- ALL WERE WRITTEN
+
+  abbrev nones : List ℕ
+  nones = map (λ (op : Op). 0) ops
+
+  simple_firsts : AreFirsts ops (length ops) nones
+  simple_firsts = record {
+    count = length-map ops (λ (op : Op). 0);
+    each = λ k lt.
+        let none : get_or nones k 0 ≡ 0 = get_or-map (λ (op : Op). 0) ops k no_draft.op 0 lt in
+        subst (λ (f : ℕ). IsFirstAmong ops (length ops) k f) (sym none) (record { opens = inl refl; innermost = λ e from less holds. (simple e no_draft.op less).1 holds.2 });
+  }
+
+  module _ (drafts : List Draft) (a : AreDrafts refs (plain_sizes (all_meant bytes ops)) bytes ops drafts) where
+    draft_simple : (k : ℕ) (d : Draft) → k < length drafts → (¬ IsBranch (get_or drafts k d).op.code) × ((get_or drafts k d).op.code ≢ 163)
+    draft_simple k d lt =
+        let count : length (all_meant bytes ops) ≡ length ops = length-map ops (meant bytes) in
+        let all = drafts_count refs bytes ops drafts a in
+        let inside : k < length ops = omega (arith, lt, count, all) in
+        let code : (get_or drafts k d).op.code ≡ (get_or ops k d.op).code = draft_code refs bytes ops drafts a k d lt ∙ ap (λ (z : Operation). z.code) (get_or-map (meant bytes) ops k d.op (meant bytes d.op) inside) in
+        subst (λ (c : ℕ). (¬ IsBranch c) × (c ≢ 163)) (sym code) (simple k d.op inside)
+
+    simple_aimed : (places firsts : List ℕ) → AreAimed places firsts drafts drafts (length drafts)
+    simple_aimed places firsts = record {
+      count = refl;
+      each = λ k d lt.
+          let plain = draft_simple k d lt in
+          record {
+            slot = refl;
+            code = refl;
+            bytes = refl;
+            jump = refl;
+            inner = refl;
+            long = λ e. absurd (plain.1 e);
+            number = λ n. refl;
+            distance = λ b. absurd (plain.0 b);
+            sign = λ n. refl;
+          };
+    }
+
+  all_put : (old new : List ℕ) (i r : ℕ) → length ops ≤ i → ArePut refs bytes ops old new i r → Adds (IsPut refs (plain_sizes (all_meant bytes ops)) bytes ops) old new
+  all_put old new i r le p =
+      let os = all_meant bytes ops in
+      let none : drop i ops ≡ [] = drop_all i ops le in
+      let drafted : AreDrafts refs (plain_sizes os) bytes ops p.drafts = record {
+        renamed = sym (append-nil (all_ops bytes p.drafts)) ∙ ap (λ (z : List Op). all_ops bytes p.drafts ++ with_refs (drop r refs) (all_meant bytes z)) (sym none) ∙ p.made;
+        slots = sym (append-nil (all_slots p.drafts)) ∙ ap (λ (z : List Op). all_slots p.drafts ++ plain_slots (all_meant bytes z)) (sym none) ∙ p.slots ∙ sym (slots_plain os);
+      } in (
+        p.own,
+        record {
+          drafts = p.drafts;
+          firsts = nones;
+          aims = p.drafts;
+          drafted = drafted;
+          nested = simple_firsts;
+          aimed = simple_aimed p.drafts drafted (starts_from 0 (sizes_in bytes p.drafts)) nones;
+          spelled = p.spelled;
+        },
+        p.items,
+      )
+
+  pub simple_written : (old new : List ℕ) (i r : ℕ) → IsExpression Narrow (all_meant bytes ops) bytes → AreSmall refs → plain_length (all_meant bytes ops) < 2 ^ 63 → length ops ≤ i → ArePut refs bytes ops old new i r → Adds (IsWrittenPlain refs bytes ops) old new
+  simple_written old new i r was small fits le p =
+      let (own, put, e) = all_put old new i r le p in
+      let sizes = plain_sizes (all_meant bytes ops) in
+      (own, record { written = record { put = put; expression = written refs sizes bytes ops own (plain_written refs bytes ops was small fits) put }; long = put_length refs bytes ops own put }, e)

@@ -1,0 +1,17 @@
+pub mod Table
+pub mod Heads
+pub mod HeadFaults
+pub mod Reads
+pub mod Expressions
+pub mod ExpressionFaults
+pub mod Ops
+pub mod Puts
+pub mod Sizes
+pub mod Drafts
+pub mod Fits
+pub mod Names
+pub mod Writing
+pub mod Plain
+pub mod Nests
+pub mod Reading
+pub mod inside
