@@ -16,3 +16,4 @@ mod WorkedTree
 pub mod StandingLaws
 pub mod GrowingLaws
 pub mod OnwardLaws
+pub mod OperationLaws

@@ -2,6 +2,7 @@ pub mod Arena
 pub mod Ends
 pub mod ForestLaws
 pub mod Fronts
+pub mod Operations
 pub mod Order
 pub mod Preorders
 pub mod Runs

@@ -5,6 +5,9 @@ mod entry;
 mod forest;
 mod laws;
 #[cfg(test)]
+mod operation_tests;
+mod operations;
+#[cfg(test)]
 mod tests;
 
 pub use entry::{ChainEnd, Entry, Target};
@@ -13,3 +16,4 @@ pub use laws::{
     chains_end_once, entries_stand, forests_spelled, one_forest, places_follow, runs,
     steps_in_order, steps_whole, trees_are_walks, walks_go_on, walks_in_order, walks_stay,
 };
+pub use operations::{OpRange, Operations};

@@ -9,3 +9,4 @@ pub mod Chained
 pub mod RiseLaws
 pub mod OwnerLaws
 pub mod ColumnPlaces
+pub mod ExpressionLaws

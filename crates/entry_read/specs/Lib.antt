@@ -1,6 +1,7 @@
 pub mod Heads
 pub mod Units
 pub mod Faults
+pub mod Expressions
 pub mod Laws
 pub mod Readings
 pub mod Places

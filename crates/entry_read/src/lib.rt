@@ -2,6 +2,9 @@
 #![tactic(auto)]
 
 mod entries;
+#[cfg(test)]
+mod expression_tests;
+mod expressions;
 mod head;
 mod laws;
 mod place;
@@ -10,6 +13,7 @@ mod tests;
 mod unit;
 
 pub use entries::columns_of;
+pub use expressions::read_expressions;
 pub use head::{UnitHead, header_size, heads};
 pub use laws::{heads_tile, units_lie, units_whole};
 pub use place::place_of_value;

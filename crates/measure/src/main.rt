@@ -4,6 +4,7 @@
 mod columns;
 mod draws;
 mod entries;
+mod expressions;
 mod layout;
 mod lines;
 mod pairs;
@@ -14,6 +15,7 @@ mod words;
 
 use columns::{WIDTH, least_columns};
 use entries::totals_of_entries;
+use expressions::totals_of_expressions;
 use layout::{SLOT_LIMIT, totals_of_layout};
 use lines::sums_of;
 use pairs::sum_of_pairs;
@@ -95,6 +97,16 @@ fn measure_ranges(rt: &HostRuntime, shape: Shape, count: u32) -> io::Result<()> 
     }
 }
 
+fn measure_expressions(rt: &HostRuntime, count: u64) -> io::Result<()> {
+    match totals_of_expressions(rt.alloc(), count) {
+        Ok(totals) => println!(rt;
+            "{} operations, {} bytes, sum {}",
+            totals.operations, totals.bytes, totals.sum
+        ),
+        Err(_) => Err(ErrorKind::OutOfMemory.into()),
+    }
+}
+
 fn measure_entries(rt: &HostRuntime, file: &str) -> io::Result<()> {
     let info = fs::read(rt, file)?;
     let name = format!(in rt.alloc(); "{file}.abbrev")?;
@@ -134,9 +146,10 @@ fn main(rt: HostRuntime) -> io::Result<ExitCode> {
         Some(Work::Columns(count)) => measure_columns(&rt, count)?,
         Some(Work::Entries(file)) => measure_entries(&rt, file)?,
         Some(Work::Ranges(shape, count)) => measure_ranges(&rt, shape, count)?,
+        Some(Work::Expressions(count)) => measure_expressions(&rt, count)?,
         None => {
             eprintln!(rt;
-                "usage: measure lines FILE | measure steps COUNT | measure pairs COUNT | measure layout COUNT | measure values COUNT | measure columns COUNT | measure entries FILE | measure ranges lists|indexed-lists|list|indexed-list COUNT"
+                "usage: measure lines FILE | measure steps COUNT | measure pairs COUNT | measure layout COUNT | measure values COUNT | measure columns COUNT | measure entries FILE | measure ranges lists|indexed-lists|list|indexed-list COUNT | measure expressions COUNT"
             )?;
             return Ok(ExitCode::from(2));
         }

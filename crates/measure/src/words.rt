@@ -21,6 +21,8 @@ pub enum Work<'a> {
     Entries(&'a str),
     /// The shortest range lists with so many items.
     Ranges(Shape, u32),
+    /// So many operations of expressions, read and written.
+    Expressions(u64),
 }
 
 // The drawn range lists with this name.
@@ -45,6 +47,7 @@ fn work_on<'a>(verb: &str, operand: &'a str) -> Option<Work<'a>> {
         "values" => Some(Work::Values(operand.parse().ok()?)),
         "columns" => Some(Work::Columns(operand.parse().ok()?)),
         "entries" => Some(Work::Entries(operand)),
+        "expressions" => Some(Work::Expressions(operand.parse().ok()?)),
         _ => None,
     }
 }

@@ -78,21 +78,21 @@ module _ (Size : ℕ → ℕ → Type 0) where
       let le : at ≤ slice_index ends k = omega arith in
       le
 
-pub placed_have : (unit : HeadAndForest) (table : Listing) (columns : List Spec) (numbers : List ℕ) (start : ℕ) (entries ends : List ℕ) (to : ℕ) → IsPlacedAt unit table columns numbers start entries ends to → HavePlaces unit.forest (record { start = start; entries = entries; ends = ends; end = to })
-placed_have unit table columns numbers start entries ends to p =
+pub placed_have : (unit : HeadAndForest) (table : Listing) (columns : List Spec) (numbers lens : List ℕ) (start : ℕ) (entries ends : List ℕ) (to : ℕ) → IsPlacedAt unit table columns numbers lens start entries ends to → HavePlaces unit.forest (record { start = start; entries = entries; ends = ends; end = to })
+placed_have unit table columns numbers lens start entries ends to p =
     let first : ℕ = start + (entries_at unit.head - unit.head.at) in
-    let counts = placed_counts (EntrySize table columns numbers unit.forest) unit.forest.section (declarations_of table) (nothing_from (entries_at unit.head)) [] (record { entries = unit.forest.entries; values = unit.forest.values; ends = unit.forest.ends; place = p.place }) [] 0 (start + (entries_at unit.head - unit.head.at)) p.whole.items entries ends to p.whole.walked p.placed in
+    let counts = placed_counts (EntrySize table columns numbers unit.forest lens) unit.forest.section (declarations_of table) (nothing_from (entries_at unit.head)) [] (record { entries = unit.forest.entries; values = unit.forest.values; ends = unit.forest.ends; place = p.place }) [] 0 (start + (entries_at unit.head - unit.head.at)) p.whole.items entries ends to p.whole.walked p.placed in
     let count_entries : length unit.forest.entries ≡ 0 + length entries = counts.0 in
     let count_ends : length unit.forest.ends ≡ 0 + length ends = counts.1 in
     record {
       entries = omega arith;
       ends = omega arith;
-      entries_after = λ k inside. let le : start + (entries_at unit.head - unit.head.at) ≤ slice_index entries k = entries_after (EntrySize table columns numbers unit.forest) 0 (start + (entries_at unit.head - unit.head.at)) p.whole.items entries ends to k p.placed inside in omega arith;
-      ends_after = λ k inside. let le : start + (entries_at unit.head - unit.head.at) ≤ slice_index ends k = ends_after (EntrySize table columns numbers unit.forest) 0 (start + (entries_at unit.head - unit.head.at)) p.whole.items entries ends to k p.placed inside in omega arith;
+      entries_after = λ k inside. let le : start + (entries_at unit.head - unit.head.at) ≤ slice_index entries k = entries_after (EntrySize table columns numbers unit.forest lens) 0 (start + (entries_at unit.head - unit.head.at)) p.whole.items entries ends to k p.placed inside in omega arith;
+      ends_after = λ k inside. let le : start + (entries_at unit.head - unit.head.at) ≤ slice_index ends k = ends_after (EntrySize table columns numbers unit.forest lens) 0 (start + (entries_at unit.head - unit.head.at)) p.whole.items entries ends to k p.placed inside in omega arith;
     }
 
 pub all_placed : (world : World) (tables : List NewTable) (places : List Places) (size : ℕ) → ArePlacesOf world tables places size → AllHavePlaces world places
 all_placed world tables places size are = record {
   count = are.count;
-  each = λ u inside. placed_have (unit_in world.units u) _ _ _ (places_at places u).start (places_at places u).entries (places_at places u).ends (places_at places u).end (are.each u inside);
+  each = λ u inside. placed_have (unit_in world.units u) _ _ _ _ (places_at places u).start (places_at places u).entries (places_at places u).ends (places_at places u).end (are.each u inside).placed;
 }

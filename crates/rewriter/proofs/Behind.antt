@@ -1,5 +1,7 @@
 -- What the writer of a unit asks and gives, said of the unit that is held, its table and its new one.
 use Rattle.std.proofs.Common.{◌≡◌, ◌≢◌, ◌≤◌, ◌<◌, ◌+◌, ◌-◌, ◌^◌, ℕ, zero, suc, List, [], ◌∷◌, length, slice_index, ◌∙◌, sym, ap, subst, arith}
+use Rattle.std.specs.Prelude.{Result, Ok, Err, IfOk}
+use Rattle.dw_base.specs.declared.fault.NoMemory.{NoMemory}
 use Rattle.abbrev_tables.specs.Tables.{Declared}
 use Rattle.abbrev_tables.specs.Listings.{Listing}
 use Rattle.fixed_width.specs.InitialLengths.{least_reserved}
@@ -8,17 +10,19 @@ use Rattle.entry_read.specs.Units.{HeadAndForest, entries_at}
 use Rattle.unit_write.specs.declared.places.Places.{Places}
 use Rattle.unit_write.specs.declared.write.NewNumbers.{NewNumbers}
 use Rattle.unit_write.specs.Placing.{IsRenumbered}
-use Rattle.unit_write.specs.Moved.{IsPlacedAt, IsWrittenAnew}
+use Rattle.unit_write.specs.NewExpressions.{lens_of, AreEndsFor}
+use Rattle.unit_write.specs.Moved.{IsWritable, IsPlacedAt, IsWrittenAnew, new_values}
+use Rattle.unit_write.proofs.FewLaws.{one_ends}
 use Rattle.unit_write.proofs.UnitLaws.{placed_order}
 use Rattle.value_links.specs.Reading.{Reading, unit_at}
-use Rattle.value_links.specs.World.{World, head_and_forest, table_at, Holds}
+use Rattle.value_links.specs.World.{World, head_and_forest, table_at, operations_at, Holds}
 use Rattle.value_links.specs.declared.units.NamedTable.{NamedTable}
 use Rattle.rewriter.specs.declared.tables.NewTable.{NewTable}
 use Rattle.rewriter.specs.declared.new_places.NewPlaces.{NewPlaces}
 use Rattle.rewriter.specs.inside.Tables.{TableAnew, table_anew, new_table_at, AreTablesWritten}
-use Rattle.rewriter.specs.inside.Placed.{places_at, unit_in, PlacesFollow, ArePlacesOf}
+use Rattle.rewriter.specs.inside.Placed.{PlacesAnew, places_at, unit_in, AreEndsIn, AreWritable, IsPlacedBy, PlacesFollow, ArePlacesOf}
 use Rattle.rewriter.specs.inside.Numbers.{AreNewNumbers}
-use Rattle.rewriter.specs.inside.Held.{table_for}
+use Rattle.rewriter.specs.inside.Held.{table_for, IsPlacedFrom}
 use Rattle.rewriter.proofs.Standing.{held_unit}
 
 -- PLACES RISE
@@ -46,34 +50,61 @@ pub unit_ends : (world : World) (tables : List NewTable) (places : List Places) 
 unit_ends world tables places size u are known =
     let count : length places ≡ length world.units = are.count in
     let rise : Rise places = λ v inside.
-    let p = are.each v (let i : v < length places = inside in omega arith) in
+    let p = (are.each v (let i : v < length places = inside in omega arith)).placed in
     let up : (places_at places v).start + (entries_at (unit_in world.units v).head - (unit_in world.units v).head.at) ≤ (places_at places v).end = placed_order _ 0 ((places_at places v).start + (entries_at (unit_in world.units v).head - (unit_in world.units v).head.at)) p.whole.items (places_at places v).entries (places_at places v).ends (places_at places v).end p.placed in
     omega arith in
     let below : (places_at places u).end ≤ size = follow_ends places 0 size u rise are.follow (omega arith) in
     let small : size < least_reserved = are.small in
     omega arith
 
+-- ONE LIST OF ENDS
+
+-- a unit that stands at places does so with any list of the ends of its expressions, since there is one
+pub placed_with : (world : World) (tables : List NewTable) (u : ℕ) (p : PlacesAnew) (ends : List ℕ) → IsPlacedBy world tables u p → AreEndsIn world u ends → IsPlacedAt (unit_in world.units u) (table_for world u) (new_table_at tables (slice_index world.table_of u)).columns (new_table_at tables (slice_index world.table_of u)).numbers (lens_of ends) p.start p.entries p.ends p.end
+placed_with world tables u p ends placed are =
+    subst (λ (e : List ℕ). IsPlacedAt (unit_in world.units u) (table_for world u) (new_table_at tables (slice_index world.table_of u)).columns (new_table_at tables (slice_index world.table_of u)).numbers (lens_of e) p.start p.entries p.ends p.end) (one_ends (unit_in world.units u).forest (operations_at world.operations u) placed.expressions ends placed.plain are) placed.placed
+
 -- WHAT IS READ OF THE PARTS
 
 module _ (world : World) (tables : List NewTable) (u : ℕ) (unit : HeadAndForest) (old : NamedTable) (anew : NewTable) (unit_is : unit ≡ unit_in world.units u) (old_is : old ≡ table_at world.tables (slice_index world.table_of u)) (anew_is : table_anew anew ≡ new_table_at tables (slice_index world.table_of u)) where
-  pub placed_there : (places : List Places) (size start end : ℕ) → ArePlacesOf world tables places size → u < length world.units → start ≡ (places_at places u).start → end ≡ (places_at places u).end → IsPlacedAt unit old.table anew.columns.items anew.numbers.items start (places_at places u).entries (places_at places u).ends end
-  placed_there places size start end are known start_is end_is =
-      let base : IsPlacedAt (unit_in world.units u) (table_for world u) (new_table_at tables (slice_index world.table_of u)).columns (new_table_at tables (slice_index world.table_of u)).numbers (places_at places u).start (places_at places u).entries (places_at places u).ends (places_at places u).end = are.each u known in
-      let a : IsPlacedAt (unit_in world.units u) (table_for world u) (new_table_at tables (slice_index world.table_of u)).columns (new_table_at tables (slice_index world.table_of u)).numbers start (places_at places u).entries (places_at places u).ends end =
-      subst (λ (z : ℕ). IsPlacedAt (unit_in world.units u) (table_for world u) (new_table_at tables (slice_index world.table_of u)).columns (new_table_at tables (slice_index world.table_of u)).numbers z (places_at places u).entries (places_at places u).ends end) (sym start_is) (subst (IsPlacedAt (unit_in world.units u) (table_for world u) (new_table_at tables (slice_index world.table_of u)).columns (new_table_at tables (slice_index world.table_of u)).numbers (places_at places u).start (places_at places u).entries (places_at places u).ends) (sym end_is) base) in
-      let b : IsPlacedAt (unit_in world.units u) (table_for world u) anew.columns.items anew.numbers.items start (places_at places u).entries (places_at places u).ends end =
-      subst (λ (t : TableAnew). IsPlacedAt (unit_in world.units u) (table_for world u) t.columns t.numbers start (places_at places u).entries (places_at places u).ends end) (sym anew_is) a in
-      subst (λ (h : HeadAndForest). IsPlacedAt h old.table anew.columns.items anew.numbers.items start (places_at places u).entries (places_at places u).ends end) (sym unit_is) (subst (λ (n : NamedTable). IsPlacedAt (unit_in world.units u) n.table anew.columns.items anew.numbers.items start (places_at places u).entries (places_at places u).ends end) (sym old_is) b)
+  -- what holds of the parts that are held holds of those that were read, and the other way round
+  there : (P : HeadAndForest → Listing → TableAnew → Type 0) → P (unit_in world.units u) (table_for world u) (new_table_at tables (slice_index world.table_of u)) → P unit old.table (table_anew anew)
+  there P held =
+      subst (λ (h : HeadAndForest). P h old.table (table_anew anew)) (sym unit_is) (subst (λ (n : NamedTable). P (unit_in world.units u) n.table (table_anew anew)) (sym old_is) (subst (P (unit_in world.units u) (table_for world u)) (sym anew_is) held))
+
+  back : (P : HeadAndForest → Listing → TableAnew → Type 0) → P unit old.table (table_anew anew) → P (unit_in world.units u) (table_for world u) (new_table_at tables (slice_index world.table_of u))
+  back P read =
+      subst (P (unit_in world.units u) (table_for world u)) anew_is (subst (λ (n : NamedTable). P (unit_in world.units u) n.table (table_anew anew)) old_is (subst (λ (h : HeadAndForest). P h old.table (table_anew anew)) unit_is read))
+
+  pub writable_there : (ends : List ℕ) → AreWritable world tables → u < length world.units → AreEndsIn world u ends → IsWritable unit old.table anew.columns.items anew.numbers.items (lens_of ends)
+  writable_there ends writable known are = there (λ h t n. IsWritable h t n.columns n.numbers (lens_of ends)) (writable u ends known are)
+
+  -- a unit that was placed stands at its places
+  placed_back : (ends : List ℕ) (start : ℕ) (places : Places) → AreEndsIn world u ends → places.start ≡ start → places.end < least_reserved → IsPlacedAt unit old.table anew.columns.items anew.numbers.items (lens_of ends) start places.entries.items places.ends.items places.end → IsPlacedFrom world tables u start places
+  placed_back ends start places are begins fits placed = record {
+    begins = begins;
+    placed = record {
+      expressions = ends;
+      plain = are;
+      placed = back (λ h t n. IsPlacedAt h t n.columns n.numbers (lens_of ends) places.start places.entries.items places.ends.items places.end) (subst (λ (z : ℕ). IsPlacedAt unit old.table anew.columns.items anew.numbers.items (lens_of ends) z places.entries.items places.ends.items places.end) (sym begins) placed);
+    };
+    fits = fits;
+  }
+
+  pub all_placed_back : (ends : List ℕ) (start : ℕ) (r : Result Places NoMemory) → AreEndsIn world u ends → IfOk r (λ places. places.start ≡ start) → IfOk r (λ places. places.end < least_reserved) → IfOk r (λ places. IsPlacedAt unit old.table anew.columns.items anew.numbers.items (lens_of ends) start places.entries.items places.ends.items places.end) → IfOk r (IsPlacedFrom world tables u start)
+  all_placed_back ends start (Ok places) are begins fits placed = placed_back ends start places are begins fits placed
+  all_placed_back ends start (Err e) are begins fits placed = tt
+
+  pub placed_there : (places : List Places) (size start end : ℕ) (ends : List ℕ) → ArePlacesOf world tables places size → u < length world.units → AreEndsIn world u ends → start ≡ (places_at places u).start → end ≡ (places_at places u).end → IsPlacedAt unit old.table anew.columns.items anew.numbers.items (lens_of ends) start (places_at places u).entries (places_at places u).ends end
+  placed_there places size start end ends are known ends_are start_is end_is =
+      there (λ h t n. IsPlacedAt h t n.columns n.numbers (lens_of ends) start (places_at places u).entries (places_at places u).ends end) (subst (λ (z : ℕ). IsPlacedAt (unit_in world.units u) (table_for world u) (new_table_at tables (slice_index world.table_of u)).columns (new_table_at tables (slice_index world.table_of u)).numbers (lens_of ends) z (places_at places u).entries (places_at places u).ends end) (sym start_is) (subst (IsPlacedAt (unit_in world.units u) (table_for world u) (new_table_at tables (slice_index world.table_of u)).columns (new_table_at tables (slice_index world.table_of u)).numbers (lens_of ends) (places_at places u).start (places_at places u).entries (places_at places u).ends) (sym end_is) (placed_with world tables u (places_at places u) ends (are.each u known) ends_are)))
 
   abbrev Writes : HeadAndForest → Listing → TableAnew → NewNumbers → ℕ → List ℕ → Type 0
-  Writes h t n new start section = (ds : List Declared) → IsRenumbered t n.columns n.numbers ds → IsWrittenAnew h t n.columns n.numbers ds new.table new.type_offset new.held.items start section
+  Writes h t n new start section = (ds : List Declared) → IsRenumbered t n.columns n.numbers ds → IsWrittenAnew h t n.columns n.numbers ds new.table new.type_offset (new_values new) start section
 
-  pub written_there : (new : NewNumbers) (start at : ℕ) (section : List ℕ) → at ≡ start → ((ds : List Declared) → IsRenumbered old.table anew.columns.items anew.numbers.items ds → IsWrittenAnew unit old.table anew.columns.items anew.numbers.items ds new.table new.type_offset new.held.items at section) → ((ds : List Declared) → IsRenumbered (table_for world u) (new_table_at tables (slice_index world.table_of u)).columns (new_table_at tables (slice_index world.table_of u)).numbers ds → IsWrittenAnew (unit_in world.units u) (table_for world u) (new_table_at tables (slice_index world.table_of u)).columns (new_table_at tables (slice_index world.table_of u)).numbers ds new.table new.type_offset new.held.items start section)
+  pub written_there : (new : NewNumbers) (start at : ℕ) (section : List ℕ) → at ≡ start → ((ds : List Declared) → IsRenumbered old.table anew.columns.items anew.numbers.items ds → IsWrittenAnew unit old.table anew.columns.items anew.numbers.items ds new.table new.type_offset (new_values new) at section) → ((ds : List Declared) → IsRenumbered (table_for world u) (new_table_at tables (slice_index world.table_of u)).columns (new_table_at tables (slice_index world.table_of u)).numbers ds → IsWrittenAnew (unit_in world.units u) (table_for world u) (new_table_at tables (slice_index world.table_of u)).columns (new_table_at tables (slice_index world.table_of u)).numbers ds new.table new.type_offset (new_values new) start section)
   written_there new start at section start_is writes =
-      let a : Writes (unit_in world.units u) old.table (table_anew anew) new at section = subst (λ (h : HeadAndForest). Writes h old.table (table_anew anew) new at section) unit_is writes in
-      let b : Writes (unit_in world.units u) (table_for world u) (table_anew anew) new at section = subst (λ (n : NamedTable). Writes (unit_in world.units u) n.table (table_anew anew) new at section) old_is a in
-      let c : Writes (unit_in world.units u) (table_for world u) (new_table_at tables (slice_index world.table_of u)) new at section = subst (λ (t : TableAnew). Writes (unit_in world.units u) (table_for world u) t new at section) anew_is b in
-      subst (λ (z : ℕ). Writes (unit_in world.units u) (table_for world u) (new_table_at tables (slice_index world.table_of u)) new z section) start_is c
+      subst (λ (z : ℕ). Writes (unit_in world.units u) (table_for world u) (new_table_at tables (slice_index world.table_of u)) new z section) start_is (back (λ h t n. Writes h t n new at section) writes)
 
   module _ (file : List ℕ) (r : Reading) (places : List Places) (new_places : NewPlaces) (new : NewNumbers) (holds : Holds file world r) (numbers : AreNewNumbers world r.links tables places new_places u new) where
     read_is : unit ≡ head_and_forest (unit_at r.links u)
@@ -81,6 +112,13 @@ module _ (world : World) (tables : List NewTable) (u : ℕ) (unit : HeadAndFores
 
     pub held_counted : length new.held.items ≡ length unit.forest.values
     held_counted = numbers.count ∙ ap (λ (h : HeadAndForest). length h.forest.values) (sym read_is)
+
+    -- the ends of its expressions are those of the unit
+    pub ends_there : AreEndsFor unit.forest new.ends.items
+    ends_there = subst (λ (h : HeadAndForest). AreEndsFor h.forest new.ends.items) (sym unit_is) numbers.ends_are.fit
+
+    pub filled_there : (k : ℕ) → k < length unit.forest.values → slice_index new.ends.items k ≤ length new.expressions.items
+    filled_there = subst (λ (h : HeadAndForest). (k : ℕ) → k < length h.forest.values → slice_index new.ends.items k ≤ length new.expressions.items) (sym read_is) numbers.filled
 
     pub type_none : unit.head.kind ≢ type_unit → new.type_offset ≡ 0
     type_none other = numbers.type_at.none (λ same. other (ap (λ (h : HeadAndForest). h.head.kind) read_is ∙ same))

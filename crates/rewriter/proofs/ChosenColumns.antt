@@ -1,10 +1,10 @@
 -- Units can be written anew in columns that are in their least forms.
-use Rattle.std.proofs.Common.{◌≡◌, ◌<◌, ◌+◌, ◌∙◌, ℕ, zero, suc, List, [], ◌∷◌, length, drop, get_or, sym, ap, refl, subst, arith}
+use Rattle.std.proofs.Common.{◌≡◌, ◌≤◌, ◌<◌, ◌+◌, ◌-◌, ◌*◌, ◌^◌, ◌∙◌, ℕ, zero, suc, List, [], ◌∷◌, length, drop, get_or, sym, ap, refl, subst, arith}
 use Rattle.std.specs.Prelude.{slice_index}
 use Rattle.std.specs.List.{All, Contains}
-use Rattle.std.proofs.lemmas.List.{get_or-map, length-map}
-use Rattle.std.proofs.lemmas.List.Elements.{All-take, All-drop}
-use Rattle.dw_base.specs.declared.fault.Reach.{Reach}
+use Rattle.std.proofs.lemmas.List.{get_or-map, length-map, length-take, length-drop}
+use Rattle.std.proofs.lemmas.List.Elements.{All-take, All-drop, All-from_get_or}
+use Rattle.dw_base.specs.declared.fault.Reach.TheVariants.{Narrow}
 use Rattle.leb_codec.specs.Leb.{least_unsigned_len}
 use Rattle.form_codec.specs.Forms.{Meaning}
 use Rattle.form_codec.specs.Values.{meant_in}
@@ -20,11 +20,13 @@ use Rattle.entry_read.specs.Heads.{IsHead, Follow}
 use Rattle.entry_read.specs.Units.{HeadAndForest, declarations_of, IsUnitHeld}
 use Rattle.entry_read.proofs.Declarations.{declared_is}
 use Rattle.entry_read.proofs.PlaceLaws.{entry_stands}
-use Rattle.unit_write.specs.Sizes.{NumbersHaveSizes, ShortestHaveSizes}
-use Rattle.unit_write.specs.Placing.{EntrySize, columns_of, values_in}
+use Rattle.unit_write.specs.Sizes.{NumbersHaveSizes, ExpressionsHaveSizes, ShortestHaveSizes}
+use Rattle.unit_write.specs.Placing.{EntrySize, columns_of, values_in, among_values}
+use Rattle.unit_write.specs.NewExpressions.{begin_of, lens_of, AreEndsFor}
 use Rattle.unit_write.specs.Moved.{IsRoomy, IsWritable}
+use Rattle.unit_write.proofs.EndLaws.{lens_len, len_at}
 use Rattle.value_links.specs.declared.units.NamedTable.{NamedTable}
-use Rattle.value_links.specs.Sections.{debug_info}
+use Rattle.value_links.specs.Sections.{debug_info, info_name}
 use Rattle.value_links.specs.Reading.{UnitRead, Reading, no_unit, unit_heads, unit_at, declarations}
 use Rattle.value_links.specs.Whole.{IsReading}
 use Rattle.value_links.specs.Faults.{IsValid}
@@ -38,6 +40,7 @@ use Rattle.rewriter.proofs.BuiltUnits.{unit_built}
 use Rattle.rewriter.proofs.ColumnLaws.{IsSpelledBy, column_here, columns_count, column_spelled, new_columns_roomy}
 use Rattle.rewriter.proofs.MeaningsAmong.{meaning_among}
 use Rattle.rewriter.proofs.MovedValues.{value_here}
+use Rattle.rewriter.proofs.DebugSizes.{debug_short}
 use Rattle.rewriter.proofs.SizedValues.{values_sized}
 
 head_stands : (info : List ℕ) (heads : List UnitHead) (a e u : ℕ) (d : UnitHead) → Follow info heads a e → u < length heads → IsHead info (get_or heads u d)
@@ -45,7 +48,7 @@ head_stands info [] a e u d follow inside = absurd (omega arith)
 head_stands info (h ∷ heads) a e zero d follow inside = follow.1
 head_stands info (h ∷ heads) a e (suc u) d follow inside = head_stands info heads (a + h.len) e u d follow.2 (omega arith)
 
-module _ (numbers_sized : NumbersHaveSizes) (others_sized : ShortestHaveSizes) (stand : DeclarationsStand) (file : List ℕ) (reach : Reach) (world : World) (r : Reading) (abbrevs : List ℕ) (tables : List NewTable) (read : IsReading file r) (valid : IsValid file reach) (holds : Holds file world r) (written : AreTablesWritten world abbrevs tables) where
+module _ (numbers_sized : NumbersHaveSizes) (expressions_sized : ExpressionsHaveSizes) (others_sized : ShortestHaveSizes) (stand : DeclarationsStand) (file : List ℕ) (world : World) (r : Reading) (abbrevs : List ℕ) (tables : List NewTable) (read : IsReading file r) (valid : IsValid file Narrow) (holds : Holds file world r) (written : AreTablesWritten world abbrevs tables) where
   abbrev new_table : ℕ → TableAnew
   new_table u = new_table_at tables (slice_index world.table_of u)
 
@@ -68,7 +71,7 @@ module _ (numbers_sized : NumbersHaveSizes) (others_sized : ShortestHaveSizes) (
       let unit : UnitRead = unit_at r.links u in
       let w = table_written read holds written u inside in
       let is = unit_is read holds written u inside in
-      new_columns_roomy world.units (named_by unit) (new_table u).columns w.columns is.table.adjacent (unit_built stand file reach r valid read u inside)
+      new_columns_roomy world.units (named_by unit) (new_table u).columns w.columns is.table.adjacent (unit_built stand file Narrow r valid read u inside)
 
   -- what a value of an entry means is one of the meanings of its column
   meaning_here : (u id j : ℕ) → u < length r.links.units → id < length (unit_at r.links u).forest.entries → Contains (column_meanings world.units (unit_at r.links u).head.table (decl_of u id) j) (meant_in (unit_at r.links u).forest.section (value_at (unit_at r.links u).forest.values ((entry_at (unit_at r.links u).forest.entries id).first + j)))
@@ -96,9 +99,31 @@ module _ (numbers_sized : NumbersHaveSizes) (others_sized : ShortestHaveSizes) (
       let old : IsSpelledBy (spec_at unit.table.specs (d.first + j)) m = subst (λ (z : Spec). IsSpelledBy z m) was.0 spelled in
       subst (λ (z : Spec). IsSpelledBy z m) (sym is.0) (column_spelled world.units (named_by unit) (new_table u).columns w.columns decl j m declared was.1 one old)
 
+  -- its expressions have fewer than 2^64 bytes
+  lens_fit : (u : ℕ) (ends : List ℕ) → u < length r.links.units → AreEndsFor (unit_at r.links u).forest ends → All (λ (len : ℕ). len < 2 ^ 64) (lens_of ends)
+  lens_fit u ends inside are =
+      let is = unit_is read holds written u inside in
+      let section : length (unit_at r.links u).forest.section ≡ length (debug_info file) = ap (λ (z : List ℕ). length z) is.section in
+      let short : length (debug_info file) ≤ 2 ^ 28 = debug_short file info_name refl valid in
+      let each : length ends ≡ length (unit_at r.links u).forest.values = are.rise.each in
+      let size : length (lens_of ends) ≡ length ends = lens_len 0 ends in
+      All-from_get_or (λ (len : ℕ). len < 2 ^ 64) (lens_of ends) 0 (λ k within.
+      let len : get_or (lens_of ends) k 0 ≡ get_or ends k 0 - begin_of ends k = len_at ends k in
+      let end : get_or ends k 0 ≤ 3 * length (unit_at r.links u).forest.section = are.rise.inside k (omega (arith, within, size, each)) in
+      omega (arith, len, end, section, short))
+
+  -- there is one for each value of an entry
+  lens_of_entry : (u : ℕ) (ends : List ℕ) → AreEndsFor (unit_at r.links u).forest ends → (id : ℕ) → length (among_values (unit_at r.links u).forest (lens_of ends) id) ≡ length (values_in (unit_at r.links u).forest id)
+  lens_of_entry u ends are id =
+      let f = (unit_at r.links u).forest in
+      let e = entry_at (unit_at r.links u).forest.entries id in
+      let each : length ends ≡ length (unit_at r.links u).forest.values = are.rise.each in
+      let size : length (lens_of ends) ≡ length ends = lens_len 0 ends in
+      omega (arith, each, size, length-take e.count (drop e.first (lens_of ends)), length-take e.count (drop e.first f.values), length-drop e.first (lens_of ends), length-drop e.first f.values)
+
   -- something can be written for an entry
-  entry_sized : (u : ℕ) → u < length r.links.units → (id : ℕ) → id < length (unit_at r.links u).forest.entries → (size : ℕ) × EntrySize (unit_at r.links u).table (new_table u).columns (new_table u).numbers (unit_at r.links u).forest id size
-  entry_sized u inside id known =
+  entry_sized : (u : ℕ) (ends : List ℕ) → u < length r.links.units → AreEndsFor (unit_at r.links u).forest ends → (id : ℕ) → id < length (unit_at r.links u).forest.entries → (size : ℕ) × EntrySize (unit_at r.links u).table (new_table u).columns (new_table u).numbers (unit_at r.links u).forest (lens_of ends) id size
+  entry_sized u ends inside are id known =
       let unit : UnitRead = unit_at r.links u in
       let is = unit_is read holds written u inside in
       let w = table_written read holds written u inside in
@@ -111,11 +136,13 @@ module _ (numbers_sized : NumbersHaveSizes) (others_sized : ShortestHaveSizes) (
       let valued : ValuesBetween unit.forest.section (old_columns unit decl) (values_in unit.forest id) s.values_at end = subst (λ (z : Declared). ValuesBetween unit.forest.section z.columns (values_in unit.forest id) s.values_at end) (declared_is unit.table decl declared) s.valued in
       let size : length new ≡ length (old_columns unit decl) = columns_count world.units (named_by unit) (new_table u).columns w.columns decl in
       let roomy : All IsRoomy new = All-take IsRoomy d.count (drop d.first (new_table u).columns) (All-drop IsRoomy d.first (new_table u).columns (columns_roomy u inside)) in
-      let sized = values_sized numbers_sized others_sized unit.forest.section (old_columns unit decl) new (values_in unit.forest id) s.values_at end size roomy valued (λ j among here. value_spelled u id j inside known among here) in
+      let lens : List ℕ = among_values unit.forest (lens_of ends) id in
+      let fit : All (λ (len : ℕ). len < 2 ^ 64) lens = All-take (λ (len : ℕ). len < 2 ^ 64) (entry_at unit.forest.entries id).count (drop (entry_at unit.forest.entries id).first (lens_of ends)) (All-drop (λ (len : ℕ). len < 2 ^ 64) (entry_at unit.forest.entries id).first (lens_of ends) (lens_fit u ends inside are)) in
+      let sized = values_sized numbers_sized expressions_sized others_sized unit.forest.section (old_columns unit decl) new (values_in unit.forest id) lens s.values_at end size (lens_of_entry u ends are id) fit roomy valued (λ j among here. value_spelled u id j inside known among here) in
       (least_unsigned_len (slice_index (new_table u).numbers decl) + sized.0, (sized.0, sized.1, refl))
 
-  unit_writable : (u : ℕ) → u < length r.links.units → IsWritable (head_and_forest (unit_at r.links u)) (unit_at r.links u).table (new_table u).columns (new_table u).numbers
-  unit_writable u inside =
+  unit_writable : (u : ℕ) (ends : List ℕ) → u < length r.links.units → AreEndsFor (unit_at r.links u).forest ends → IsWritable (head_and_forest (unit_at r.links u)) (unit_at r.links u).table (new_table u).columns (new_table u).numbers (lens_of ends)
+  unit_writable u ends inside are =
       let unit : UnitRead = unit_at r.links u in
       let is = unit_is read holds written u inside in
       let w = table_written read holds written u inside in
@@ -131,14 +158,15 @@ module _ (numbers_sized : NumbersHaveSizes) (others_sized : ShortestHaveSizes) (
         renewed = w.columns.count;
         roomy = columns_roomy u inside;
         used = λ id known none. absurd (let some = decl_used read holds written u id inside known in omega (arith, some, none));
-        sized = λ id known. entry_sized u inside id known;
+        sized = λ id known. entry_sized u ends inside are id known;
       }
 
   -- Each unit can be written anew in its new columns.
   pub chosen_columns_are_writable : AreWritable world tables
-  chosen_columns_are_writable u among =
+  chosen_columns_are_writable u ends among are =
       let size = units_count in
       let inside : u < length r.links.units = omega (arith, size, among) in
       let table : (table_at world.tables (slice_index world.table_of u)).table ≡ (unit_at r.links u).table = ap (λ (z : NamedTable). z.table) (holds.tables.each u inside) in
-      let by_unit = subst (λ (z : HeadAndForest). IsWritable z (unit_at r.links u).table (new_table u).columns (new_table u).numbers) (sym (unit_same u inside)) (unit_writable u inside) in
-      subst (λ (z : Listing). IsWritable (unit_in world.units u) z (new_table u).columns (new_table u).numbers) (sym table) by_unit
+      let fit : AreEndsFor (unit_at r.links u).forest ends = subst (λ (z : HeadAndForest). AreEndsFor z.forest ends) (unit_same u inside) are.fit in
+      let by_unit = subst (λ (z : HeadAndForest). IsWritable z (unit_at r.links u).table (new_table u).columns (new_table u).numbers (lens_of ends)) (sym (unit_same u inside)) (unit_writable u ends inside fit) in
+      subst (λ (z : Listing). IsWritable (unit_in world.units u) z (new_table u).columns (new_table u).numbers (lens_of ends)) (sym table) by_unit

@@ -9,7 +9,7 @@ use Rattle.elf_place.specs.Same.{SameImage}
 use Rattle.list_model.specs.declared.context.Context.{Context}
 use Rattle.list_model.specs.declared.tables.AddrTable.{AddrTable}
 use Rattle.unit_write.specs.declared.places.Places.{Places}
-use Rattle.unit_write.specs.Values.{with_number}
+use Rattle.unit_write.specs.Values.{renewed}
 use Rattle.value_links.specs.Sections.{body_or_none, debug_addr, addr_name}
 use Rattle.value_links.specs.Attributes.{addr_base}
 use Rattle.value_links.specs.Reading.{UnitRead, Linkable, Reading, unit_at, no_unit}
@@ -37,17 +37,17 @@ picks true name m olds news same = ap (λ (z : List Meaning). m ∷ z) same
 picks false name m olds news same = same
 
 -- no address is moved
-low_here : (name number : ℕ) (m : Meaning) (olds news : List (ℕ × Meaning)) → low_pcs news ≡ low_pcs olds → low_pcs ((name, with_number number m) ∷ news) ≡ low_pcs ((name, m) ∷ olds)
-low_here name number (Address n) olds news same = picks (nat_eq name low_pc) name (Address n) (filter is_low_pc olds) (filter is_low_pc news) same
-low_here name number (AddressNumber i) olds news same = picks (nat_eq name low_pc) name (AddressNumber i) (filter is_low_pc olds) (filter is_low_pc news) same
-low_here name number m olds news same = same
+low_here : (name number : ℕ) (made : List ℕ) (m : Meaning) (olds news : List (ℕ × Meaning)) → low_pcs news ≡ low_pcs olds → low_pcs ((name, renewed number made m) ∷ news) ≡ low_pcs ((name, m) ∷ olds)
+low_here name number made (Address n) olds news same = picks (nat_eq name low_pc) name (Address n) (filter is_low_pc olds) (filter is_low_pc news) same
+low_here name number made (AddressNumber i) olds news same = picks (nat_eq name low_pc) name (AddressNumber i) (filter is_low_pc olds) (filter is_low_pc news) same
+low_here name number made m olds news same = same
 
 lows_stay : (r : Linkable) (places : List Places) (new_places : NewPlaces) (u id : ℕ) (olds news : List (ℕ × Meaning)) → AllZip (IsMovedAttribute r places new_places u id) olds news → low_pcs news ≡ low_pcs olds
 lows_stay r places new_places u id [] [] moves = refl
 lows_stay r places new_places u id [] (b ∷ news) moves = absurd moves
 lows_stay r places new_places u id (a ∷ olds) [] moves = absurd moves
 lows_stay r places new_places u id ((name, m) ∷ olds) ((other, value) ∷ news) (move, moves) =
-    ap (λ (z : ℕ). low_pcs ((z, value) ∷ news)) move.name ∙ ap (λ (z : Meaning). low_pcs ((name, z) ∷ news)) move.value ∙ low_here name move.number m olds news (lows_stay r places new_places u id olds news moves)
+    ap (λ (z : ℕ). low_pcs ((z, value) ∷ news)) move.name ∙ ap (λ (z : Meaning). low_pcs ((name, z) ∷ news)) move.value ∙ low_here name move.number move.made m olds news (lows_stay r places new_places u id olds news moves)
 
 -- THE BASE OF ADDRESSES
 

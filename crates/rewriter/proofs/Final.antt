@@ -1,7 +1,6 @@
 -- The new numbers of a unit, from those of its values.
-use Rattle.std.proofs.Common.{◌≡◌, ◌<◌, ◌+◌, ◌^◌, ◌++◌, ℕ, List, [], ◌∷◌, length, take, drop, slice_index, get_or, ◌∙◌, sym, ap, refl, subst, arith}
+use Rattle.std.proofs.Common.{◌≡◌, ◌≤◌, ◌<◌, ◌+◌, ◌++◌, ℕ, List, [], ◌∷◌, length, take, drop, slice_index, get_or, ◌∙◌, sym, ap, subst, arith}
 use Rattle.std.proofs.lemmas.List.{get_or_read, get_or-map, get_or-take, get_or-drop, length-append, length-drop, length-take-le}
-use Rattle.std.proofs.lemmas.List.Elements.{All-from_get_or}
 use Rattle.std.proofs.Math.Seq.{get_or-append_seam}
 use Rattle.dw_base.specs.declared.fault.Reach.{Reach}
 use Rattle.form_codec.specs.declared.value.Value.{Value}
@@ -16,7 +15,6 @@ use Rattle.entry_arena.specs.Arena.{entry_at, value_at}
 use Rattle.entry_arena.proofs.StepLaws.{values_counted}
 use Rattle.entry_read.specs.Units.{HeadAndForest}
 use Rattle.unit_write.specs.declared.places.Places.{Places}
-use Rattle.unit_write.specs.declared.write.NewNumbers.{NewNumbers}
 use Rattle.value_links.specs.Sections.{debug_info, debug_abbrev}
 use Rattle.value_links.specs.Reading.{UnitRead, Reading, unit_at, IsUnitRead}
 use Rattle.value_links.specs.Values.{HasValueAt, values_of, declaration_of}
@@ -26,10 +24,10 @@ use Rattle.rewriter.specs.declared.tables.NewTable.{NewTable}
 use Rattle.rewriter.specs.declared.new_places.NewPlaces.{NewPlaces}
 use Rattle.rewriter.specs.inside.Tables.{table_anew, new_table_at, AreTablesWritten}
 use Rattle.rewriter.specs.inside.Placed.{PlacesAnew, places_anew, places_at, unit_in}
-use Rattle.rewriter.specs.inside.Numbers.{IsNewNumber, IsNewType, AreNewNumbers}
-use Rattle.rewriter.specs.inside.Held.{HasTable, table_for, entry_in, name_in, value_in, EntryMeans, AreNumbered, IsTypeMoved}
+use Rattle.rewriter.specs.inside.Numbers.{IsNewNumber, IsNewType}
+use Rattle.rewriter.specs.inside.Held.{HasTable, table_for, entry_in, name_in, value_in, EntryMeans, IsTypeMoved}
 use Rattle.rewriter.proofs.Standing.{held_unit, held_count, has_table}
-use Rattle.rewriter.proofs.Meant.{read_unit_at, column_same, value_same, values_size}
+use Rattle.rewriter.proofs.Meant.{owners, read_unit_at, column_same, value_same, values_size}
 
 -- what is read of the parts of a world
 
@@ -99,8 +97,19 @@ unit_reads file world r u reach is holds inside =
     let size : length world.units ≡ length is.r.links.units = held_count world.image world is.r is.holds in
     subst (IsUnitRead (debug_info world.image) (debug_abbrev world.image)) (unit_once world.image file world is.r r u is.holds holds inside) (read_unit_at world.image is.r u is.read.links.units.each (omega arith))
 
+-- a value of an entry is that of its number among those of the unit
+pub value_among : (info abbrevs : List ℕ) (unit : UnitRead) → IsUnitRead info abbrevs unit → (id number name : ℕ) (meaning : Meaning) (place : ℕ) → (h : HasValueAt unit id number name meaning place) → (number < length unit.forest.values) × (value_at unit.forest.values number ≡ h.value)
+value_among info abbrevs unit is id number name meaning place h =
+    let size : length (values_of unit id) ≡ (entry_at unit.forest.entries id).count = values_size info abbrevs unit is id h.known in
+    let parts : length (values_of unit id) ≡ length h.earlier + length (h.value ∷ h.later) = ap length h.values ∙ length-append h.earlier (h.value ∷ h.later) in
+    let below : length h.earlier < (entry_at unit.forest.entries id).count = omega arith in
+    let inside : (entry_at unit.forest.entries id).first + (entry_at unit.forest.entries id).count ≤ length unit.forest.values = (owners info abbrevs unit is).inside id h.known in
+    let numbered : number ≡ (entry_at unit.forest.entries id).first + length h.earlier = h.numbered in
+    let here : value_at (values_of unit id) (length h.earlier) ≡ h.value = ap (λ (vs : List Value). value_at vs (length h.earlier)) h.values ∙ get_or-append_seam h.earlier h.value h.later (value.Addr 0) in
+    (omega (arith, below, inside, numbered), ap (value_at unit.forest.values) numbered ∙ sym (value_same info abbrevs unit is id h.known (length h.earlier) below) ∙ here)
+
 -- the new numbers of values, where the unit and its table are given
-abbrev NumbersIn : Reading → List Places → NewPlaces → ℕ → List ℕ → HeadAndForest → Listing → Type 0
+abbrev pub NumbersIn : Reading → List Places → NewPlaces → ℕ → List ℕ → HeadAndForest → Listing → Type 0
 NumbersIn r places new_places u held h t =
     (id j : ℕ) → id < length h.forest.entries → j < (entry_at h.forest.entries id).count → IsNewNumber r.links places new_places u id (spec_at t.specs ((decl_at t.decls (entry_at h.forest.entries id).decl).first + j)).name (meant_in (unit_at r.links u).forest.section (value_at h.forest.values ((entry_at h.forest.entries id).first + j))) (slice_index held ((entry_at h.forest.entries id).first + j))
 
@@ -132,23 +141,6 @@ type_moved file world r places u own mine new holds own_is mine_is moved =
     let there : own ≡ head_and_forest (unit_at r.links u) = own_is ∙ held_unit file world r u holds in
     let m : IsTypeMoved (head_and_forest (unit_at r.links u)) (places_at places u) new = subst (λ (p : PlacesAnew). IsTypeMoved (head_and_forest (unit_at r.links u)) p new) mine_is (subst (λ (h : HeadAndForest). IsTypeMoved h (places_anew mine) new) there moved) in
     record { entry = m.entry; none = m.none }
-
-pub are_new_numbers : (file : List ℕ) (world : World) (r : Reading) (tables : List NewTable) (places : List Places) (new_places : NewPlaces) (u : ℕ) (reach : Reach) (own : HeadAndForest) (mine : Places) (new : NewNumbers) → IsWorldOf world.image reach world → Holds file world r → u < length world.units → own ≡ unit_in world.units u → places_anew mine ≡ places_at places u → new.end ≡ mine.end → new.table ≡ (new_table_at tables (slice_index world.table_of u)).at → IsTypeMoved own (places_anew mine) new.type_offset → AreNumbered world places new_places u new.held.items → AreNewNumbers world r.links tables places new_places u new
-are_new_numbers file world r tables places new_places u reach own mine new is holds known own_is mine_is end table type held =
-    let size : length world.units ≡ length r.links.units = held_count file world r holds in
-    let inside : u < length r.links.units = omega arith in
-    let first : NumbersIn r places new_places u new.held.items (unit_in world.units u) (table_for world u) = λ id j a b. held.each id j a b file r id holds in
-    let numbers : NumbersIn r places new_places u new.held.items (head_and_forest (unit_at r.links u)) (unit_at r.links u).table =
-    subst (NumbersIn r places new_places u new.held.items (head_and_forest (unit_at r.links u))) (table_known file world r u holds inside) (subst (λ (h : HeadAndForest). NumbersIn r places new_places u new.held.items h (table_for world u)) (held_unit file world r u holds) first) in
-    record {
-      ends = end ∙ ap (λ (p : PlacesAnew). p.end) mine_is;
-      table_at = table;
-      type_at = type_moved file world r places u own mine new.type_offset holds own_is mine_is type;
-      type_fits = type.fits;
-      count = held.size.1 refl ∙ ap (λ (h : HeadAndForest). length h.forest.values) (held_unit file world r u holds);
-      fit = All-from_get_or (λ (number : ℕ). number < 2 ^ 32) new.held.items 0 (λ k within. held.fit k within);
-      each = attribute_numbered r places new_places u new.held.items (debug_info world.image) (debug_abbrev world.image) (unit_reads file world r u reach is holds known) numbers;
-    }
 
 pub new_table_is : (world : World) (tables : List NewTable) (u : ℕ) (table_of : List ℕ) (i : ℕ) (table : NewTable) → HasTable world tables u → table_of ≡ world.table_of → i ≡ get_or table_of u i → table ≡ get_or tables i table → table_anew table ≡ new_table_at tables (slice_index world.table_of u)
 new_table_is world tables u table_of i table has same is there =

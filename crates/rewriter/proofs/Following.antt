@@ -8,7 +8,7 @@ use Rattle.entry_arena.specs.declared.entry.Entry.{Entry}
 use Rattle.entry_arena.specs.Arena.{IsEntryAt}
 use Rattle.entry_arena.specs.Forests.{Described}
 use Rattle.unit_write.specs.declared.places.Places.{Places}
-use Rattle.unit_write.specs.Values.{with_number}
+use Rattle.unit_write.specs.Values.{renewed}
 use Rattle.value_links.specs.Reading.{Reading, unit_at}
 use Rattle.value_links.specs.Values.{entry_of}
 use Rattle.value_links.specs.Resolved.{Resolved, Resolves}
@@ -39,7 +39,7 @@ module _ {file : List ℕ} {world : World} {tables : List NewTable} {places : Li
   attributes_mean u id inside (a ∷ olds) [] ys moves means = absurd moves
   attributes_mean u id inside (a ∷ olds) (b ∷ news) [] moves means = absurd means
   attributes_mean u id inside (a ∷ olds) (b ∷ news) (y ∷ ys) (move, moves) (mean, means) =
-      let follows : Resolves s u id a.0 (with_number move.number a.1) y.1 = value_follows all u id a.0 a.1 move.number y.1 inside move.numbered mean.value in
+      let follows : Resolves s u id a.0 (renewed move.number move.made a.1) y.1 = value_follows all u id a.0 a.1 move.number move.made y.1 inside move.numbered mean.value in
       let by_value : Resolves s u id a.0 b.1 y.1 = subst (λ (z : Meaning). Resolves s u id a.0 z y.1) (sym move.value) follows in
       (record { name = mean.name ∙ sym move.name; value = subst (λ (z : ℕ). Resolves s u id z b.1 y.1) (sym move.name) by_value }, attributes_mean u id inside olds news ys moves means)
 

@@ -19,7 +19,8 @@ pub mod ListMeanings
 pub mod RootsStay
 pub mod ContextsStay
 pub mod Following
-pub mod NoneUnread
+pub mod MovedExpressions
+pub mod WideExpressions
 pub mod UseLaws
 pub mod Renumbers
 pub mod AllColumns
@@ -71,3 +72,6 @@ pub mod TableSteps
 pub mod TermSums
 pub mod TableSizes
 pub mod SectionSizes
+pub mod OpNumbers
+pub mod UnitExpressions
+pub mod NewExpressions

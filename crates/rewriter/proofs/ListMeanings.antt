@@ -7,11 +7,11 @@ use Rattle.form_codec.specs.Forms.{Meaning}
 use Rattle.list_model.specs.declared.entry.ListKind.TheVariants.{Ranges, Locations}
 use Rattle.list_model.specs.Entries.{Entry, AreSaid}
 use Rattle.unit_write.specs.declared.places.Places.{Places}
-use Rattle.unit_write.specs.Values.{with_number}
+use Rattle.unit_write.specs.Values.{renewed}
 use Rattle.value_links.specs.Reading.{ListRead, Reading}
 use Rattle.value_links.specs.ListPlaces.{SlotNames}
 use Rattle.value_links.specs.Linked.{Linked, IsLinked}
-use Rattle.value_links.specs.Linked.Linked.{Itself, Refers, Program, ListAt, SlotAt, BaseOf, Kept}
+use Rattle.value_links.specs.Linked.Linked.{Itself, Operates, Refers, Program, ListAt, SlotAt, BaseOf, Kept}
 use Rattle.value_links.specs.Lists.{IsNamedIn, IsOwner, AreLookedUp, AreListsOf}
 use Rattle.value_links.specs.Resolved.{Content, ListMeaning, MeansContent, MeansList, Resolved, ResolvesLink, Resolves}
 use Rattle.value_links.specs.Resolved.Content.{Items, Entries}
@@ -20,7 +20,7 @@ use Rattle.value_links.specs.TidyLists.{IsFilled, AreTidyLists}
 use Rattle.value_links.specs.World.{World}
 use Rattle.rewriter.specs.declared.tables.NewTable.{NewTable}
 use Rattle.rewriter.specs.declared.new_places.NewPlaces.{NewPlaces}
-use Rattle.rewriter.specs.inside.Numbers.{IsNewNumber}
+use Rattle.rewriter.specs.inside.Numbers.{IsNewValue}
 use Rattle.rewriter.specs.inside.Follows.{AreReadAnew}
 use Rattle.rewriter.proofs.MovedLists.{IsLinkMoved, old_at, new_at, new_inside, old_inside, old_once, moved_from, slot_stays, slot_inside, slot_named}
 use Rattle.rewriter.proofs.MovedLinks.{link_follows}
@@ -147,14 +147,15 @@ module _ {file : List ℕ} {world : World} {tables : List NewTable} {places : Li
       same_link (SlotAt Ranges p i) now v e (new_at all list.k, meaning, slot_stays all p i list.k list.inside (subst (SlotNames r.links.ranges p i) list.here names), list.means, is)
   link_means (SlotAt Locations p i) now v e (at, meaning, names, means, is) = absurd (let none = means.one.1 in omega arith)
   link_means (Itself meaning) now v e means = same_link (Itself meaning) now v e means
+  link_means (Operates operations) now v e means = same_link (Operates operations) now v e means
   link_means (Refers unit target) now v e means = same_link (Refers unit target) now v e means
   link_means (Program p) now v e means = same_link (Program p) now v e means
   link_means (BaseOf kind p) now v e means = same_link (BaseOf kind p) now v e means
   link_means (Kept n) now v e means = same_link (Kept n) now v e means
 
-  pub value_follows : (u id name : ℕ) (meaning : Meaning) (new : ℕ) (v : Resolved) → u < length r.links.units → IsNewNumber r.links places new_places u id name meaning new → Resolves r u id name meaning v → Resolves s u id name (with_number new meaning) v
-  value_follows u id name meaning new v inside is means =
-      let (now, moves, links) = link_follows all u id name meaning new means.linked inside is means.links in
+  pub value_follows : (u id name : ℕ) (meaning : Meaning) (new : ℕ) (made : List ℕ) (v : Resolved) → u < length r.links.units → IsNewValue r.links places new_places u id name meaning new made → Resolves r u id name meaning v → Resolves s u id name (renewed new made meaning) v
+  value_follows u id name meaning new made v inside is means =
+      let (now, moves, links) = link_follows all u id name meaning new made means.linked inside is means.links in
       record { linked = now; links = links; resolves = link_means means.linked now v moves means.resolves }
 
   -- WHAT THE SECTION HOLDS

@@ -5,10 +5,10 @@ use Rattle.form_codec.specs.Forms.{Meaning}
 use Rattle.list_model.specs.declared.context.Context.{Context}
 use Rattle.list_model.specs.declared.entry.ListKind.TheVariants.{Ranges, Locations}
 use Rattle.unit_write.specs.declared.places.Places.{Places}
-use Rattle.unit_write.specs.Values.{with_number}
+use Rattle.unit_write.specs.Values.{renewed}
 use Rattle.value_links.specs.Reading.{Reading, no_context, context_at}
 use Rattle.value_links.specs.Linked.{Linked, Links, IsLinked}
-use Rattle.value_links.specs.Linked.Linked.{Itself, Refers, Program, ListAt, SlotAt, BaseOf, Kept}
+use Rattle.value_links.specs.Linked.Linked.{Itself, Operates, Refers, Program, ListAt, SlotAt, BaseOf, Kept}
 use Rattle.value_links.specs.Lists.{LinkNames, IsNamedIn, IsNamedBySlot, IsNamed, IsUnowned, IsOwner, IsShared}
 use Rattle.value_links.specs.World.{World}
 use Rattle.rewriter.specs.declared.tables.NewTable.{NewTable}
@@ -28,7 +28,7 @@ module _ {file : List ℕ} {world : World} {tables : List NewTable} {places : Li
   pub value_links : (u number : ℕ) (linked : Linked) → u < length r.links.units → IsLinked r.links u number linked → (now : Linked) × IsLinkMoved new_places.ranges linked now × IsLinked s.links u number now
   value_links u number linked inside is =
       let (new, place, stands, moves) = value_went all u is.id number is.name is.meaning is.place inside is.stands in
-      let (now, follows, links) = link_follows all u is.id is.name is.meaning moves.held linked inside moves.numbered is.links in
+      let (now, follows, links) = link_follows all u is.id is.name is.meaning moves.held moves.made linked inside moves.numbered is.links in
       (now, follows, record { id = is.id; name = is.name; meaning = new; place = place; stands = stands; links = subst (λ (z : Meaning). Links s.links u is.id is.name z now) (sym moves.value) links })
 
   -- what named a list names it
@@ -40,6 +40,7 @@ module _ {file : List ℕ} {world : World} {tables : List NewTable} {places : Li
       subst (λ (z : Linked). LinkNames s.links z Ranges (new_at all k)) (sym e) (refl, slot_stays all p i k inside names)
   names_follow k (SlotAt Locations p i) now inside e (other, names) = absurd (cc (other))
   names_follow k (Itself meaning) now inside e names = absurd names
+  names_follow k (Operates operations) now inside e names = absurd names
   names_follow k (Refers unit target) now inside e names = absurd names
   names_follow k (Program p) now inside e names = absurd names
   names_follow k (BaseOf kind p) now inside e names = absurd names
@@ -64,8 +65,8 @@ module _ {file : List ℕ} {world : World} {tables : List NewTable} {places : Li
       let known : u < length r.links.units = unit_inside u is.known in
       let l = is.links in
       let (old, was, stands, moves) = value_came all u l.id is.number l.name l.meaning l.place known l.stands in
-      let links : Links s.links u l.id l.name (with_number moves.held old) is.linked = subst (λ (z : Meaning). Links s.links u l.id l.name z is.linked) moves.value l.links in
-      let named = link_came all u l.id l.name old moves.held is.linked at known moves.numbered links is.names in
+      let links : Links s.links u l.id l.name (renewed moves.held moves.made old) is.linked = subst (λ (z : Meaning). Links s.links u l.id l.name z is.linked) moves.value l.links in
+      let named = link_came all u l.id l.name old moves.held moves.made is.linked at known moves.numbered links is.names in
       record {
         k = named.k;
         inside = named.inside;

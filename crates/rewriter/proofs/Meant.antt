@@ -42,7 +42,7 @@ use Rattle.rewriter.proofs.Standing.{filled, held_unit, held_count}
 
 -- AN ENTRY'S ATTRIBUTES
 
-all_zip_at : {A B : Type 0} (R : A → B → Type 0) (xs : List A) (ys : List B) (i : ℕ) (d : A) → AllZip R xs ys → i < length xs → (y : B) × R (get_or xs i d) y
+pub all_zip_at : {A B : Type 0} (R : A → B → Type 0) (xs : List A) (ys : List B) (i : ℕ) (d : A) → AllZip R xs ys → i < length xs → (y : B) × R (get_or xs i d) y
 all_zip_at R [] ys i d all inside = absurd (let b : i < 0 = inside in omega arith)
 all_zip_at R (x ∷ xs) [] i d all inside = absurd all
 all_zip_at R (x ∷ xs) (y ∷ ys) zero d all inside = (y, all.0)

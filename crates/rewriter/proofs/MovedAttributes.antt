@@ -1,4 +1,4 @@
--- The attributes of an entry that is written anew: each has its name, and its value but for a new number.
+-- The attributes of an entry that is written anew: each has its name, and its value but for a new number or new bytes of an expression.
 use Rattle.std.proofs.Common.{◌≡◌, ◌<◌, ◌+◌, ◌∙◌, ℕ, suc, List, [], ◌∷◌, length, sym, ap, subst, refl, arith}
 use Rattle.std.specs.Prelude.{slice_index}
 use Rattle.std.specs.List.{AllZip}
@@ -10,17 +10,18 @@ use Rattle.entry_arena.specs.declared.entry.Entry.{Entry}
 use Rattle.entry_arena.specs.Arena.{value_at}
 use Rattle.entry_arena.specs.Forests.{Described, attributes_of, described_by}
 use Rattle.unit_write.specs.declared.places.Places.{Places}
-use Rattle.unit_write.specs.Values.{with_number}
+use Rattle.unit_write.specs.NewExpressions.{made_of}
+use Rattle.unit_write.specs.Values.{renewed}
 use Rattle.value_links.specs.Reading.{Linkable, Reading, unit_at, declarations}
 use Rattle.value_links.specs.Values.{entry_of, declaration_of, values_of}
 use Rattle.value_links.specs.World.{World}
 use Rattle.rewriter.specs.declared.tables.NewTable.{NewTable}
 use Rattle.rewriter.specs.declared.new_places.NewPlaces.{NewPlaces}
-use Rattle.rewriter.specs.inside.Numbers.{IsNewNumber}
+use Rattle.rewriter.specs.inside.Numbers.{IsNewValue}
 use Rattle.rewriter.specs.inside.Follows.{AreReadAnew}
 use Rattle.rewriter.proofs.ColumnLaws.{AreNamedAlike}
 use Rattle.rewriter.proofs.MovedValues.{attributes_move, as_many}
-use Rattle.rewriter.proofs.MovedEntries.{moved, same_declared, stands_in, has_value, new_values, values_are, values_mean}
+use Rattle.rewriter.proofs.MovedEntries.{renewed_by, moved, same_declared, stands_in, has_value, new_values, values_are, values_mean}
 
 -- attributes depend on the names of columns alone
 attributes_alike : (section : List ℕ) (old new : List Spec) (values : List Value) → AreNamedAlike old new → attributes_of section old values ≡ attributes_of section new values
@@ -34,12 +35,13 @@ attributes_alike section (d ∷ ds) (c ∷ cs) (v ∷ vs) alike =
     let rest : attributes_of section ds vs ≡ attributes_of section cs vs = attributes_alike section ds cs vs (record { count = omega (arith, count); each = λ j inside. alike.each (suc j) (omega arith) }) in
     ap (λ (n : ℕ). (n, meant_in section v) ∷ attributes_of section ds vs) name ∙ ap (λ (z : List (ℕ × Meaning)). (c.name, meant_in section v) ∷ z) rest
 
--- an attribute of an entry is the old one, with the new number of its value
+-- an attribute of an entry is the old one, with the new number of its value, or with the new bytes of its expression
 pub record IsMovedAttribute (r : Linkable) (places : List Places) (new_places : NewPlaces) (u id : ℕ) (old new : ℕ × Meaning) : Type 0 where
   pub name : new.0 ≡ old.0
   pub number : ℕ
-  pub numbered : IsNewNumber r places new_places u id old.0 old.1 number
-  pub value : new.1 ≡ with_number number old.1
+  pub made : List ℕ
+  pub numbered : IsNewValue r places new_places u id old.0 old.1 number made
+  pub value : new.1 ≡ renewed number made old.1
 
 -- what an entry of a unit says
 abbrev pub says : Linkable → ℕ → Entry → Described
@@ -57,9 +59,9 @@ module _ {file : List ℕ} {world : World} {tables : List NewTable} {places : Li
       let columns : List Spec = (declaration_of (unit_at r.links u) id).columns in
       let values : List Value = values_of (unit_at r.links u) id in
       let stands = stands_in all u id inside known in
-      let number : ℕ → Meaning → Meaning = λ k meaning. with_number (slice_index m.numbers.held.items (e.first + k)) meaning in
+      let number : ℕ → Meaning → Meaning = λ k meaning. renewed_by m.numbers (e.first + k) meaning in
       let size : length (new_values all u id) ≡ length values = as_many (unit_at r.links u).forest.values (unit_at s.links u).forest.values e.first e.count m.values.count in
-      attributes_move (Moves u id) old (unit_at s.links u).forest.section columns values stands.values_at number (λ before c after evs v more place is_columns is_values valued. record { name = refl; number = slice_index m.numbers.held.items (e.first + length evs); numbered = m.numbered.each id (e.first + length evs) c.name (meant_in old v) place (has_value all u id inside known stands before c after evs v more place is_columns is_values valued); value = refl }) [] columns [] values (new_values all u id) 0 stands.values_at (e.at + e.len) refl refl refl refl stands.valued size (λ k k_in. values_mean all u id inside k k_in ∙ ap (λ (z : ℕ). number z (meant_in old (value_at values k))) (omega arith))
+      attributes_move (Moves u id) old (unit_at s.links u).forest.section columns values stands.values_at number (λ before c after evs v more place is_columns is_values valued. record { name = refl; number = slice_index m.numbers.held.items (e.first + length evs); made = made_of m.numbers.ends.items m.numbers.expressions.items (e.first + length evs); numbered = m.numbered.each id (e.first + length evs) c.name (meant_in old v) place (has_value all u id inside known stands before c after evs v more place is_columns is_values valued); value = refl }) [] columns [] values (new_values all u id) 0 stands.values_at (e.at + e.len) refl refl refl refl stands.valued size (λ k k_in. values_mean all u id inside k k_in ∙ ap (λ (z : ℕ). number z (meant_in old (value_at values k))) (omega arith))
 
   pub attributes_moved : (u id : ℕ) → u < length r.links.units → id < length (unit_at r.links u).forest.entries → AllZip (IsMovedAttribute r.links places new_places u id) (says r.links u (entry_of (unit_at r.links u) id)).attributes (says s.links u (entry_of (unit_at s.links u) id)).attributes
   attributes_moved u id inside known =

@@ -3,14 +3,14 @@ use Rattle.std.proofs.Common.{◌≡◌, ◌≤◌, ◌<◌, ◌+◌, ◌∙◌,
 use Rattle.std.specs.List.{AllZip, Contains}
 use Rattle.std.proofs.lemmas.List.Elements.{All-get_or}
 use Rattle.form_codec.specs.Forms.{Meaning}
-use Rattle.form_codec.specs.Forms.Meaning.{InUnit, InSection, SectionPlace}
+use Rattle.form_codec.specs.Forms.Meaning.{Expression, InUnit, InSection, SectionPlace}
 use Rattle.list_model.specs.declared.contribution.Contribution.{Contribution}
 use Rattle.list_model.specs.declared.entry.ListKind.TheVariants.{Ranges}
 use Rattle.list_model.specs.Contributions.{offsets_at, part_end, IsContribution, ContributionsTile}
 use Rattle.list_model.proofs.Tiling.{part_inside, each_part, before}
 use Rattle.list_write.specs.Written.{part_at as new_part_at}
 use Rattle.unit_write.specs.declared.places.Places.{Places}
-use Rattle.unit_write.specs.Values.{with_number}
+use Rattle.unit_write.specs.Values.{renewed}
 use Rattle.value_links.specs.Attributes.{rnglists_base}
 use Rattle.value_links.specs.Reading.{ListSection, Linkable, Reading, unit_at, part_at}
 use Rattle.value_links.specs.Values.{IsFirstBase, root_of}
@@ -22,7 +22,7 @@ use Rattle.value_links.proofs.Bases.{IsBase, is_base, split_first, behind, none_
 use Rattle.rewriter.specs.declared.tables.NewTable.{NewTable}
 use Rattle.rewriter.specs.declared.new_places.NewPlaces.{NewPlaces}
 use Rattle.rewriter.specs.inside.NewPlaces.{IsNewOffset}
-use Rattle.rewriter.specs.inside.Numbers.{IsNewNumber}
+use Rattle.rewriter.specs.inside.Numbers.{IsNewNumber, IsNewValue}
 use Rattle.rewriter.specs.inside.Follows.{AreReadAnew}
 use Rattle.rewriter.proofs.Meant.{all_values}
 use Rattle.rewriter.proofs.MovedAttributes.{IsMovedAttribute, attributes_moved}
@@ -74,12 +74,13 @@ abbrev place_in : Meaning → ℕ
 place_in (SectionPlace n) = n
 place_in meaning = 0
 
--- a value with a new number is a section offset where the old one is
-pub was_place : (number m : ℕ) (meaning : Meaning) → with_number number meaning ≡ SectionPlace m → (n : ℕ) × (meaning ≡ SectionPlace n) × (number ≡ m)
-was_place number m (SectionPlace n) e = (n, refl, ap place_in e)
-was_place number m (InUnit n) e = absurd (cc (e))
-was_place number m (InSection n) e = absurd (cc (e))
-was_place number m meaning e = absurd (cc (e))
+-- a value that is renewed is a section offset where the old one is
+pub was_place : (number : ℕ) (made : List ℕ) (m : ℕ) (meaning : Meaning) → renewed number made meaning ≡ SectionPlace m → (n : ℕ) × (meaning ≡ SectionPlace n) × (number ≡ m)
+was_place number made m (SectionPlace n) e = (n, refl, ap place_in e)
+was_place number made m (InUnit n) e = absurd (cc (e))
+was_place number made m (InSection n) e = absurd (cc (e))
+was_place number made m (Expression bytes) e = absurd (cc (e))
+was_place number made m meaning e = absurd (cc (e))
 
 pair_is : (z : ℕ × Meaning) (name : ℕ) (m : Meaning) → z.0 ≡ name → z.1 ≡ m → z ≡ (name, m)
 pair_is (k, w) name m named meant = ap (λ (x : ℕ). (x, w)) named ∙ ap (λ (x : Meaning). (name, x)) meant
@@ -95,8 +96,8 @@ module _ (r : Linkable) (places : List Places) (new_places : NewPlaces) (u id na
       -- the old one is this base, and so is the new one
       both : (n : ℕ) → a.0 ≡ name → a.1 ≡ SectionPlace n → BaseMoves n move.number × (b ≡ (name, SectionPlace move.number))
       both n named meant =
-          let numbered : IsNewNumber r places new_places u id name a.1 move.number = subst (λ (z : ℕ). IsNewNumber r places new_places u id z a.1 move.number) named move.numbered in
-          (subst (λ (z : Meaning). IsNewNumber r places new_places u id name z move.number) meant numbered, pair_is b name (SectionPlace move.number) (move.name ∙ named) (move.value ∙ ap (with_number move.number) meant))
+          let numbered : IsNewValue r places new_places u id name a.1 move.number move.made = subst (λ (z : ℕ). IsNewValue r places new_places u id z a.1 move.number move.made) named move.numbered in
+          (subst (λ (z : Meaning). IsNewValue r places new_places u id name z move.number move.made) meant numbered, pair_is b name (SectionPlace move.number) (move.name ∙ named) (move.value ∙ ap (renewed move.number move.made) meant))
 
       to : (n : ℕ) → a ≡ (name, SectionPlace n) → (m : ℕ) × BaseMoves n m × (b ≡ (name, SectionPlace m))
       to n e =
@@ -106,7 +107,7 @@ module _ (r : Linkable) (places : List Places) (new_places : NewPlaces) (u id na
       from : (m : ℕ) → b ≡ (name, SectionPlace m) → (n : ℕ) × BaseMoves n m × (a ≡ (name, SectionPlace n))
       from m e =
           let named : a.0 ≡ name = sym move.name ∙ ap (λ (z : ℕ × Meaning). z.0) e in
-          let (n, meant, number) = was_place move.number m a.1 (sym move.value ∙ ap (λ (z : ℕ × Meaning). z.1) e) in
+          let (n, meant, number) = was_place move.number move.made m a.1 (sym move.value ∙ ap (λ (z : ℕ × Meaning). z.1) e) in
           let (moves, is) = both n named meant in
           (n, subst (BaseMoves n) number moves, pair_is a name (SectionPlace n) named meant)
 

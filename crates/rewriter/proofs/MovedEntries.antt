@@ -1,8 +1,10 @@
--- Entries that are written anew: each has its declaration, and as many values that mean the same but for their new numbers.
+-- Entries that are written anew: each has its declaration, and as many values that mean the same but for their new numbers and the new
+-- bytes of expressions.
 use Rattle.std.proofs.Common.{◌≡◌, ◌≢◌, ◌≤◌, ◌<◌, ◌+◌, ◌-◌, ◌∙◌, ◌++◌, ℕ, List, ◌∷◌, length, take, drop, sym, ap, subst, refl, arith}
 use Rattle.std.specs.Prelude.{slice_index}
 use Rattle.std.proofs.lemmas.List.Elements.{AllZip-get_or, length_all_zip}
 use Rattle.form_codec.specs.declared.value.Value.{Value}
+use Rattle.form_codec.specs.Forms.{Meaning}
 use Rattle.form_codec.specs.Values.{meant_in}
 use Rattle.abbrev_tables.specs.declared.decl.Spec.{Spec}
 use Rattle.abbrev_tables.specs.Tables.{Declared}
@@ -15,7 +17,9 @@ use Rattle.entry_arena.specs.Standing.{StandsAs}
 use Rattle.entry_read.proofs.PlaceLaws.{entry_stands}
 use Rattle.entry_read.proofs.Declarations.{declared_is}
 use Rattle.unit_write.specs.declared.places.Places.{Places}
-use Rattle.unit_write.specs.Values.{with_number}
+use Rattle.unit_write.specs.declared.write.NewNumbers.{NewNumbers}
+use Rattle.unit_write.specs.NewExpressions.{made_of}
+use Rattle.unit_write.specs.Values.{renewed}
 use Rattle.unit_write.specs.Placing.{columns_of}
 use Rattle.unit_write.specs.Moved.{IsMovedEntry}
 use Rattle.value_links.specs.Sections.{debug_info}
@@ -33,6 +37,10 @@ use Rattle.rewriter.proofs.MovedValues.{value_here, as_many}
 
 abbrev no_entry : Entry
 no_entry = record { at = 0; len = 0; depth = 0; decl = 0; first = 0; count = 0 }
+
+-- a value with a number among those of a unit, with its new number or the new bytes of its expression
+abbrev pub renewed_by : NewNumbers → ℕ → Meaning → Meaning
+renewed_by numbers k meaning = renewed (slice_index numbers.held.items k) (made_of numbers.ends.items numbers.expressions.items k) meaning
 
 -- the declaration of an entry is the same, but for its code, which is the new number, and for the forms of its columns
 pub record IsSameDeclared (r s : Reading) (numbers : List ℕ) (u id : ℕ) : Type 0 where
@@ -114,13 +122,12 @@ module _ {file : List ℕ} {world : World} {tables : List NewTable} {places : Li
       let e = entry_moved u id inside known in
       ap (λ (z : ℕ). take z (drop (entry_of (unit_at s.links u) id).first (unit_at s.links u).forest.values)) e.count ∙ ap (λ (z : ℕ). take (entry_of (unit_at r.links u) id).count (drop z (unit_at s.links u).forest.values)) e.first
 
-  -- each means the old one with its new number
-  pub values_mean : (u id : ℕ) (inside : u < length r.links.units) (k : ℕ) → k < length (values_of (unit_at r.links u) id) → meant_in (unit_at s.links u).forest.section (value_at (new_values u id) k) ≡ with_number (slice_index (moved u inside).numbers.held.items ((entry_of (unit_at r.links u) id).first + k)) (meant_in (unit_at r.links u).forest.section (value_at (values_of (unit_at r.links u) id) k))
+  -- each means the old one, renewed
+  pub values_mean : (u id : ℕ) (inside : u < length r.links.units) (k : ℕ) → k < length (values_of (unit_at r.links u) id) → meant_in (unit_at s.links u).forest.section (value_at (new_values u id) k) ≡ renewed_by (moved u inside).numbers ((entry_of (unit_at r.links u) id).first + k) (meant_in (unit_at r.links u).forest.section (value_at (values_of (unit_at r.links u) id) k))
   values_mean u id inside k k_in =
       let m = moved u inside in
       let e : Entry = entry_of (unit_at r.links u) id in
-      let held : ℕ = slice_index m.numbers.held.items (e.first + k) in
       let size : length (new_values u id) ≡ length (values_of (unit_at r.links u) id) = as_many (unit_at r.links u).forest.values (unit_at s.links u).forest.values e.first e.count m.values.count in
       let (old, old_in) = value_here (unit_at r.links u).forest.values e.first e.count k k_in in
       let (new, new_in) = value_here (unit_at s.links u).forest.values e.first e.count k (subst (λ (z : ℕ). k < z) (sym size) k_in) in
-      ap (λ (z : Value). meant_in (unit_at s.links u).forest.section z) new ∙ m.values.each (e.first + k) old_in ∙ ap (λ (z : Value). with_number held (meant_in (unit_at r.links u).forest.section z)) (sym old)
+      ap (λ (z : Value). meant_in (unit_at s.links u).forest.section z) new ∙ m.values.each (e.first + k) old_in ∙ ap (λ (z : Value). renewed_by m.numbers (e.first + k) (meant_in (unit_at r.links u).forest.section z)) (sym old)

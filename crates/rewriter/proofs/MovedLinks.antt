@@ -2,17 +2,17 @@
 use Rattle.std.proofs.Common.{◌≡◌, ◌<◌, ◌+◌, ◌∙◌, ℕ, List, length, sym, ap, subst, refl, arith}
 use Rattle.std.specs.Prelude.{slice_index}
 use Rattle.form_codec.specs.Forms.{Meaning}
-use Rattle.form_codec.specs.Forms.Meaning.{InUnit, InSection, SectionPlace, LocationList, RangeList}
+use Rattle.form_codec.specs.Forms.Meaning.{Expression, InUnit, InSection, SectionPlace, LocationList, RangeList}
 use Rattle.list_model.specs.declared.entry.ListKind.TheVariants.{Ranges, Locations}
 use Rattle.list_model.specs.Addresses.{HasBase}
 use Rattle.unit_write.specs.declared.places.Places.{Places}
-use Rattle.unit_write.specs.Values.{with_number}
+use Rattle.unit_write.specs.Values.{renewed}
 use Rattle.value_links.specs.Attributes.{OffsetClass, offset_class}
 use Rattle.value_links.specs.Attributes.OffsetClass.{LinePtr, RngList, LocList, RngListsPtr, LocListsPtr, AddrPtr, StrOffsetsPtr, MacPtr, Views, NoOffset}
 use Rattle.value_links.specs.Reading.{Linkable, Reading, unit_at, program_at}
 use Rattle.value_links.specs.ListPlaces.{IsListPlace}
 use Rattle.value_links.specs.Linked.{Linked, IsTargetAt, IsAddressesAt, OffsetLinks, IndexLinks, Links}
-use Rattle.value_links.specs.Linked.Linked.{Itself, Refers, Program, ListAt, SlotAt, BaseOf, Kept}
+use Rattle.value_links.specs.Linked.Linked.{Itself, Operates, Refers, Program, ListAt, SlotAt, BaseOf, Kept}
 use Rattle.value_links.specs.Lists.{LinkNames}
 use Rattle.value_links.specs.World.{World}
 use Rattle.value_links.proofs.LinkedOnce.{linked_once}
@@ -21,10 +21,11 @@ use Rattle.rewriter.specs.declared.new_places.NewPlaces.{NewPlaces}
 use Rattle.rewriter.specs.inside.Tables.{new_table_at}
 use Rattle.rewriter.specs.inside.Placed.{places_at}
 use Rattle.rewriter.specs.inside.NewPlaces.{IsMovedTo, IsNewOffset}
-use Rattle.rewriter.specs.inside.Numbers.{MovesTo, IsNewNumber}
+use Rattle.rewriter.specs.inside.Numbers.{MovesTo, IsNewValue}
 use Rattle.rewriter.specs.inside.Follows.{AreReadAnew}
 use Rattle.rewriter.proofs.MovedPlaces.{TargetMoves, target_moves}
 use Rattle.rewriter.proofs.MovedEntries.{moved}
+use Rattle.rewriter.proofs.MovedExpressions.{expression_follows}
 use Rattle.rewriter.proofs.MovedBases.{offsets_move, base_stays, base_came}
 use Rattle.rewriter.proofs.MovedLists.{IsLinkMoved, old_at, new_at, moved_list, begins_anew, slot_came}
 
@@ -84,32 +85,34 @@ module _ {file : List ℕ} {world : World} {tables : List NewTable} {places : Li
       stays linked (SlotAt Ranges p i) (IndexLinks s.links u Ranges i) e refl (p, base_stays all u p inside base, subst (λ (z : ℕ). i < z) (sym slots) counted, refl)
 
   -- what the old value refers to, and what the new one does
-  record BothLink (u id name : ℕ) (meaning : Meaning) (new : ℕ) : Type 0 where
+  record BothLink (u id name : ℕ) (meaning : Meaning) (new : ℕ) (made : List ℕ) : Type 0 where
     linked : Linked
     from : Links r.links u id name meaning linked
-    to : Follows linked (Links s.links u id name (with_number new meaning))
+    to : Follows linked (Links s.links u id name (renewed new made meaning))
 
-  both_link : (u id name : ℕ) (meaning : Meaning) (new : ℕ) (linked : Linked) → u < length r.links.units → IsNewNumber r.links places new_places u id name meaning new → Links r.links u id name meaning linked → BothLink u id name meaning new
-  both_link u id name (InUnit n) new linked inside is links =
+  both_link : (u id name : ℕ) (meaning : Meaning) (new : ℕ) (made : List ℕ) (linked : Linked) → u < length r.links.units → IsNewValue r.links places new_places u id name meaning new made → Links r.links u id name meaning linked → BothLink u id name meaning new made
+  both_link u id name (InUnit n) new made linked inside is links =
       let t = target_at u ((unit_at r.links u).head.at + n) ((places_at places u).start + new) inside is in
       let begins : (places_at places u).start ≡ (unit_at s.links u).head.at = sym (moved all u inside).at in
       let to : IsTargetAt (unit_at s.links u).forest t.target ((unit_at s.links u).head.at + new) = subst (λ (z : ℕ). IsTargetAt (unit_at s.links u).forest t.target (z + new)) begins t.to in
       record { linked = Refers u t.target; from = (t.target, t.from, refl); to = (Refers u t.target, refl, (t.target, to, refl)) }
-  both_link u id name (InSection n) new linked inside (unit, unit_in, is) links =
+  both_link u id name (InSection n) new made linked inside (unit, unit_in, is) links =
       let t = target_at unit n new unit_in is in
       let also : unit < length s.links.units = subst (λ (z : ℕ). unit < z) (sym all.units.count) unit_in in
       record { linked = Refers unit t.target; from = (unit, t.target, (unit_in, t.from), refl); to = (Refers unit t.target, refl, (unit, t.target, (also, t.to), refl)) }
-  both_link u id name (SectionPlace n) new linked inside (w, old, is) links = record { linked = w; from = old; to = offset_follows u id n new (offset_class name) w is old }
-  both_link u id name (LocationList i) new linked inside is links = absurd (no_locations r.links u i linked links)
-  both_link u id name (RangeList i) new linked inside is links = record { linked = linked; from = links; to = index_stays u i linked inside links }
-  both_link u id name meaning new linked inside is links = record { linked = Itself meaning; from = refl; to = (Itself meaning, refl, refl) }
+  both_link u id name (SectionPlace n) new made linked inside (w, old, is) links = record { linked = w; from = old; to = offset_follows u id n new (offset_class name) w is old }
+  both_link u id name (LocationList i) new made linked inside is links = absurd (no_locations r.links u i linked links)
+  both_link u id name (RangeList i) new made linked inside is links = record { linked = linked; from = links; to = index_stays u i linked inside links }
+  both_link u id name (Expression bytes) new made linked inside is (operations, links, e) =
+      record { linked = Operates operations; from = (operations, links, refl); to = (Operates operations, refl, (operations, expression_follows all u bytes made operations inside is links, refl)) }
+  both_link u id name meaning new made linked inside is links = record { linked = Itself meaning; from = refl; to = (Itself meaning, refl, refl) }
 
   -- so what the old value refers to, the new one does, but for the place of a list
-  pub link_follows : (u id name : ℕ) (meaning : Meaning) (new : ℕ) (linked : Linked) → u < length r.links.units → IsNewNumber r.links places new_places u id name meaning new → Links r.links u id name meaning linked → (now : Linked) × IsLinkMoved new_places.ranges linked now × Links s.links u id name (with_number new meaning) now
-  link_follows u id name meaning new linked inside is links =
-      let both = both_link u id name meaning new linked inside is links in
+  pub link_follows : (u id name : ℕ) (meaning : Meaning) (new : ℕ) (made : List ℕ) (linked : Linked) → u < length r.links.units → IsNewValue r.links places new_places u id name meaning new made → Links r.links u id name meaning linked → (now : Linked) × IsLinkMoved new_places.ranges linked now × Links s.links u id name (renewed new made meaning) now
+  link_follows u id name meaning new made linked inside is links =
+      let both = both_link u id name meaning new made linked inside is links in
       let same : both.linked ≡ linked = linked_once file r.links u id name meaning both.linked linked all.read.links inside both.from links in
-      subst (λ (z : Linked). Follows z (Links s.links u id name (with_number new meaning))) same both.to
+      subst (λ (z : Linked). Follows z (Links s.links u id name (renewed new made meaning))) same both.to
 
   -- THE OTHER WAY ROUND
 
@@ -155,10 +158,11 @@ module _ {file : List ℕ} {world : World} {tables : List NewTable} {places : Li
       let old = base_came all u p inside base in
       record { k = k; inside = was.inside; linked = SlotAt Ranges p i; links = (p, old, was.from.0.counted, refl); names = (refl, was.from); here = was.to }
 
-  pub link_came : (u id name : ℕ) (meaning : Meaning) (new : ℕ) (linked : Linked) (at : ℕ) → u < length r.links.units → IsNewNumber r.links places new_places u id name meaning new → Links s.links u id name (with_number new meaning) linked → LinkNames s.links linked Ranges at → NamedAList u id name meaning at
-  link_came u id name (InUnit n) new linked at inside is (target, here, e) names = absurd (names_none linked (Refers u target) at e (λ none. none) names)
-  link_came u id name (InSection n) new linked at inside is (unit, target, here, e) names = absurd (names_none linked (Refers unit target) at e (λ none. none) names)
-  link_came u id name (SectionPlace n) new linked at inside (w, old, is) links names = offset_came u id name n new at linked w links names old is
-  link_came u id name (LocationList i) new linked at inside is links names = absurd (no_locations s.links u i linked links)
-  link_came u id name (RangeList i) new linked at inside is links names = index_came u id name i at linked inside links names
-  link_came u id name meaning new linked at inside is links names = absurd (names_none linked (Itself meaning) at links (λ none. none) names)
+  pub link_came : (u id name : ℕ) (meaning : Meaning) (new : ℕ) (made : List ℕ) (linked : Linked) (at : ℕ) → u < length r.links.units → IsNewValue r.links places new_places u id name meaning new made → Links s.links u id name (renewed new made meaning) linked → LinkNames s.links linked Ranges at → NamedAList u id name meaning at
+  link_came u id name (InUnit n) new made linked at inside is (target, here, e) names = absurd (names_none linked (Refers u target) at e (λ none. none) names)
+  link_came u id name (InSection n) new made linked at inside is (unit, target, here, e) names = absurd (names_none linked (Refers unit target) at e (λ none. none) names)
+  link_came u id name (SectionPlace n) new made linked at inside (w, old, is) links names = offset_came u id name n new at linked w links names old is
+  link_came u id name (LocationList i) new made linked at inside is links names = absurd (no_locations s.links u i linked links)
+  link_came u id name (RangeList i) new made linked at inside is links names = index_came u id name i at linked inside links names
+  link_came u id name (Expression bytes) new made linked at inside is (operations, links, e) names = absurd (names_none linked (Operates operations) at e (λ none. none) names)
+  link_came u id name meaning new made linked at inside is links names = absurd (names_none linked (Itself meaning) at links (λ none. none) names)

@@ -1,23 +1,20 @@
 -- A file that has its new sections is read, means what the old one means, is valid, has the codes and the forms of columns that
 -- take the least bytes, and holds nothing else.
-use Rattle.std.proofs.Common.{◌≡◌, ◌≤◌, ◌<◌, ◌+◌, ◌*◌, ◌^◌, ◌∙◌, inl, ℕ, List, [], length, sym, ap, subst, refl, arith}
+use Rattle.std.proofs.Common.{◌≡◌, ◌≤◌, ◌<◌, ◌*◌, ◌^◌, ◌∙◌, ℕ, List, [], length, sym, ap, subst, arith}
 use Rattle.std.specs.Prelude.{map, slice_index}
-use Rattle.dw_base.specs.declared.fault.Kind.TheVariants.{Unbuilt}
-use Rattle.dw_base.specs.declared.fault.Reach.{Reach}
 use Rattle.dw_base.specs.declared.fault.Reach.TheVariants.{Narrow, Wide}
 use Rattle.abbrev_tables.specs.LeastColumns.{IsLeastColumn, IsFirstColumn}
 use Rattle.line_write.specs.Least.{LeastLines, OrderedLines}
 use Rattle.line_write.specs.Meaning.{HaveMeanings}
 use Rattle.companions.specs.declared.set.ArangeSet.{ArangeSet}
 use Rattle.companions.specs.Aranges.{SetsTile}
-use Rattle.value_links.specs.Sections.{offset_named, info_name, debug_info, debug_abbrev, debug_addr, debug_aranges, debug_line, debug_rnglists}
+use Rattle.value_links.specs.Sections.{debug_info, debug_abbrev, debug_addr, debug_aranges, debug_line, debug_rnglists}
 use Rattle.value_links.specs.Reading.{Linkable, Reading, line_heads, unit_starts, AreProgramsIn, AreUnitsIn}
 use Rattle.value_links.specs.Whole.{AreContexts, ArePartsOf, IsReading}
 use Rattle.value_links.specs.ListFaults.{entry_total}
 use Rattle.value_links.specs.Debug.{Debug, set_meaning, MeansDebug}
 use Rattle.value_links.specs.Faults.{IsValid}
-use Rattle.value_links.specs.Faults.Pass.{OfLinks}
-use Rattle.value_links.specs.Laws.{HasNoUnread, IsImageInOrder, AreUnitsInOrder, HaveFewEntries, MeaningFilesAreValid}
+use Rattle.value_links.specs.Laws.{IsImageInOrder, AreUnitsInOrder, HaveFewEntries, MeaningFilesAreValid}
 use Rattle.value_links.specs.Same.{Same}
 use Rattle.value_links.specs.World.{World, Holds, IsWorldOf}
 use Rattle.rewriter.specs.declared.sections.NewSections.{NewSections}
@@ -34,25 +31,10 @@ use Rattle.rewriter.proofs.Following.{links_follow}
 use Rattle.rewriter.proofs.ListMeanings.{lists_stay, parts_follow, tidy_lists}
 use Rattle.rewriter.proofs.RangesAnew.{totals_double}
 use Rattle.rewriter.proofs.RootsStay.{roots_stay}
-use Rattle.rewriter.proofs.NoneUnread.{none_is_unread}
+use Rattle.rewriter.proofs.WideExpressions.{expressions_are_wide}
 use Rattle.rewriter.proofs.Tidied.{are_tidy}
 use Rattle.rewriter.proofs.LeastColumns.{least_columns, first_columns}
 use Rattle.rewriter.proofs.ValidImages.{image_in_order}
-
--- a valid file has no value that waits for a later version
-pub none_unread : (file : List ℕ) (reach : Reach) (r : Reading) → IsValid file reach → IsReading file r → HasNoUnread r.links
-none_unread file reach r valid read u id number name meaning place inside stands unread =
-    valid OfLinks Unbuilt (offset_named file info_name + place) (inl (
-      place,
-      refl,
-      record {
-        r = r.links;
-        read = read.links;
-        u = u;
-        inside = inside;
-        fault = inl (record { id = id; number = number; name = name; meaning = meaning; stands = stands; fault = unread });
-      },
-    ))
 
 -- the new sections of a file, one by one
 module _ (file written : List ℕ) (new : NewSections) (has : HasSections file new written) where
@@ -146,10 +128,9 @@ module _ (file written : List ℕ) (world : World) (r s : Reading) (new : NewSec
       omega (arith, few, most)
 
   -- and it is valid
-  pub valid_anew : MeaningFilesAreValid → (reach : Reach) → IsValid file reach → (debug : Debug) → MeansDebug file r debug → entry_total r.range_lists ≤ 2 ^ 24 → IsValid written Wide
-  valid_anew law reach valid debug means few =
-      let read_all : HasNoUnread s.links = none_is_unread file world anew.tables anew.places anew.new_places new.info.items new.abbrevs.items r s all_anew (none_unread file reach r valid read) in
-      law written Wide s debug units_in_order reads_anew (means_anew debug means) read_all (few_anew few)
+  pub valid_anew : MeaningFilesAreValid → (debug : Debug) → MeansDebug file r debug → entry_total r.range_lists ≤ 2 ^ 24 → IsValid written Wide
+  valid_anew law debug means few =
+      law written Wide s debug units_in_order reads_anew (means_anew debug means) (expressions_are_wide file world anew.tables anew.places anew.new_places new.info.items new.abbrevs.items r s all_anew) (few_anew few)
 
   -- both are read, so that what holds of what is read of them holds of both
   of_both : (Holds : Linkable → Linkable → Type 0) → Holds r.links s.links → OfBoth Holds file written
@@ -186,7 +167,7 @@ rewritten file image world new written law known few is anew least order has_ima
     let has : HasSections file new written = subst (λ (z : List ℕ). HasSections z new written) is has_image in
     record {
       same = same_anew file written world known.r s new known.read known.holds all has known.debug known.means;
-      still_valid = valid_anew file written world known.r s new known.read known.holds all has law Narrow known.valid known.debug known.means few;
+      still_valid = valid_anew file written world known.r s new known.read known.holds all has law known.debug known.means few;
       least = subst (λ (z : List ℕ). LeastLines (debug_line file) z) (sym (lines_are file written new has)) least;
       order = subst (λ (z : List ℕ). OrderedLines (debug_line file) z) (sym (lines_are file written new has)) order;
       ranges = ranges_anew file written world known.r s new known.read known.holds all has;

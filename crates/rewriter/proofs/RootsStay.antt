@@ -3,11 +3,11 @@ use Rattle.std.proofs.Common.{◌≡◌, ◌<◌, ◌∙◌, ◌++◌, ℕ, suc,
 use Rattle.std.specs.Prelude.{Bool, true, false, Some, filter, if◌then◌else◌}
 use Rattle.std.specs.List.{AllZip}
 use Rattle.form_codec.specs.Forms.{Meaning}
-use Rattle.form_codec.specs.Forms.Meaning.{AddressNumber, InUnit, InSection, SectionPlace}
+use Rattle.form_codec.specs.Forms.Meaning.{AddressNumber, Expression, InUnit, InSection, SectionPlace}
 use Rattle.list_model.specs.declared.tables.AddrTable.{AddrTable}
 use Rattle.list_model.specs.Addresses.{TablesFollow}
 use Rattle.unit_write.specs.declared.places.Places.{Places}
-use Rattle.unit_write.specs.Values.{with_number}
+use Rattle.unit_write.specs.Values.{renewed}
 use Rattle.value_links.specs.Attributes.{addr_base}
 use Rattle.value_links.specs.Reading.{Linkable, Reading, unit_at}
 use Rattle.value_links.specs.Values.{HasValueAt, root_of}
@@ -25,20 +25,22 @@ use Rattle.rewriter.proofs.ValuesStay.{value_came}
 use Rattle.rewriter.proofs.ListNames.{unit_inside}
 
 -- no number of an address is moved
-was_number : (number i : ℕ) (meaning : Meaning) → with_number number meaning ≡ AddressNumber i → meaning ≡ AddressNumber i
-was_number number i (InUnit n) e = absurd (cc (e))
-was_number number i (InSection n) e = absurd (cc (e))
-was_number number i (SectionPlace n) e = absurd (cc (e))
-was_number number i meaning e = e
+was_number : (number : ℕ) (made : List ℕ) (i : ℕ) (meaning : Meaning) → renewed number made meaning ≡ AddressNumber i → meaning ≡ AddressNumber i
+was_number number made i (InUnit n) e = absurd (cc (e))
+was_number number made i (InSection n) e = absurd (cc (e))
+was_number number made i (SectionPlace n) e = absurd (cc (e))
+was_number number made i (Expression bytes) e = absurd (cc (e))
+was_number number made i meaning e = e
 
 -- FIRST ADDRESSES
 
 -- an attribute is a low address where the new one is
-low_same : (name number : ℕ) (meaning : Meaning) → is_low_pc (name, with_number number meaning) ≡ is_low_pc (name, meaning)
-low_same name number (InUnit n) = refl
-low_same name number (InSection n) = refl
-low_same name number (SectionPlace n) = refl
-low_same name number meaning = refl
+low_same : (name number : ℕ) (made : List ℕ) (meaning : Meaning) → is_low_pc (name, renewed number made meaning) ≡ is_low_pc (name, meaning)
+low_same name number made (InUnit n) = refl
+low_same name number made (InSection n) = refl
+low_same name number made (SectionPlace n) = refl
+low_same name number made (Expression bytes) = refl
+low_same name number made meaning = refl
 
 module _ (r : Linkable) (places : List Places) (new_places : NewPlaces) (u id : ℕ) where
   abbrev Moves : ℕ × Meaning → ℕ × Meaning → Type 0
@@ -46,7 +48,7 @@ module _ (r : Linkable) (places : List Places) (new_places : NewPlaces) (u id : 
 
   low_moves : (a b : ℕ × Meaning) → Moves a b → is_low_pc b ≡ is_low_pc a
   low_moves (name, meaning) (other, value) move =
-      ap (λ (z : ℕ). is_low_pc (z, value)) move.name ∙ ap (λ (z : Meaning). is_low_pc (name, z)) move.value ∙ low_same name move.number meaning
+      ap (λ (z : ℕ). is_low_pc (z, value)) move.name ∙ ap (λ (z : Meaning). is_low_pc (name, z)) move.value ∙ low_same name move.number move.made meaning
 
   -- attributes around one, and those that were around the one that it was
   pub record WereAround (olds before : List (ℕ × Meaning)) (b : ℕ × Meaning) : Type 0 where
@@ -95,11 +97,11 @@ module _ {file : List ℕ} {world : World} {tables : List NewTable} {places : Li
       let olds : List (ℕ × Meaning) = (root_of (unit_at r.links u)).attributes in
       let moves : AllZip (IsMovedAttribute r.links places new_places u 0) olds (low.before ++ (low_pc, AddressNumber i) ∷ low.after) = subst (AllZip (IsMovedAttribute r.links places new_places u 0) olds) low.parts (root_moves all u inside) in
       let p = around r.links places new_places u 0 olds low.before low.after (low_pc, AddressNumber i) moves in
-      let meant : p.a.1 ≡ AddressNumber i = was_number p.moves.number i p.a.1 (sym p.moves.value) in
+      let meant : p.a.1 ≡ AddressNumber i = was_number p.moves.number p.moves.made i p.a.1 (sym p.moves.value) in
       let attribute : p.a ≡ (low_pc, AddressNumber i) = ap (λ (z : ℕ). (z, p.a.1)) (sym p.moves.name) ∙ ap (λ (z : Meaning). (low_pc, z)) meant in
       let none : length (filter is_low_pc p.earlier) ≡ 0 = lows_size r.links places new_places u 0 p.earlier low.before p.front ∙ ap (λ (z : List (ℕ × Meaning)). length z) low.first in
       let (old, was, stands, moved) = value_came all u 0 low.number low_pc (AddressNumber i) place inside low.stands in
-      let same : old ≡ AddressNumber i = was_number moved.held i old (sym moved.value) in (
+      let same : old ≡ AddressNumber i = was_number moved.held moved.made i old (sym moved.value) in (
         was,
         record {
           number = low.number;
@@ -130,7 +132,7 @@ module _ {file : List ℕ} {world : World} {tables : List NewTable} {places : Li
   base_came (u, id, number, n, place, now, h) =
       let inside = unit_inside all u now in
       let (old, was, stands, moved) = value_came all u id number addr_base (SectionPlace n) place inside h in
-      let (k, meant, _) = was_place moved.held n old (sym moved.value) in
+      let (k, meant, _) = was_place moved.held moved.made n old (sym moved.value) in
       (u, id, number, k, was, inside, subst (λ (z : Meaning). HasValueAt (unit_at r.links u) id number addr_base z was) meant stands)
 
   tables_stay : AreAddressesRead s.links.units s.links.addresses

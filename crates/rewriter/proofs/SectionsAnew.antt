@@ -21,7 +21,7 @@ use Rattle.entry_read.specs.declared.head.UnitHead.{UnitHead}
 use Rattle.entry_read.specs.Heads.{Tile as UnitsTile}
 use Rattle.entry_read.specs.Units.{HeadAndForest}
 use Rattle.unit_write.specs.declared.places.Places.{Places}
-use Rattle.unit_write.specs.Sizes.{NumbersHaveSizes, ShortestHaveSizes}
+use Rattle.unit_write.specs.Sizes.{NumbersHaveSizes, ExpressionsHaveSizes, ShortestHaveSizes}
 use Rattle.unit_write.proofs.UnitLaws.{placed_order}
 use Rattle.value_links.specs.Sections.{body_named, body_or_none, debug_info, debug_abbrev, debug_line, debug_aranges, info_name, abbrev_name, line_name, rnglists_name, aranges_name}
 use Rattle.list_model.specs.declared.entry.ListKind.TheVariants.{Ranges}
@@ -270,8 +270,8 @@ module _ {file : List ℕ} {world : World} {r : Reading} {tables : List NewTable
 
 -- WHAT THE STEPS ASK FOR
 
-pub writable : NumbersHaveSizes → ShortestHaveSizes → DeclarationsStand → (world : World) → IsWorldOf world.image Narrow world → (abbrevs : List ℕ) (tables : List NewTable) → AreTablesWritten world abbrevs tables → AreWritable world tables
-writable numbers others stand world is abbrevs tables written = chosen_columns_are_writable numbers others stand world.image Narrow world is.r abbrevs tables is.read is.valid is.holds written
+pub writable : NumbersHaveSizes → ExpressionsHaveSizes → ShortestHaveSizes → DeclarationsStand → (world : World) → IsWorldOf world.image Narrow world → (abbrevs : List ℕ) (tables : List NewTable) → AreTablesWritten world abbrevs tables → AreWritable world tables
+writable numbers expressions others stand world is abbrevs tables written = chosen_columns_are_writable numbers expressions others stand world.image world is.r abbrevs tables is.read is.valid is.holds written
 
 pub lines_read : (world : World) → IsWorldOf world.image Narrow world → (section : List ℕ) (heads : List Head) → section ≡ debug_line world.image → heads ≡ world.programs → AreRead section heads
 lines_read world is section heads e f =
@@ -318,7 +318,7 @@ places_fit world tables (p ∷ places) size are =
     let count = are.count in
     let small = are.small in
     let rise : All (λ (q : Places). q.start ≤ q.end) all = All-from_get_or (λ (q : Places). q.start ≤ q.end) all p (λ k inside. (
-    let placed = (are.each k (omega (arith, count, inside))).placed in
+    let placed = (are.each k (omega (arith, count, inside))).placed.placed in
     let later = placed_order _ 0 _ _ _ _ _ placed in
     let same = place_is all k p inside in
     let from : (places_at all k).start ≡ (get_or all k p).start = ap (λ (z : PlacesAnew). z.start) same in

@@ -12,12 +12,13 @@ use Rattle.entry_arena.specs.Arena.{entry_at}
 use Rattle.entry_arena.specs.Trees.{listed_to}
 use Rattle.entry_arena.proofs.TreeLaws.{trees_are_walks}
 use Rattle.entry_read.specs.Units.{HeadAndForest, entries_at, declarations_of}
+use Rattle.unit_write.specs.NewExpressions.{lens_of}
 use Rattle.unit_write.specs.Moved.{IsWritable}
 use Rattle.value_links.specs.Reading.{Reading, no_unit, unit_at}
 use Rattle.value_links.specs.World.{World, head_and_forest, table_at, Holds, IsWorldOf}
 use Rattle.rewriter.specs.declared.tables.NewTable.{NewTable}
 use Rattle.rewriter.specs.inside.Tables.{TableAnew, table_anew, new_table_at}
-use Rattle.rewriter.specs.inside.Placed.{AreWritable, unit_in}
+use Rattle.rewriter.specs.inside.Placed.{AreWritable, AreEndsIn, unit_in}
 use Rattle.rewriter.specs.inside.Held.{HasTable}
 
 -- some entry stands first, where there is one
@@ -26,21 +27,21 @@ filled [] some = absurd (some refl)
 filled (e ∷ more) some = omega arith
 
 -- a unit that can be written has an entry, so that its table has numbers
-writable_numbers : (unit : HeadAndForest) (table : Listing) (columns : List Spec) (numbers : List ℕ) → IsWritable unit table columns numbers → numbers ≢ []
-writable_numbers unit table columns numbers w none =
+writable_numbers : (unit : HeadAndForest) (table : Listing) (columns : List Spec) (numbers lens : List ℕ) → IsWritable unit table columns numbers lens → numbers ≢ []
+writable_numbers unit table columns numbers lens w none =
     let walk = (trees_are_walks unit.forest.section (declarations_of table) (entries_at unit.head) (listed_to unit.forest w.held.0)).0 w.held.1.tree in
     let bad = w.used 0 (filled unit.forest.entries walk.some) in
     bad (ap (λ (z : List ℕ). slice_index z (entry_at unit.forest.entries 0).decl) none)
 
 -- its new table is one of these
-pub writable_new : (tables : List NewTable) (i : ℕ) (unit : HeadAndForest) (table : Listing) → IsWritable unit table (new_table_at tables i).columns (new_table_at tables i).numbers → i < length tables
-writable_new tables i unit table w =
+pub writable_new : (tables : List NewTable) (i : ℕ) (unit : HeadAndForest) (table : Listing) (lens : List ℕ) → IsWritable unit table (new_table_at tables i).columns (new_table_at tables i).numbers lens → i < length tables
+writable_new tables i unit table lens w =
     elim (cases_lt i (length tables)) [
       | inl inside ↦ inside
       | inr past ↦
           let size : length (map table_anew tables) ≡ length tables = length-map tables table_anew in
           let none : new_table_at tables i ≡ record { at = 0; columns = []; numbers = [] } = get_or_past (map table_anew tables) i (record { at = 0; columns = []; numbers = [] }) (omega arith) in
-          absurd (writable_numbers unit table _ _ w (ap (λ (t : TableAnew). t.numbers) none))
+          absurd (writable_numbers unit table _ _ lens w (ap (λ (t : TableAnew). t.numbers) none))
     ]
 
 -- as many units as are read
@@ -59,6 +60,6 @@ has_table world tables u (reach, is) new known =
     let count : length world.table_of ≡ length is.r.links.units = is.holds.tables.count in
     record { known = known; numbered = omega arith; old = is.holds.tables.inside u (omega arith); new = new }
 
-pub has_written : (world : World) (tables : List NewTable) (u : ℕ) → ((reach : Reach) × IsWorldOf world.image reach world) → AreWritable world tables → u < length world.units → HasTable world tables u
-has_written world tables u is writable known =
-    has_table world tables u is (writable_new tables (slice_index world.table_of u) (unit_in world.units u) (table_at world.tables (slice_index world.table_of u)).table (writable u known)) known
+pub has_written : (world : World) (tables : List NewTable) (u : ℕ) (ends : List ℕ) → ((reach : Reach) × IsWorldOf world.image reach world) → AreWritable world tables → u < length world.units → AreEndsIn world u ends → HasTable world tables u
+has_written world tables u ends is writable known are =
+    has_table world tables u is (writable_new tables (slice_index world.table_of u) (unit_in world.units u) (table_at world.tables (slice_index world.table_of u)).table (lens_of ends) (writable u ends known are)) known

@@ -26,6 +26,7 @@ use Rattle.rewriter.specs.inside.Follows.{AreReadAnew}
 use Rattle.rewriter.proofs.BuiltTables.{source}
 use Rattle.rewriter.proofs.Codes.{codes_by}
 use Rattle.rewriter.proofs.ColumnLaws.{AreNamedAlike, columns_named}
+use Rattle.rewriter.proofs.WideExpressions.{expressions_are_tidy}
 
 -- ONE TABLE
 
@@ -124,4 +125,4 @@ module _ {file : List ℕ} {world : World} {tables : List NewTable} {places : Li
       record { short = moved.short; ends = moved.ends_short; filled = moved.filled })
 
   pub are_tidy : AreTidyLists Ranges r s → AreTidy abbrevs r s
-  are_tidy ranges = record { tables = tidy_tables; units = tidy_units; ranges = ranges }
+  are_tidy ranges = record { tables = tidy_tables; units = tidy_units; expressions = expressions_are_tidy file world tables places new_places info abbrevs r s all; ranges = ranges }

@@ -32,12 +32,12 @@ entries_in u = length u.forest.entries
 abbrev values_in : UnitRead → ℕ
 values_in u = length u.forest.values
 
--- units that fill a section have at most its bytes and what entries and values may get
-most_follow : (section : List ℕ) (units : List UnitRead) (a e : ℕ) → UnitsFollow section (unit_heads units) a e → a + sum_by most_bytes (map head_and_forest units) ≡ e + 4 * sum_by entries_in units + 10 * sum_by values_in units
+-- units that fill a section have at most three times its bytes and what entries and values may get
+most_follow : (section : List ℕ) (units : List UnitRead) (a e : ℕ) → UnitsFollow section (unit_heads units) a e → 3 * a + sum_by most_bytes (map head_and_forest units) ≡ 3 * e + 4 * sum_by entries_in units + 10 * sum_by values_in units
 most_follow section [] a e same = (let s : a ≡ e = same in omega (arith, s))
 most_follow section (u ∷ units) a e (first, head, rest) =
-    let more : a + u.head.len + sum_by most_bytes (map head_and_forest units) ≡ e + 4 * sum_by entries_in units + 10 * sum_by values_in units = most_follow section units (a + u.head.len) e rest in
-    let bytes : sum_by most_bytes (map head_and_forest (u ∷ units)) ≡ u.head.len + 4 * length u.forest.entries + 10 * length u.forest.values + sum_by most_bytes (map head_and_forest units) = sum_by-cons most_bytes (head_and_forest u) (map head_and_forest units) in
+    let more : 3 * (a + u.head.len) + sum_by most_bytes (map head_and_forest units) ≡ 3 * e + 4 * sum_by entries_in units + 10 * sum_by values_in units = most_follow section units (a + u.head.len) e rest in
+    let bytes : sum_by most_bytes (map head_and_forest (u ∷ units)) ≡ 3 * u.head.len + 4 * length u.forest.entries + 10 * length u.forest.values + sum_by most_bytes (map head_and_forest units) = sum_by-cons most_bytes (head_and_forest u) (map head_and_forest units) in
     let entries : sum_by entries_in (u ∷ units) ≡ length u.forest.entries + sum_by entries_in units = sum_by-cons entries_in u units in
     let values : sum_by values_in (u ∷ units) ≡ length u.forest.values + sum_by values_in units = sum_by-cons values_in u units in
     omega (arith, more, bytes, entries, values)
@@ -45,7 +45,7 @@ most_follow section (u ∷ units) a e (first, head, rest) =
 -- so those of a file within the narrow limits end below the lengths that are reserved
 pub units_have_room : (world : World) → IsWorldOf world.image Narrow world → sum_by most_bytes world.units < least_reserved
 units_have_room world is =
-    let all : 0 + sum_by most_bytes (map head_and_forest is.r.links.units) ≡ length (debug_info world.image) + 4 * sum_by entries_in is.r.links.units + 10 * sum_by values_in is.r.links.units = most_follow (debug_info world.image) is.r.links.units 0 (length (debug_info world.image)) is.read.links.units.tiled in
+    let all : 3 * 0 + sum_by most_bytes (map head_and_forest is.r.links.units) ≡ 3 * length (debug_info world.image) + 4 * sum_by entries_in is.r.links.units + 10 * sum_by values_in is.r.links.units = most_follow (debug_info world.image) is.r.links.units 0 (length (debug_info world.image)) is.read.links.units.tiled in
     let same : sum_by most_bytes world.units ≡ sum_by most_bytes (map head_and_forest is.r.links.units) = ap (sum_by most_bytes) is.holds.units in
     let short : length (debug_info world.image) ≤ 2 ^ 28 = debug_short world.image info_name refl is.valid in
     let entries : sum_by entries_in is.r.links.units ≤ 2 ^ 24 = omega (arith, is.read.links.units.within.entries) in

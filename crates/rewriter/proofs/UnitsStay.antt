@@ -22,7 +22,7 @@ use Rattle.entry_read.specs.declared.head.UnitHead.{UnitHead}
 use Rattle.fixed_width.specs.InitialLengths.{unit_end}
 use Rattle.entry_read.specs.Units.{HeadAndForest, entries_at, end_of, declarations_of, IsUnit}
 use Rattle.entry_read.specs.Short.{IsWritten, WrittenBetween, StandsShort, EndsShort}
-use Rattle.unit_write.specs.Moved.{AreMovedValues, IsWrittenAnew}
+use Rattle.unit_write.specs.Moved.{NewValues, AreMovedValues, IsWrittenAnew}
 use Rattle.value_links.specs.Reading.{IsUnitRead}
 
 -- what is spelled there is spelled there too where more bytes follow
@@ -51,8 +51,8 @@ module _ (section more : List ℕ) (head : UnitHead) (ds : List Declared) (fores
   }
 
   -- values mean there what they meant
-  pub moved_stay : (f : Arena) (held : List ℕ) → AreMovedValues f held section forest → AreMovedValues f held (section ++ more) forest
-  moved_stay f held moved =
+  pub moved_stay : (f : Arena) (anew : NewValues) → AreMovedValues f anew section forest → AreMovedValues f anew (section ++ more) forest
+  moved_stay f anew moved =
       let walk = (trees_are_walks section ds (entries_at head) forest).0 is.tree in
       let o = walked_orderly section ds (entries_at head) walk.items forest [] walk.walked in
       let count : length forest.values ≡ length f.values = moved.count in
@@ -79,8 +79,8 @@ pub ends_stay : (section more : List ℕ) (ds : List Declared) (ends : List Chai
 ends_stay section more ds ends short = All-weaker (EndsShort section) (EndsShort (section ++ more)) (λ e one. still_spelled (ShortestUnsigned 0) section more ds e.at (e.at + 1) one) ends short
 
 -- A unit that was written at the end of a section fills its place.
-pub written_fills : (unit : HeadAndForest) (table : Listing) (columns : List Spec) (numbers : List ℕ) (ds : List Declared) (new_table type_offset : ℕ) (held : List ℕ) (start : ℕ) (section : List ℕ) → (w : IsWrittenAnew unit table columns numbers ds new_table type_offset held start section) → end_of w.head ≡ w.forest.place
-written_fills unit table columns numbers ds new_table type_offset held start section w =
+pub written_fills : (unit : HeadAndForest) (table : Listing) (columns : List Spec) (numbers : List ℕ) (ds : List Declared) (new_table type_offset : ℕ) (anew : NewValues) (start : ℕ) (section : List ℕ) → (w : IsWrittenAnew unit table columns numbers ds new_table type_offset anew start section) → end_of w.head ≡ w.forest.place
+written_fills unit table columns numbers ds new_table type_offset anew start section w =
     let at : w.head.at ≡ start = w.fields.at in
     let len : w.head.len ≡ length section - start = w.fields.len in
     let place : w.forest.place ≡ length section = w.ends_there in
@@ -88,9 +88,9 @@ written_fills unit table columns numbers ds new_table type_offset held start sec
     omega arith
 
 -- It is read of the section and what follows, by its new table.
-pub written_read : (unit : HeadAndForest) (table listing : Listing) (columns : List Spec) (numbers : List ℕ) (new_table type_offset : ℕ) (held : List ℕ) (start : ℕ) (section more abbrevs : List ℕ) → (w : IsWrittenAnew unit table columns numbers (declarations_of listing) new_table type_offset held start section) → new_table < length abbrevs → IsTableAt abbrevs new_table listing → IsUnitRead (section ++ more) abbrevs (record { head = w.head; table = listing; forest = record { section = section ++ more; entries = w.forest.entries; values = w.forest.values; ends = w.forest.ends } })
-written_read unit table listing columns numbers new_table type_offset held start section more abbrevs w inside stands =
-    let ends : end_of w.head ≡ w.forest.place = written_fills unit table columns numbers (declarations_of listing) new_table type_offset held start section w in
+pub written_read : (unit : HeadAndForest) (table listing : Listing) (columns : List Spec) (numbers : List ℕ) (new_table type_offset : ℕ) (anew : NewValues) (start : ℕ) (section more abbrevs : List ℕ) → (w : IsWrittenAnew unit table columns numbers (declarations_of listing) new_table type_offset anew start section) → new_table < length abbrevs → IsTableAt abbrevs new_table listing → IsUnitRead (section ++ more) abbrevs (record { head = w.head; table = listing; forest = record { section = section ++ more; entries = w.forest.entries; values = w.forest.values; ends = w.forest.ends } })
+written_read unit table listing columns numbers new_table type_offset anew start section more abbrevs w inside stands =
+    let ends : end_of w.head ≡ w.forest.place = written_fills unit table columns numbers (declarations_of listing) new_table type_offset anew start section w in
     record {
       named = subst (λ (n : ℕ). n < length abbrevs) (sym w.fields.table) inside;
       table = subst (λ (n : ℕ). IsTableAt abbrevs n listing) (sym w.fields.table) stands;

@@ -1,5 +1,5 @@
 -- The values of a unit that is written anew: each stands with the number and the name that it had, and means what it meant but for a
--- new number.
+-- new number or new bytes of an expression.
 use Rattle.std.proofs.Common.{◌≡◌, ◌<◌, ◌+◌, ◌∙◌, ◌++◌, ℕ, suc, List, [], ◌∷◌, length, sym, ap, subst, refl, arith}
 use Rattle.std.specs.Prelude.{slice_index}
 use Rattle.std.proofs.Math.Seq.{get_or-append_seam}
@@ -15,18 +15,19 @@ use Rattle.entry_arena.specs.Arena.{value_at}
 use Rattle.entry_arena.specs.Trees.{ValuesBetween}
 use Rattle.entry_read.proofs.PlaceLaws.{entry_stands}
 use Rattle.unit_write.specs.declared.places.Places.{Places}
-use Rattle.unit_write.specs.Values.{with_number}
+use Rattle.unit_write.specs.NewExpressions.{made_of}
+use Rattle.unit_write.specs.Values.{renewed}
 use Rattle.value_links.specs.Sections.{debug_info, debug_abbrev}
 use Rattle.value_links.specs.Reading.{UnitRead, Reading, no_unit, unit_at, declarations, IsUnitRead}
 use Rattle.value_links.specs.Values.{entry_of, declaration_of, values_of, HasValueAt}
 use Rattle.value_links.specs.World.{World}
 use Rattle.rewriter.specs.declared.tables.NewTable.{NewTable}
 use Rattle.rewriter.specs.declared.new_places.NewPlaces.{NewPlaces}
-use Rattle.rewriter.specs.inside.Numbers.{IsNewNumber}
+use Rattle.rewriter.specs.inside.Numbers.{IsNewValue}
 use Rattle.rewriter.specs.inside.Follows.{AreReadAnew}
 use Rattle.rewriter.proofs.Meant.{read_unit_at}
 use Rattle.rewriter.proofs.MovedValues.{split_at, as_many}
-use Rattle.rewriter.proofs.MovedEntries.{moved, entry_moved, entries_count, same_declared, values_are, values_mean}
+use Rattle.rewriter.proofs.MovedEntries.{renewed_by, moved, entry_moved, entries_count, same_declared, values_are, values_mean}
 
 -- VALUES BY THEIR NUMBERS
 
@@ -77,7 +78,7 @@ value_of unit id number name meaning place h =
       meant = h.meant ∙ ap (meant_in unit.forest.section) (sym here);
     }
 
-value_there : (info abbrevs : List ℕ) (unit : UnitRead) (id number name : ℕ) (meaning : Meaning) → IsUnitRead info abbrevs unit → IsValueOf unit id number name meaning → (place : ℕ) × HasValueAt unit id number name meaning place
+pub value_there : (info abbrevs : List ℕ) (unit : UnitRead) (id number name : ℕ) (meaning : Meaning) → IsUnitRead info abbrevs unit → IsValueOf unit id number name meaning → (place : ℕ) × HasValueAt unit id number name meaning place
 value_there info abbrevs unit id number name meaning is v =
     let e = entry_of unit id in
     let stands = entry_stands info unit.head (declarations unit) unit.forest is.section is.entries id v.known in
@@ -108,41 +109,43 @@ value_there info abbrevs unit id number name meaning is v =
 -- VALUES THAT ARE WRITTEN ANEW
 
 module _ {file : List ℕ} {world : World} {tables : List NewTable} {places : List Places} {new_places : NewPlaces} {info abbrevs : List ℕ} {r s : Reading} (all : AreReadAnew file world tables places new_places info abbrevs r s) where
-  old_read : (u : ℕ) → u < length r.links.units → IsUnitRead (debug_info file) (debug_abbrev file) (unit_at r.links u)
+  pub old_read : (u : ℕ) → u < length r.links.units → IsUnitRead (debug_info file) (debug_abbrev file) (unit_at r.links u)
   old_read u inside = read_unit_at file r u all.read.links.units.each inside
 
-  new_read : (u : ℕ) → u < length r.links.units → IsUnitRead info abbrevs (unit_at s.links u)
+  pub new_read : (u : ℕ) → u < length r.links.units → IsUnitRead info abbrevs (unit_at s.links u)
   new_read u inside = All-get_or (IsUnitRead info abbrevs) s.links.units u no_unit (subst (λ (z : ℕ). u < z) (sym all.units.count) inside) all.units.read.each
 
-  -- a value means the old one with its new number
+  -- a value means the old one, with its new number or the new bytes of its expression
   pub record IsMovedValue (u id name : ℕ) (old new : Meaning) : Type 0 where
     pub held : ℕ
-    pub numbered : IsNewNumber r.links places new_places u id name old held
-    pub value : new ≡ with_number held old
+    pub made : List ℕ
+    pub numbered : IsNewValue r.links places new_places u id name old held made
+    pub value : new ≡ renewed held made old
 
   values_count : (u id : ℕ) → u < length r.links.units → id < length (unit_at r.links u).forest.entries → length (values_of (unit_at s.links u) id) ≡ length (values_of (unit_at r.links u) id)
   values_count u id inside known =
       let e = entry_of (unit_at r.links u) id in
       ap (λ (z : List Value). length z) (values_are all u id inside known) ∙ as_many (unit_at r.links u).forest.values (unit_at s.links u).forest.values e.first e.count (moved all u inside).values.count
 
-  same_meant : (u id : ℕ) (inside : u < length r.links.units) → id < length (unit_at r.links u).forest.entries → (k : ℕ) → k < length (values_of (unit_at r.links u) id) → meant_in (unit_at s.links u).forest.section (value_at (values_of (unit_at s.links u) id) k) ≡ with_number (slice_index (moved all u inside).numbers.held.items ((entry_of (unit_at r.links u) id).first + k)) (meant_in (unit_at r.links u).forest.section (value_at (values_of (unit_at r.links u) id) k))
+  same_meant : (u id : ℕ) (inside : u < length r.links.units) → id < length (unit_at r.links u).forest.entries → (k : ℕ) → k < length (values_of (unit_at r.links u) id) → meant_in (unit_at s.links u).forest.section (value_at (values_of (unit_at s.links u) id) k) ≡ renewed_by (moved all u inside).numbers ((entry_of (unit_at r.links u) id).first + k) (meant_in (unit_at r.links u).forest.section (value_at (values_of (unit_at r.links u) id) k))
   same_meant u id inside known k k_in =
       ap (λ (z : List Value). meant_in (unit_at s.links u).forest.section (value_at z k)) (values_are all u id inside known) ∙ values_mean all u id inside k k_in
 
-  -- the new number of an old value
-  numbered_as : (u id number name : ℕ) (meaning : Meaning) (place : ℕ) (inside : u < length r.links.units) → HasValueAt (unit_at r.links u) id number name meaning place → IsNewNumber r.links places new_places u id name meaning (slice_index (moved all u inside).numbers.held.items number)
+  -- what an old value becomes
+  numbered_as : (u id number name : ℕ) (meaning : Meaning) (place : ℕ) (inside : u < length r.links.units) → HasValueAt (unit_at r.links u) id number name meaning place → IsNewValue r.links places new_places u id name meaning (slice_index (moved all u inside).numbers.held.items number) (made_of (moved all u inside).numbers.ends.items (moved all u inside).numbers.expressions.items number)
   numbered_as u id number name meaning place inside h = (moved all u inside).numbered.each id number name meaning place h
 
   pub value_went : (u id number name : ℕ) (meaning : Meaning) (place : ℕ) → u < length r.links.units → HasValueAt (unit_at r.links u) id number name meaning place → (new : Meaning) × (now : ℕ) × HasValueAt (unit_at s.links u) id number name new now × IsMovedValue u id name meaning new
   value_went u id number name meaning place inside h =
       let v = value_of (unit_at r.links u) id number name meaning place h in
       let held : ℕ = slice_index (moved all u inside).numbers.held.items number in
+      let made : List ℕ = made_of (moved all u inside).numbers.ends.items (moved all u inside).numbers.expressions.items number in
       let same = same_declared all u id inside v.known in
-      let means : meant_in (unit_at s.links u).forest.section (value_at (values_of (unit_at s.links u) id) v.k) ≡ with_number held meaning =
+      let means : meant_in (unit_at s.links u).forest.section (value_at (values_of (unit_at s.links u) id) v.k) ≡ renewed held made meaning =
       same_meant u id inside v.known v.k v.value_in
-      ∙ ap (λ (z : ℕ). with_number (slice_index (moved all u inside).numbers.held.items z) (meant_in (unit_at r.links u).forest.section (value_at (values_of (unit_at r.links u) id) v.k))) (sym v.numbered)
-      ∙ ap (with_number held) (sym v.meant) in
-      let now : IsValueOf (unit_at s.links u) id number name (with_number held meaning) = record {
+      ∙ ap (λ (z : ℕ). renewed_by (moved all u inside).numbers z (meant_in (unit_at r.links u).forest.section (value_at (values_of (unit_at r.links u) id) v.k))) (sym v.numbered)
+      ∙ ap (renewed held made) (sym v.meant) in
+      let now : IsValueOf (unit_at s.links u) id number name (renewed held made meaning) = record {
         known = subst (λ (z : ℕ). id < z) (entries_count all u inside) v.known;
         k = v.k;
         column_in = subst (λ (z : ℕ). v.k < z) (sym same.named.count) v.column_in;
@@ -151,8 +154,8 @@ module _ {file : List ℕ} {world : World} {tables : List NewTable} {places : Li
         named = v.named ∙ sym (same.named.each v.k v.column_in);
         meant = sym means;
       } in
-      let (there, stands) = value_there info abbrevs (unit_at s.links u) id number name (with_number held meaning) (new_read u inside) now in
-      (with_number held meaning, there, stands, record { held = held; numbered = numbered_as u id number name meaning place inside h; value = refl })
+      let (there, stands) = value_there info abbrevs (unit_at s.links u) id number name (renewed held made meaning) (new_read u inside) now in
+      (renewed held made meaning, there, stands, record { held = held; made = made; numbered = numbered_as u id number name meaning place inside h; value = refl })
 
   pub value_came : (u id number name : ℕ) (meaning : Meaning) (place : ℕ) → u < length r.links.units → HasValueAt (unit_at s.links u) id number name meaning place → (old : Meaning) × (was : ℕ) × HasValueAt (unit_at r.links u) id number name old was × IsMovedValue u id name old meaning
   value_came u id number name meaning place inside h =
@@ -161,6 +164,7 @@ module _ {file : List ℕ} {world : World} {tables : List NewTable} {places : Li
       let same = same_declared all u id inside known in
       let old : Meaning = meant_in (unit_at r.links u).forest.section (value_at (values_of (unit_at r.links u) id) v.k) in
       let held : ℕ = slice_index (moved all u inside).numbers.held.items number in
+      let made : List ℕ = made_of (moved all u inside).numbers.ends.items (moved all u inside).numbers.expressions.items number in
       let column_in : v.k < length (declaration_of (unit_at r.links u) id).columns = subst (λ (z : ℕ). v.k < z) same.named.count v.column_in in
       let value_in : v.k < length (values_of (unit_at r.links u) id) = subst (λ (z : ℕ). v.k < z) (values_count u id inside known) v.value_in in
       let numbered : number ≡ (entry_of (unit_at r.links u) id).first + v.k = v.numbered ∙ ap (λ (z : ℕ). z + v.k) (entry_moved all u id inside known).first in
@@ -174,5 +178,5 @@ module _ {file : List ℕ} {world : World} {tables : List NewTable} {places : Li
         meant = refl;
       } in
       let (there, stands) = value_there (debug_info file) (debug_abbrev file) (unit_at r.links u) id number name old (old_read u inside) was in
-      let value : meaning ≡ with_number held old = v.meant ∙ same_meant u id inside known v.k value_in ∙ ap (λ (z : ℕ). with_number (slice_index (moved all u inside).numbers.held.items z) old) (sym numbered) in
-      (old, there, stands, record { held = held; numbered = numbered_as u id number name old there inside stands; value = value })
+      let value : meaning ≡ renewed held made old = v.meant ∙ same_meant u id inside known v.k value_in ∙ ap (λ (z : ℕ). renewed_by (moved all u inside).numbers z old) (sym numbered) in
+      (old, there, stands, record { held = held; made = made; numbered = numbered_as u id number name old there inside stands; value = value })

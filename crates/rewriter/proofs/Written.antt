@@ -9,6 +9,7 @@ use Rattle.entry_arena.proofs.WalkLaws.{whole_once}
 use Rattle.entry_read.specs.Units.{HeadAndForest, entries_at, declarations_of, IsTable}
 use Rattle.entry_read.proofs.Declarations.{have_codes}
 use Rattle.unit_write.specs.Placing.{EntrySize, ArePlaced, OnePlacing}
+use Rattle.unit_write.specs.NewExpressions.{lens_of}
 use Rattle.unit_write.specs.Moved.{IsPlacedAt}
 use Rattle.unit_write.specs.declared.places.Places.{Places}
 use Rattle.unit_write.proofs.Placed.{one_placing}
@@ -19,9 +20,10 @@ use Rattle.value_links.specs.World.{World, IsWorldOf}
 use Rattle.rewriter.specs.declared.tables.NewTable.{NewTable}
 use Rattle.rewriter.specs.declared.new_places.NewPlaces.{NewPlaces}
 use Rattle.rewriter.specs.inside.Tables.{AreTablesWritten}
-use Rattle.rewriter.specs.inside.Placed.{places_at, unit_in, ArePlacesOf}
+use Rattle.rewriter.specs.inside.Placed.{places_at, unit_in, AreEndsIn, ArePlacesOf}
 use Rattle.rewriter.specs.inside.Held.{table_for, IsUnitBehind}
 use Rattle.rewriter.proofs.Standing.{held_count}
+use Rattle.rewriter.proofs.Behind.{placed_with}
 use Rattle.rewriter.proofs.Final.{table_known, unit_reads}
 
 -- the law of unit_write, that the items of a walk have one place each
@@ -29,11 +31,11 @@ once_placed : OnePlacing
 once_placed = one_placing one_size
 
 -- so a unit has its places once
-pub one_place : (unit : HeadAndForest) (table : Listing) (columns : List Spec) (numbers : List ℕ) (start : ℕ) (entries others ends other_ends : List ℕ) (to other : ℕ) → HaveCodes (declarations_of table) → IsPlacedAt unit table columns numbers start entries ends to → IsPlacedAt unit table columns numbers start others other_ends other → (entries ≡ others) × (ends ≡ other_ends) × (to ≡ other)
-one_place unit table columns numbers start entries others ends other_ends to other codes p q =
+pub one_place : (unit : HeadAndForest) (table : Listing) (columns : List Spec) (numbers lens : List ℕ) (start : ℕ) (entries others ends other_ends : List ℕ) (to other : ℕ) → HaveCodes (declarations_of table) → IsPlacedAt unit table columns numbers lens start entries ends to → IsPlacedAt unit table columns numbers lens start others other_ends other → (entries ≡ others) × (ends ≡ other_ends) × (to ≡ other)
+one_place unit table columns numbers lens start entries others ends other_ends to other codes p q =
     let first : ℕ = start + (entries_at unit.head - unit.head.at) in
     let same : p.whole.items ≡ q.whole.items = (whole_once unit.forest.section (declarations_of table) (entries_at unit.head) _ _ codes p.whole q.whole).0 in
-    once_placed table columns numbers unit.forest 0 (start + (entries_at unit.head - unit.head.at)) p.whole.items entries others ends other_ends to other p.placed (subst (λ (items : List Item). ArePlaced (EntrySize table columns numbers unit.forest) 0 items (start + (entries_at unit.head - unit.head.at)) others other_ends other) (sym same) q.placed)
+    once_placed table columns numbers unit.forest lens 0 (start + (entries_at unit.head - unit.head.at)) p.whole.items entries others ends other_ends to other p.placed (subst (λ (items : List Item). ArePlaced (EntrySize table columns numbers unit.forest lens) 0 items (start + (entries_at unit.head - unit.head.at)) others other_ends other) (sym same) q.placed)
 
 -- the table of a unit has codes of its own
 pub table_coded : (world : World) (reach : Reach) (u : ℕ) → IsWorldOf world.image reach world → u < length world.units → HaveCodes (declarations_of (table_for world u))
@@ -49,4 +51,5 @@ unit_to world reach tables places new_places abbrevs section whole u is written 
     let old : slice_index world.table_of u < length world.tables = is.holds.tables.inside u (omega arith) in
     let table = written.each (slice_index world.table_of u) old in
     let anew = behind.written (declarations_of table.listing) table.renumbered in
-    (one_place (unit_in world.units u) (table_for world u) _ _ (places_at places u).start _ _ _ _ (length section) (places_at places u).end (table_coded world reach u is known) anew.placed (are.each u known)).2
+    let ends : AreEndsIn world u behind.numbers.ends.items = (behind.numbered world.image is.r is.holds).ends_are in
+    (one_place (unit_in world.units u) (table_for world u) _ _ (lens_of behind.numbers.ends.items) (places_at places u).start _ _ _ _ (length section) (places_at places u).end (table_coded world reach u is known) anew.placed (placed_with world tables u (places_at places u) behind.numbers.ends.items (are.each u known) ends)).2

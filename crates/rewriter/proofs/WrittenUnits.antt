@@ -19,7 +19,8 @@ use Rattle.entry_read.specs.Units.{HeadAndForest, end_of, declarations_of, IsUni
 use Rattle.unit_write.specs.declared.places.Places.{Places}
 use Rattle.unit_write.specs.Placing.{IsRenumbered}
 use Rattle.entry_read.specs.Short.{StandsShort, EndsShort}
-use Rattle.unit_write.specs.Moved.{IsMovedEntry, IsMovedEnd, AreMovedValues, IsWrittenAnew}
+use Rattle.unit_write.specs.Moved.{IsMovedEntry, IsMovedEnd, AreMovedValues, IsWrittenAnew, new_values}
+use Rattle.unit_write.specs.NewExpressions.{lens_of}
 use Rattle.value_links.specs.Reading.{UnitRead, Reading, no_unit, unit_heads, unit_among, unit_at, counts_of, AreWithin, declarations, IsUnitRead, AreUnitsIn}
 use Rattle.value_links.specs.Laws.{IsBuilt}
 use Rattle.value_links.specs.World.{World, head_and_forest, table_at, Holds, IsWorldOf}
@@ -36,6 +37,7 @@ use Rattle.rewriter.proofs.Standing.{held_count, held_unit}
 use Rattle.rewriter.proofs.Final.{table_known, unit_once}
 use Rattle.rewriter.proofs.BuiltTables.{built_anew}
 use Rattle.rewriter.proofs.BuiltUnits.{unit_built}
+use Rattle.rewriter.proofs.Behind.{placed_with}
 use Rattle.rewriter.proofs.Written.{one_place, table_coded}
 
 -- LISTS OF UNITS
@@ -109,7 +111,7 @@ module _ (world : World) (reach : Reach) (tables : List NewTable) (places : List
     anew : IsTableWritten world.units abbrevs (table_at world.tables (slice_index world.table_of u)) (new_table_at tables (slice_index world.table_of u))
     anew = written.each (slice_index world.table_of u) (is.holds.tables.inside u valid_known)
 
-    w : IsWrittenAnew (unit_in world.units u) (table_for world u) (new_table_at tables (slice_index world.table_of u)).columns (new_table_at tables (slice_index world.table_of u)).numbers (declarations_of anew.listing) behind.numbers.table behind.numbers.type_offset behind.numbers.held.items (places_at places u).start (take (places_at places u).end info)
+    w : IsWrittenAnew (unit_in world.units u) (table_for world u) (new_table_at tables (slice_index world.table_of u)).columns (new_table_at tables (slice_index world.table_of u)).numbers (declarations_of anew.listing) behind.numbers.table behind.numbers.type_offset (new_values behind.numbers) (places_at places u).start (take (places_at places u).end info)
     w = behind.written (declarations_of anew.listing) anew.renumbered
 
     numbered : AreNewNumbers world r.links tables places new_places u behind.numbers
@@ -125,7 +127,7 @@ module _ (world : World) (reach : Reach) (tables : List NewTable) (places : List
     unit_read =
         let inside : behind.numbers.table < length abbrevs = subst (λ (n : ℕ). n < length abbrevs) (sym numbered.table_at) anew.inside in
         let stands : IsTableAt abbrevs behind.numbers.table anew.listing = subst (λ (n : ℕ). IsTableAt abbrevs n anew.listing) (sym numbered.table_at) anew.stands in
-        let first = written_read (unit_in world.units u) (table_for world u) anew.listing (new_table_at tables (slice_index world.table_of u)).columns (new_table_at tables (slice_index world.table_of u)).numbers behind.numbers.table behind.numbers.type_offset behind.numbers.held.items (places_at places u).start (take (places_at places u).end info) (drop (places_at places u).end info) abbrevs w inside stands in
+        let first = written_read (unit_in world.units u) (table_for world u) anew.listing (new_table_at tables (slice_index world.table_of u)).columns (new_table_at tables (slice_index world.table_of u)).numbers behind.numbers.table behind.numbers.type_offset (new_values behind.numbers) (places_at places u).start (take (places_at places u).end info) (drop (places_at places u).end info) abbrevs w inside stands in
         subst (λ (z : List ℕ). IsUnitRead z abbrevs (read_in z)) joined first
 
     head_there : IsHead info w.head
@@ -146,11 +148,11 @@ module _ (world : World) (reach : Reach) (tables : List NewTable) (places : List
         let same : table_for world u ≡ (unit_at is.r.links u).table = table_known world.image world is.r u is.holds valid_known in
         built_anew world.units abbrevs (table_at world.tables (slice_index world.table_of u)) (new_table_at tables (slice_index world.table_of u)) anew (subst (λ (t : Listing). All IsBuilt (declarations_of t)) (sym same) old)
 
-    values_there : AreMovedValues (unit_at r.links u).forest behind.numbers.held.items info (listed_to (read_in info).forest 0)
+    values_there : AreMovedValues (unit_at r.links u).forest (new_values behind.numbers) info (listed_to (read_in info).forest 0)
     values_there =
-        let stay : AreMovedValues (unit_in world.units u).forest behind.numbers.held.items (take (places_at places u).end info ++ drop (places_at places u).end info) w.forest = moved_stay (take (places_at places u).end info) (drop (places_at places u).end info) w.head (declarations_of anew.listing) w.forest w.is_unit (unit_in world.units u).forest behind.numbers.held.items w.values in
-        let here : AreMovedValues (unit_in world.units u).forest behind.numbers.held.items info w.forest = subst (λ (z : List ℕ). AreMovedValues (unit_in world.units u).forest behind.numbers.held.items z w.forest) joined stay in
-        let same : AreMovedValues (unit_at r.links u).forest behind.numbers.held.items info w.forest = subst (λ (h : HeadAndForest). AreMovedValues h.forest behind.numbers.held.items info w.forest) held_as here in
+        let stay : AreMovedValues (unit_in world.units u).forest (new_values behind.numbers) (take (places_at places u).end info ++ drop (places_at places u).end info) w.forest = moved_stay (take (places_at places u).end info) (drop (places_at places u).end info) w.head (declarations_of anew.listing) w.forest w.is_unit (unit_in world.units u).forest (new_values behind.numbers) w.values in
+        let here : AreMovedValues (unit_in world.units u).forest (new_values behind.numbers) info w.forest = subst (λ (z : List ℕ). AreMovedValues (unit_in world.units u).forest (new_values behind.numbers) z w.forest) joined stay in
+        let same : AreMovedValues (unit_at r.links u).forest (new_values behind.numbers) info w.forest = subst (λ (h : HeadAndForest). AreMovedValues h.forest (new_values behind.numbers) info w.forest) held_as here in
         record { count = same.count; each = same.each }
 
     short_there : (id : ℕ) → id < length w.forest.entries → StandsShort info (declarations_of anew.listing) w.forest.values (entry_at w.forest.entries id)
@@ -164,13 +166,13 @@ module _ (world : World) (reach : Reach) (tables : List NewTable) (places : List
 
     filled_there : IsUnit info w.head (declarations_of anew.listing) (listed_to (read_in info).forest (end_of w.head))
     filled_there =
-        let fills : end_of w.head ≡ w.forest.place = written_fills (unit_in world.units u) (table_for world u) (new_table_at tables (slice_index world.table_of u)).columns (new_table_at tables (slice_index world.table_of u)).numbers (declarations_of anew.listing) behind.numbers.table behind.numbers.type_offset behind.numbers.held.items (places_at places u).start (take (places_at places u).end info) w in
+        let fills : end_of w.head ≡ w.forest.place = written_fills (unit_in world.units u) (table_for world u) (new_table_at tables (slice_index world.table_of u)).columns (new_table_at tables (slice_index world.table_of u)).numbers (declarations_of anew.listing) behind.numbers.table behind.numbers.type_offset (new_values behind.numbers) (places_at places u).start (take (places_at places u).end info) w in
         let stays : IsUnit (take (places_at places u).end info ++ drop (places_at places u).end info) w.head (declarations_of anew.listing) w.forest = unit_stays (take (places_at places u).end info) (drop (places_at places u).end info) w.head (declarations_of anew.listing) w.forest w.is_unit fills in
         let here : IsUnit info w.head (declarations_of anew.listing) w.forest = subst (λ (z : List ℕ). IsUnit z w.head (declarations_of anew.listing) w.forest) joined stays in
         subst (λ (place : ℕ). IsUnit info w.head (declarations_of anew.listing) (listed_to (read_in info).forest place)) (sym fills) here
 
     placed_there : (map (λ (e : Entry). e.at) w.forest.entries ≡ (places_at places u).entries) × (map (λ (e : ChainEnd). e.at) w.forest.ends ≡ (places_at places u).ends) × (length (take (places_at places u).end info) ≡ (places_at places u).end)
-    placed_there = one_place (unit_in world.units u) (table_for world u) (new_table_at tables (slice_index world.table_of u)).columns (new_table_at tables (slice_index world.table_of u)).numbers (places_at places u).start (map (λ (e : Entry). e.at) w.forest.entries) (places_at places u).entries (map (λ (e : ChainEnd). e.at) w.forest.ends) (places_at places u).ends (length (take (places_at places u).end info)) (places_at places u).end (table_coded world reach u is known) w.placed (are.each u known)
+    placed_there = one_place (unit_in world.units u) (table_for world u) (new_table_at tables (slice_index world.table_of u)).columns (new_table_at tables (slice_index world.table_of u)).numbers (lens_of behind.numbers.ends.items) (places_at places u).start (map (λ (e : Entry). e.at) w.forest.entries) (places_at places u).entries (map (λ (e : ChainEnd). e.at) w.forest.ends) (places_at places u).ends (length (take (places_at places u).end info)) (places_at places u).end (table_coded world reach u is known) w.placed (placed_with world tables u (places_at places u) behind.numbers.ends.items (are.each u known) numbered.ends_are)
 
     moved_there : IsUnitMoved world r.links tables places new_places u (read_in info)
     moved_there = record {

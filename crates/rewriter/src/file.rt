@@ -22,7 +22,7 @@ fn write_anew(alloc: Global, world: &World<'_>) -> Result<Vec<u8>, NoMemory>
     requires world { IsWorldOf world.now.image Narrow world.now }
     ensures rewritten { IfOk result (λ written. IsRewritten world.now.image written.items) }
 {
-    // A law: what is read, means something and waits for nothing is valid.
+    // A law: what is read, means something and keeps the limits is valid.
     valid_files();
     let sections = write_sections(alloc, world)?;
     assemble(alloc, world.image(), sections)
@@ -45,7 +45,8 @@ fn write_anew(alloc: Global, world: &World<'_>) -> Result<Vec<u8>, NoMemory>
 /// the one with the lowest code. So an entry may grow where its column as a whole shrinks.
 ///
 /// Each number of a table, each code and each value in its form has its fewest bytes, but a reference in DW_FORM_ref_udata, which
-/// has five. An expression is kept byte for byte. Bytes after a unit's entries are dropped.
+/// has five. An expression keeps its operations, each reference at the new place of what it named: that to a base type in five bytes,
+/// and a call as DW_OP_call4; all else in it has its fewest bytes (sections 2.5 and 7.7.1). Bytes after a unit's entries are dropped.
 pub fn rewrite(alloc: Global, file: &[u8]) -> Result<Vec<u8>, Refusal>
     ensures valid { IfOk result (λ _. IsValid file.now Narrow) }
     ensures same { IfOk result (λ written. Same file.now written.items) }

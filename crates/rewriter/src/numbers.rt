@@ -1,6 +1,7 @@
-// The new numbers of references and section offsets.
-ghost use Rattle.std.specs.Prelude.{◌≡◌, ◌≤◌, ◌<◌, ◌+◌, ◌^◌, ℕ, List, IfOk, OnOk, length};
+// The new numbers of references and section offsets, and the new expressions.
+ghost use Rattle.std.specs.Prelude.{◌≡◌, ◌≤◌, ◌<◌, ◌+◌, ◌^◌, ℕ, List, IfOk, OnOk, length, slice_index};
 ghost use Rattle.dw_base.specs.declared.fault.Reach.{Reach};
+ghost use Rattle.dw_base.specs.declared.fault.Reach.TheVariants.{Narrow};
 ghost use Rattle.entry_arena.specs.declared.entry.Target.{Target};
 ghost use Rattle.entry_arena.specs.Arena.{entry_at, chain_end_at, HasChainEnd};
 ghost use Rattle.list_model.specs.declared.entry.ListKind.TheVariants.{Ranges};
@@ -8,11 +9,12 @@ ghost use Rattle.list_write.specs.Written.{moved_at};
 ghost use Rattle.value_links.specs.Reading.{Reading};
 ghost use Rattle.value_links.specs.Linked.{IsTargetAt};
 ghost use Rattle.value_links.specs.World.{IsWorldOf, Holds};
+ghost use Rattle.value_links.specs.inside.Checks.{IsNoExpr};
 ghost use Rattle.rewriter.specs.declared.new_places.NewPlaces.{NewPlaces as AnyPlaces};
 ghost use Rattle.rewriter.specs.inside.Tables.{AreTablesWritten};
-ghost use Rattle.rewriter.specs.inside.Placed.{places_anew, ArePlacesOf};
+ghost use Rattle.rewriter.specs.inside.Placed.{places_anew, places_at, ArePlacesOf};
 ghost use Rattle.rewriter.specs.inside.Numbers.{MovesTo, AreNewNumbers};
-ghost use Rattle.rewriter.specs.inside.Held.{HavePlaces, AllHavePlaces, AreNewPlaces, MeansSomething, IsLinkFor, IsNumberOf, EntryMeans, entry_in, name_in, value_in, AreNumbersOf, UnitMeans, AreNumbered, HasType, IsTypeMoved};
+ghost use Rattle.rewriter.specs.inside.Held.{HavePlaces, AllHavePlaces, AreNewPlaces, MeansSomething, IsLinkFor, IsNumberOf, EntryMeans, entry_in, name_in, value_in, AreNumbersOf, UnitMeans, AreNumbered, IsEntryPlaced, IsCounted, IsReferenceOf, AreOperationsNumbered, HasType, IsTypeMoved};
 
 use crate::new_places::{ListPlaces, NewPlaces};
 use crate::tables::NewTable;
@@ -20,12 +22,13 @@ use dw_base::NoMemory;
 use dw_base::constants::DW_UT_TYPE;
 use entry_arena::{ChainEnd, Entry, Target};
 use entry_read::Unit;
+use expr_ops::{Named, Op, named_by};
 use form_codec::Value;
 use list_model::ListKind;
 use list_write::Moved;
 use std::alloc::Global;
-use unit_write::{NewNumbers, Places};
-use value_links::{Link, World};
+use unit_write::{NewNumbers, Places, expression_ends, write_expressions};
+use value_links::{Link, OpLink, World};
 
 // The bytes of a contribution's header, behind which its offsets begin (DWARF 5 section 7.28).
 const HEADER_SIZE: u64 = 12;
@@ -86,9 +89,10 @@ fn place_in(unit: &Unit<'_>, offset: u64) -> u64
     unit.head().at + offset
 }
 
-// What a value refers to that means something.
+// What a value that is no expression refers to, where it means something.
 fn link_of(world: &World<'_>, unit: u32, name: u64, value: &Value) -> Link
     requires unit { unit < length world.now.units }
+    requires plain { IsNoExpr value.now }
     requires means { MeansSomething world.now unit name value.now }
     ensures { IsLinkFor world.now unit name value.now result }
 {
@@ -270,6 +274,72 @@ fn new_held(
     Ok(held)
 }
 
+// The new place of an entry of the unit with a number.
+fn entry_place(places: &Vec<Places>, unit: u32, id: u32) -> u64
+    requires unit { unit < length places.now.items }
+    requires entry { id < length (places_at places.now.items unit).entries }
+    ensures place { result ≡ slice_index (places_at places.now.items unit).entries id }
+    ensures fits { result < 2 ^ 32 }
+{
+    let there = &places[unit as usize];
+    u64::from(there.entries[id as usize])
+}
+
+// The new number of a reference to an entry of the unit `other`, in an expression of the unit with a number.
+fn counted(places: &Vec<Places>, unit: u32, named: Named, other: u32, id: u32) -> u64
+    requires placed { IsEntryPlaced places.now.items unit named other id }
+    ensures number { IsCounted places.now.items unit named other id result }
+    ensures fits { result < 2 ^ 32 }
+{
+    let place = entry_place(places, other, id);
+    match named {
+        Named::SectionEntry => place,
+        _ => {
+            let own = &places[unit as usize];
+            place - own.start
+        }
+    }
+}
+
+// The new number of the reference of an operation in an expression of the unit with a number; 0 where it names no entry.
+fn op_number(world: &World<'_>, places: &Vec<Places>, unit: u32, op: &Op) -> u64
+    requires world { (reach : Reach) × IsWorldOf world.now.image reach world.now }
+    requires unit { unit < length world.now.units }
+    requires placed { AllHavePlaces world.now places.now.items }
+    ensures number { IsReferenceOf world.now places.now.items unit op.now result }
+    ensures fits { result < 2 ^ 32 }
+{
+    match world.resolve_op(unit, op) {
+        Some(link) => match link {
+            OpLink::Entry(other, id) => counted(places, unit, named_by(op.code), other, id),
+            _ => 0,
+        },
+        None => 0,
+    }
+}
+
+// The new numbers of all operations of a unit.
+fn op_numbers(
+    alloc: Global,
+    world: &World<'_>,
+    places: &Vec<Places>,
+    unit: u32,
+) -> Result<Vec<u64>, NoMemory>
+    requires world { (reach : Reach) × IsWorldOf world.now.image reach world.now }
+    requires unit { unit < length world.now.units }
+    requires placed { AllHavePlaces world.now places.now.items }
+    ensures { IfOk result (λ numbers. AreOperationsNumbered world.now places.now.items unit numbers.items) }
+{
+    let mut numbers: Vec<u64> = Vec::new(alloc);
+    let operations = &world.operations()[unit as usize];
+    let count = operations.op_count();
+    for id in 0..count {
+        let op = operations.op(id);
+        numbers.push(op_number(world, places, unit, &op))?;
+    }
+    Ok(numbers)
+}
+
 // The new type_offset of a unit, which is 0 where it is no type unit.
 fn new_type_offset(unit: &Unit<'_>, places: &Places) -> u64
     requires placed { HavePlaces unit.now.forest (places_anew places.now) }
@@ -284,8 +354,9 @@ fn new_type_offset(unit: &Unit<'_>, places: &Places) -> u64
     u64::from(places.entries[number]) - places.start
 }
 
-/// The new numbers of the unit with a number: the new places of all that its references and section offsets name. `places` are
-/// those of the units, and `new_places` those of what section offsets name. Each number fits the 32 bits of an offset. The only error is want of memory.
+/// The new numbers of the unit with a number: the new places of all that its references and section offsets name, and its expressions
+/// with those that their operations name. `places` are those of the units, and `new_places` those of what section offsets name. Each
+/// number fits the 32 bits of an offset. The only error is want of memory.
 pub fn new_numbers(
     alloc: Global,
     world: &World<'_>,
@@ -294,7 +365,7 @@ pub fn new_numbers(
     new_places: &NewPlaces,
     unit: u32,
 ) -> Result<NewNumbers, NoMemory>
-    requires world { (reach : Reach) × IsWorldOf world.now.image reach world.now }
+    requires world { IsWorldOf world.now.image Narrow world.now }
     requires unit { unit < length world.now.units }
     requires tables { (abbrevs : List ℕ) × (length abbrevs < 2 ^ 32) × AreTablesWritten world.now abbrevs tables.now.items }
     requires places { (size : ℕ) × ArePlacesOf world.now tables.now.items places.now.items size }
@@ -302,7 +373,11 @@ pub fn new_numbers(
     ensures numbers { IfOk result (λ new. (file : List ℕ) (r : Reading) → Holds file world.now r → AreNewNumbers world.now r.links tables.now.items places.now.items new_places.now unit new) }
 {
     let held = new_held(alloc, world, places, new_places, unit)?;
+    let numbers = op_numbers(alloc, world, places, unit)?;
     let own = &world.units()[unit as usize];
+    let operations = &world.operations()[unit as usize];
+    let ends = expression_ends(alloc, own, operations)?;
+    let expressions = write_expressions(alloc, own, operations, &ends, &numbers)?;
     let new = &places[unit as usize];
     let table = world.table_numbers()[unit as usize] as usize;
     Ok(NewNumbers {
@@ -310,5 +385,7 @@ pub fn new_numbers(
         table: tables[table].at,
         type_offset: new_type_offset(own, new),
         held,
+        ends,
+        expressions,
     })
 }

@@ -148,13 +148,67 @@ const SLOTS_ANEW: [u8; 496] = [
     0, 0, 0,
 ];
 
+// An executable for x86-64 with section 0, .debug_abbrev at 64, .debug_info at 84 and .shstrtab at 196. The table declares a variable
+// with DW_AT_location as exprloc, a compilation unit and a base type with a name. The unit at 0 has a base type at 42 and five variables:
+// at 45 the expression `30 28 05 00 a8 aa 80 80 00 96 9f`, which branches over a conversion to that type to the operation behind it; at
+// 58 a call2 of the entry at 63; there a GNU_parameter_ref of the entry at 70; there an implicit_pointer to the entry at 58; and a
+// conversion to the generic type. The unit at 85 has a call2 of its entry at 18 of it, and there an implicit_pointer to the entry at
+// 58 of .debug_info.
+const WITH_EXPRESSIONS: [u8; 496] = [
+    0x7f, 0x45, 0x4c, 0x46, 2, 1, 1, 0, 0, 0, 0, 0, 0, 0, 0, 0, 2, 0, 0x3e, 0, 1, 0, 0, 0, 0, 0, 0,
+    0, 0, 0, 0, 0, 0, 0, 0, 0, 0, 0, 0, 0, 0xf0, 0, 0, 0, 0, 0, 0, 0, 0, 0, 0, 0, 0x40, 0, 0, 0, 0,
+    0, 0x40, 0, 4, 0, 3, 0, 1, 0x34, 0, 2, 0x18, 0, 0, 2, 0x11, 1, 0, 0, 3, 0x24, 0, 3, 8, 0, 0, 0,
+    0x51, 0, 0, 0, 5, 0, 1, 8, 0, 0, 0, 0, 2, 3, 0x61, 0x61, 0x61, 0x61, 0x61, 0x61, 0x61, 0x61,
+    0x61, 0x61, 0x61, 0x61, 0x61, 0x61, 0x61, 0x61, 0x61, 0x61, 0x61, 0x61, 0x61, 0x61, 0x61, 0x61,
+    0x61, 0x61, 0x61, 0, 3, 0x62, 0, 1, 0x0b, 0x30, 0x28, 5, 0, 0xa8, 0xaa, 0x80, 0x80, 0, 0x96,
+    0x9f, 1, 3, 0x98, 0x3f, 0, 1, 5, 0xfa, 0x46, 0, 0, 0, 1, 6, 0xa0, 0x3a, 0, 0, 0, 0, 1, 4, 0x30,
+    0xa8, 0, 0x9f, 0, 0x17, 0, 0, 0, 5, 0, 1, 8, 0, 0, 0, 0, 2, 1, 3, 0x98, 0x12, 0, 1, 6, 0xa0,
+    0x3a, 0, 0, 0, 0, 0, 0, 0x2e, 0x64, 0x65, 0x62, 0x75, 0x67, 0x5f, 0x61, 0x62, 0x62, 0x72, 0x65,
+    0x76, 0, 0x2e, 0x64, 0x65, 0x62, 0x75, 0x67, 0x5f, 0x69, 0x6e, 0x66, 0x6f, 0, 0x2e, 0x73, 0x68,
+    0x73, 0x74, 0x72, 0x74, 0x61, 0x62, 0, 0, 0, 0, 0, 0, 0, 0, 0, 0, 0, 0, 0, 0, 0, 0, 0, 0, 0, 0,
+    0, 0, 0, 0, 0, 0, 0, 0, 0, 0, 0, 0, 0, 0, 0, 0, 0, 0, 0, 0, 0, 0, 0, 0, 0, 0, 0, 0, 0, 0, 0, 0,
+    0, 0, 0, 0, 0, 0, 0, 0, 0, 0, 0, 0, 0, 0, 0, 0, 0, 0, 0, 0, 1, 0, 0, 0, 1, 0, 0, 0, 0, 0, 0, 0,
+    0, 0, 0, 0, 0, 0, 0, 0, 0, 0, 0, 0, 0x40, 0, 0, 0, 0, 0, 0, 0, 0x14, 0, 0, 0, 0, 0, 0, 0, 0, 0,
+    0, 0, 0, 0, 0, 0, 1, 0, 0, 0, 0, 0, 0, 0, 0, 0, 0, 0, 0, 0, 0, 0, 0x0f, 0, 0, 0, 1, 0, 0, 0, 0,
+    0, 0, 0, 0, 0, 0, 0, 0, 0, 0, 0, 0, 0, 0, 0, 0x54, 0, 0, 0, 0, 0, 0, 0, 0x70, 0, 0, 0, 0, 0, 0,
+    0, 0, 0, 0, 0, 0, 0, 0, 0, 1, 0, 0, 0, 0, 0, 0, 0, 0, 0, 0, 0, 0, 0, 0, 0, 0x1b, 0, 0, 0, 3, 0,
+    0, 0, 0, 0, 0, 0, 0, 0, 0, 0, 0, 0, 0, 0, 0, 0, 0, 0, 0xc4, 0, 0, 0, 0, 0, 0, 0, 0x25, 0, 0, 0,
+    0, 0, 0, 0, 0, 0, 0, 0, 0, 0, 0, 0, 1, 0, 0, 0, 0, 0, 0, 0, 0, 0, 0, 0, 0, 0, 0, 0,
+];
+
+// The same with five bytes for the type, so that the branch is over one more, and a call4 for each call2. .debug_info has 117 bytes, the
+// entries at 58, 63 and 70 stand at 59, 66 and 73, the second unit at 88, and its entry at 18 of it at 20.
+const EXPRESSIONS_ANEW: [u8; 496] = [
+    0x7f, 0x45, 0x4c, 0x46, 2, 1, 1, 0, 0, 0, 0, 0, 0, 0, 0, 0, 2, 0, 0x3e, 0, 1, 0, 0, 0, 0, 0, 0,
+    0, 0, 0, 0, 0, 0, 0, 0, 0, 0, 0, 0, 0, 0xf0, 0, 0, 0, 0, 0, 0, 0, 0, 0, 0, 0, 0x40, 0, 0, 0, 0,
+    0, 0x40, 0, 4, 0, 3, 0, 1, 0x34, 0, 2, 0x18, 0, 0, 2, 0x11, 1, 0, 0, 3, 0x24, 0, 3, 8, 0, 0, 0,
+    0x54, 0, 0, 0, 5, 0, 1, 8, 0, 0, 0, 0, 2, 3, 0x61, 0x61, 0x61, 0x61, 0x61, 0x61, 0x61, 0x61,
+    0x61, 0x61, 0x61, 0x61, 0x61, 0x61, 0x61, 0x61, 0x61, 0x61, 0x61, 0x61, 0x61, 0x61, 0x61, 0x61,
+    0x61, 0x61, 0x61, 0, 3, 0x62, 0, 1, 0x0c, 0x30, 0x28, 6, 0, 0xa8, 0xaa, 0x80, 0x80, 0x80, 0,
+    0x96, 0x9f, 1, 5, 0x99, 0x42, 0, 0, 0, 1, 5, 0xfa, 0x49, 0, 0, 0, 1, 6, 0xa0, 0x3b, 0, 0, 0, 0,
+    1, 4, 0x30, 0xa8, 0, 0x9f, 0, 0x19, 0, 0, 0, 5, 0, 1, 8, 0, 0, 0, 0, 2, 1, 5, 0x99, 0x14, 0, 0,
+    0, 1, 6, 0xa0, 0x3b, 0, 0, 0, 0, 0, 0, 0x2e, 0x64, 0x65, 0x62, 0x75, 0x67, 0x5f, 0x61, 0x62,
+    0x62, 0x72, 0x65, 0x76, 0, 0x2e, 0x64, 0x65, 0x62, 0x75, 0x67, 0x5f, 0x69, 0x6e, 0x66, 0x6f, 0,
+    0x2e, 0x73, 0x68, 0x73, 0x74, 0x72, 0x74, 0x61, 0x62, 0, 0, 0, 0, 0, 0, 0, 0, 0, 0, 0, 0, 0, 0,
+    0, 0, 0, 0, 0, 0, 0, 0, 0, 0, 0, 0, 0, 0, 0, 0, 0, 0, 0, 0, 0, 0, 0, 0, 0, 0, 0, 0, 0, 0, 0, 0,
+    0, 0, 0, 0, 0, 0, 0, 0, 0, 0, 0, 0, 0, 0, 0, 0, 0, 0, 0, 0, 0, 1, 0, 0, 0, 1, 0, 0, 0, 0, 0, 0,
+    0, 0, 0, 0, 0, 0, 0, 0, 0, 0, 0, 0, 0, 0x40, 0, 0, 0, 0, 0, 0, 0, 0x14, 0, 0, 0, 0, 0, 0, 0, 0,
+    0, 0, 0, 0, 0, 0, 0, 1, 0, 0, 0, 0, 0, 0, 0, 0, 0, 0, 0, 0, 0, 0, 0, 0x0f, 0, 0, 0, 1, 0, 0, 0,
+    0, 0, 0, 0, 0, 0, 0, 0, 0, 0, 0, 0, 0, 0, 0, 0, 0x54, 0, 0, 0, 0, 0, 0, 0, 0x75, 0, 0, 0, 0, 0,
+    0, 0, 0, 0, 0, 0, 0, 0, 0, 0, 1, 0, 0, 0, 0, 0, 0, 0, 0, 0, 0, 0, 0, 0, 0, 0, 0x1b, 0, 0, 0, 3,
+    0, 0, 0, 0, 0, 0, 0, 0, 0, 0, 0, 0, 0, 0, 0, 0, 0, 0, 0, 0xc9, 0, 0, 0, 0, 0, 0, 0, 0x25, 0, 0,
+    0, 0, 0, 0, 0, 0, 0, 0, 0, 0, 0, 0, 0, 1, 0, 0, 0, 0, 0, 0, 0, 0, 0, 0, 0, 0, 0, 0, 0,
+];
+
 #[test]
-fn lists_are_rewritten(rt: HostRuntime) -> Result<(), Fail> {
+fn parts_are_rewritten(rt: HostRuntime) -> Result<(), Fail> {
     // files, and what is to be written for each
-    let table: [(&[u8], &[u8]); 3] = [
+    let table: [(&[u8], &[u8]); 5] = [
         (WITH_LISTS.as_slice(), LISTS_ANEW.as_slice()),
         (LISTS_ANEW.as_slice(), LISTS_ANEW.as_slice()),
         (WITH_SLOTS.as_slice(), SLOTS_ANEW.as_slice()),
+        (WITH_EXPRESSIONS.as_slice(), EXPRESSIONS_ANEW.as_slice()),
+        (EXPRESSIONS_ANEW.as_slice(), EXPRESSIONS_ANEW.as_slice()),
     ];
     for (file, new) in table {
         let written = match rewrite(rt.alloc(), file) {

@@ -1,6 +1,6 @@
 // Units written anew.
 ghost use Rattle.std.specs.Prelude.{◌≡◌, ◌<◌, ◌^◌, ℕ, List, IfOk, OnOk, length};
-ghost use Rattle.dw_base.specs.declared.fault.Reach.{Reach};
+ghost use Rattle.dw_base.specs.declared.fault.Reach.TheVariants.{Narrow};
 ghost use Rattle.leb_codec.specs.Digits.{Extends};
 ghost use Rattle.fixed_width.specs.InitialLengths.{least_reserved};
 ghost use Rattle.value_links.specs.Reading.{UnitRead, Reading};
@@ -28,7 +28,7 @@ fn write_numbered(
     new_places: &NewPlaces,
     number: u32,
 ) -> Result<(), NoMemory>
-    requires world { (reach : Reach) × IsWorldOf world.now.image reach world.now }
+    requires world { IsWorldOf world.now.image Narrow world.now }
     requires known { number < length world.now.units }
     requires tables { AreTablesWritten world.now tables.now.bytes.items tables.now.tables.items }
     requires narrow { length tables.now.bytes.items < 2 ^ 32 }
@@ -57,7 +57,7 @@ pub fn write_units(
     places: &Vec<Places>,
     new_places: &NewPlaces,
 ) -> Result<Vec<u8>, NoMemory>
-    requires world { (reach : Reach) × IsWorldOf world.now.image reach world.now }
+    requires world { IsWorldOf world.now.image Narrow world.now }
     requires tables { AreTablesWritten world.now tables.now.bytes.items tables.now.tables.items }
     requires narrow { length tables.now.bytes.items < 2 ^ 32 }
     requires writable { AreWritable world.now tables.now.tables.items }

@@ -2,10 +2,10 @@
 use Rattle.std.proofs.Common.{◌≡◌, ◌≢◌, ◌≤◌, ◌<◌, ◌+◌, ◌-◌, ℕ, zero, suc, List, [], ◌∷◌, ◌++◌, length, take, drop, get_or, ◌∙◌, sym, ap, refl, subst, arith, inl, inr}
 use Rattle.std.specs.Prelude.{map, if◌then◌else◌, Bool}
 use Rattle.std.specs.List.{All, AllZip}
-use Rattle.std.proofs.lemmas.List.{append-nil, append_assoc, length-append, length-map, get_or_append_left, get_or-append-add, get_or-take, get_or-drop, get_or-map}
+use Rattle.std.proofs.lemmas.List.{append-nil, append_assoc, length-append, length-map, length-drop, length-take-le, get_or_append_left, get_or-append-add, get_or-map}
 use Rattle.std.proofs.lemmas.List.Elements.{All-nil, All-cons}
 use Rattle.std.proofs.lemmas.Bool.{cases_lt}
-use Rattle.std.proofs.Common.{add-one}
+use Rattle.std.proofs.Common.{add-one, add-zero, drop-cons}
 use Rattle.leb_codec.specs.Leb.{Uleb, ShortestUnsigned, least_unsigned_len}
 use Rattle.leb_codec.proofs.SpellingLaws.{leb_one}
 use Rattle.form_codec.specs.declared.value.Value.{Value}
@@ -23,55 +23,66 @@ use Rattle.entry_arena.specs.Onward.{HasWalked, EntryIsNext, EndIsNext}
 use Rattle.entry_arena.specs.Spellings.{SpellsValues}
 use Rattle.entry_arena.proofs.SpellingLaws.{cut, values_found}
 use Rattle.entry_read.specs.Units.{declarations_of}
-use Rattle.unit_write.specs.Values.{with_number, HaveSize}
+use Rattle.unit_write.specs.Values.{HasSize, HaveSize}
+use Rattle.unit_write.specs.NewExpressions.{lens_of, made_of}
 use Rattle.unit_write.specs.Placing.{columns_of, values_in, EntrySize, ArePlaced, IsRenumbered}
 use Rattle.entry_read.specs.Short.{WrittenBetween, StandsShort, EndsShort}
-use Rattle.unit_write.specs.Moved.{IsMovedEntry, IsMovedEnd}
-use Rattle.unit_write.specs.inside.Puts.{PutsValues, PutsEntry, PutsItems, numbers_in}
+use Rattle.unit_write.specs.Moved.{NewValues, IsMovedEntry, IsMovedEnd}
+use Rattle.unit_write.specs.inside.Puts.{AreNew, renewed_at, PutsValues, PutsEntry, PutsItems}
 use Rattle.entry_arena.proofs.Between.{length_between}
 use Rattle.entry_arena.proofs.OnwardLaws.{walks_go_on}
+use Rattle.unit_write.proofs.EndLaws.{lens_len, made_len}
 use Rattle.unit_write.proofs.PutLaws.{values_as}
 use Rattle.unit_write.proofs.ShortLaws.{renamed, values_short, entry_short, first_short, end_short}
 
-values_spelled : (section : List ℕ) (cs : List Spec) (vs : List Value) (ns bytes : List ℕ) → PutsValues section cs vs ns bytes → SpellsValues cs (renamed section vs ns) bytes
-values_spelled section [] [] [] bytes p = p
-values_spelled section [] [] (n ∷ ns) bytes p = absurd p
-values_spelled section [] (v ∷ vs) ns bytes p = absurd p
-values_spelled section (c ∷ cs) [] ns bytes p = absurd p
-values_spelled section (c ∷ cs) (v ∷ vs) [] bytes p = absurd p
-values_spelled section (c ∷ cs) (v ∷ vs) (n ∷ ns) bytes (first, rest, w, p, e) = (first, rest, w.0, values_spelled section cs vs ns rest p, e)
+values_spelled : (section : List ℕ) (anew : NewValues) (i : ℕ) (cs : List Spec) (vs : List Value) (bytes : List ℕ) → PutsValues section anew i cs vs bytes → SpellsValues cs (renamed section anew i vs) bytes
+values_spelled section anew i [] [] bytes p = p
+values_spelled section anew i [] (v ∷ vs) bytes p = absurd p
+values_spelled section anew i (c ∷ cs) [] bytes p = absurd p
+values_spelled section anew i (c ∷ cs) (v ∷ vs) bytes (first, rest, w, p, e) = (first, rest, w.0, values_spelled section anew (suc i) cs vs rest p, e)
 
-values_sized : (section : List ℕ) (cs : List Spec) (vs : List Value) (ns bytes : List ℕ) → PutsValues section cs vs ns bytes → HaveSize section cs vs (length bytes)
-values_sized section [] [] [] bytes p = ap length p
-values_sized section [] [] (n ∷ ns) bytes p = absurd p
-values_sized section [] (v ∷ vs) ns bytes p = absurd p
-values_sized section (c ∷ cs) [] ns bytes p = absurd p
-values_sized section (c ∷ cs) (v ∷ vs) [] bytes p = absurd p
-values_sized section (c ∷ cs) (v ∷ vs) (n ∷ ns) bytes (first, rest, w, p, e) =
-    (length first, length rest, (n, first, w, refl), values_sized section cs vs ns rest p, ap length e ∙ length-append first rest)
+one_more : (lens : List ℕ) (i count : ℕ) → i < length lens → take (suc count) (drop i lens) ≡ get_or lens i 0 ∷ take count (drop (suc i) lens)
+one_more lens i count lt = rw (drop-cons lens i 0 lt) refl
 
--- values in a section that mean what others mean in theirs, with numbers of their own
-record AreRenamed (old new : List ℕ) (vs ws : List Value) (ns : List ℕ) : Type 0 where
+values_sized : (section : List ℕ) (anew : NewValues) (count i : ℕ) (cs : List Spec) (vs : List Value) (bytes : List ℕ) → AreNew anew count → i + length vs ≤ count → PutsValues section anew i cs vs bytes → HaveSize section cs vs (take (length vs) (drop i (lens_of anew.ends))) (length bytes)
+values_sized section anew count i [] [] bytes new inside p = ap length p
+values_sized section anew count i [] (v ∷ vs) bytes new inside p = absurd p
+values_sized section anew count i (c ∷ cs) [] bytes new inside p = absurd p
+values_sized section anew count i (c ∷ cs) (v ∷ vs) bytes new inside (first, rest, w, p, e) =
+    let own : HasSize c (meant_in section v) (get_or (lens_of anew.ends) i 0) (length first) = record {
+      number = get_or anew.held i 0;
+      made = made_of anew.ends anew.expressions i;
+      long = made_len anew count i new (omega arith);
+      bytes = first;
+      written = w;
+      is = refl;
+    } in
+    let more = values_sized section anew count (suc i) cs vs rest new (omega arith) p in
+    let whole : HaveSize section (c ∷ cs) (v ∷ vs) (get_or (lens_of anew.ends) i 0 ∷ take (length vs) (drop (suc i) (lens_of anew.ends))) (length bytes) = (length first, length rest, own, more, ap length e ∙ length-append first rest) in
+    let size : length (lens_of anew.ends) ≡ length anew.ends = lens_len 0 anew.ends in
+    let each : length anew.ends ≡ count = new.each in
+    subst (λ (z : List ℕ). HaveSize section (c ∷ cs) (v ∷ vs) z (length bytes)) (sym (one_more (lens_of anew.ends) i (length vs) (omega arith))) whole
+
+-- values in a section that mean anew what others mean in theirs, of which the first has a number
+record AreRenamed (old new : List ℕ) (anew : NewValues) (i : ℕ) (vs ws : List Value) : Type 0 where
   count : length ws ≡ length vs
-  each : (k : ℕ) → k < length vs → meant_in new (value_at ws k) ≡ with_number (get_or ns k 0) (meant_in old (value_at vs k))
+  each : (k : ℕ) → k < length vs → meant_in new (value_at ws k) ≡ renewed_at anew (i + k) (meant_in old (value_at vs k))
 
-are_renamed : (old new : List ℕ) (cs : List Spec) (vs ws : List Value) (ns bytes : List ℕ) → PutsValues old cs vs ns bytes → map (meant_in new) ws ≡ renamed old vs ns → AreRenamed old new vs ws ns
-are_renamed old new [] [] [] [] bytes p e = record { count = refl; each = λ k lt. absurd (omega arith) }
-are_renamed old new [] [] (w ∷ ws) [] bytes p e = absurd (cc (e))
-are_renamed old new [] [] ws (n ∷ ns) bytes p e = absurd p
-are_renamed old new [] (v ∷ vs) ws ns bytes p e = absurd p
-are_renamed old new (c ∷ cs) [] ws ns bytes p e = absurd p
-are_renamed old new (c ∷ cs) (v ∷ vs) ws [] bytes p e = absurd p
-are_renamed old new (c ∷ cs) (v ∷ vs) [] (n ∷ ns) bytes p e = absurd (cc (e))
-are_renamed old new (c ∷ cs) (v ∷ vs) (w ∷ ws) (n ∷ ns) bytes (first, rest, x, p, g) e =
-    let here : meant_in new w ≡ with_number n (meant_in old v) = cc (e) in
-    let there : map (meant_in new) ws ≡ renamed old vs ns = cc (e) in
-    let more = are_renamed old new cs vs ws ns rest p there in
+are_renamed : (old new : List ℕ) (anew : NewValues) (i : ℕ) (vs ws : List Value) → map (meant_in new) ws ≡ renamed old anew i vs → AreRenamed old new anew i vs ws
+are_renamed old new anew i [] [] e = record { count = refl; each = λ k lt. absurd (omega arith) }
+are_renamed old new anew i [] (w ∷ ws) e = absurd (cc (e))
+are_renamed old new anew i (v ∷ vs) [] e = absurd (cc (e))
+are_renamed old new anew i (v ∷ vs) (w ∷ ws) e =
+    let here : meant_in new w ≡ renewed_at anew i (meant_in old v) = cc (e) in
+    let there : map (meant_in new) ws ≡ renamed old anew (suc i) vs = cc (e) in
+    let more = are_renamed old new anew (suc i) vs ws there in
     record { count = ap suc more.count; each = at here more.each }
   where
-    at : meant_in new w ≡ with_number n (meant_in old v) → ((k : ℕ) → k < length vs → meant_in new (value_at ws k) ≡ with_number (get_or ns k 0) (meant_in old (value_at vs k))) → (k : ℕ) → k < length (v ∷ vs) → meant_in new (value_at (w ∷ ws) k) ≡ with_number (get_or (n ∷ ns) k 0) (meant_in old (value_at (v ∷ vs) k))
-    at here there zero lt = here
-    at here there (suc k) lt = there k (omega arith)
+    at : meant_in new w ≡ renewed_at anew i (meant_in old v) → ((k : ℕ) → k < length vs → meant_in new (value_at ws k) ≡ renewed_at anew (suc i + k) (meant_in old (value_at vs k))) → (k : ℕ) → k < length (v ∷ vs) → meant_in new (value_at (w ∷ ws) k) ≡ renewed_at anew (i + k) (meant_in old (value_at (v ∷ vs) k))
+    at here there zero lt = here ∙ ap (λ (n : ℕ). renewed_at anew n (meant_in old v)) (sym (add-zero i))
+    at here there (suc k) lt =
+        let same : suc i + k ≡ i + suc k = omega arith in
+        there k (omega arith) ∙ ap (λ (n : ℕ). renewed_at anew n (meant_in old (value_at vs k))) same
 
 zip_push : {A B : Type 0} (R : A → B → Type 0) (xs : List A) (ys : List B) (x : A) (y : B) → AllZip R xs ys → R x y → AllZip R (xs ++ x ∷ []) (ys ++ y ∷ [])
 zip_push R [] [] x y a r = (r, tt)
@@ -85,19 +96,19 @@ zip_length R [] (b ∷ ys) a = absurd a
 zip_length R (c ∷ xs) [] a = absurd a
 zip_length R (c ∷ xs) (b ∷ ys) a = ap suc (zip_length R xs ys a.1)
 
--- what is listed of a new section is what is listed of the old one, with new numbers
-pub record IsMoved (numbers held old_section section : List ℕ) (old new : Listed) : Type 0 where
+-- what is listed of a new section is what is listed of the old one, with what is new
+pub record IsMoved (numbers : List ℕ) (anew : NewValues) (old_section section : List ℕ) (old new : Listed) : Type 0 where
   pub entries : AllZip (IsMovedEntry numbers) old.entries new.entries
   pub count : length new.values ≡ length old.values
-  pub values : (k : ℕ) → k < length old.values → meant_in section (value_at new.values k) ≡ with_number (get_or held k 0) (meant_in old_section (value_at old.values k))
+  pub values : (k : ℕ) → k < length old.values → meant_in section (value_at new.values k) ≡ renewed_at anew k (meant_in old_section (value_at old.values k))
   pub ends : AllZip IsMovedEnd old.ends new.ends
 
-pub nothing_moved : (numbers held old_section section : List ℕ) (from to : ℕ) → IsMoved numbers held old_section section (nothing_from from) (nothing_from to)
-nothing_moved numbers held old_section section from to = record { entries = tt; count = refl; values = λ k lt. absurd (omega arith); ends = tt }
+pub nothing_moved : (numbers : List ℕ) (anew : NewValues) (old_section section : List ℕ) (from to : ℕ) → IsMoved numbers anew old_section section (nothing_from from) (nothing_from to)
+nothing_moved numbers anew old_section section from to = record { entries = tt; count = refl; values = λ k lt. absurd (omega arith); ends = tt }
 
 -- more values behind those that are there
-values_more : (held old_section section : List ℕ) (olds news vs ws : List Value) → length news ≡ length olds → ((k : ℕ) → k < length olds → meant_in section (value_at news k) ≡ with_number (get_or held k 0) (meant_in old_section (value_at olds k))) → AreRenamed old_section section vs ws (take (length vs) (drop (length olds) held)) → (k : ℕ) → k < length (olds ++ vs) → meant_in section (value_at (news ++ ws) k) ≡ with_number (get_or held k 0) (meant_in old_section (value_at (olds ++ vs) k))
-values_more held old_section section olds news vs ws count before renamed k lt =
+values_more : (anew : NewValues) (old_section section : List ℕ) (olds news vs ws : List Value) → length news ≡ length olds → ((k : ℕ) → k < length olds → meant_in section (value_at news k) ≡ renewed_at anew k (meant_in old_section (value_at olds k))) → AreRenamed old_section section anew (length olds) vs ws → (k : ℕ) → k < length (olds ++ vs) → meant_in section (value_at (news ++ ws) k) ≡ renewed_at anew k (meant_in old_section (value_at (olds ++ vs) k))
+values_more anew old_section section olds news vs ws count before renamed k lt =
     elim (cases_lt k (length olds)) [
       | inl left ↦
           let there : k < length news = omega arith in
@@ -110,13 +121,23 @@ values_more held old_section section olds news vs ws count before renamed k lt =
           let b : k ≡ length news + j = omega arith in
           let new_at : value_at (news ++ ws) k ≡ value_at ws j = ap (value_at (news ++ ws)) b ∙ get_or-append-add news ws j _ in
           let old_at : value_at (olds ++ vs) k ≡ value_at vs j = ap (value_at (olds ++ vs)) a ∙ get_or-append-add olds vs j _ in
-          let number : get_or (take (length vs) (drop (length olds) held)) j 0 ≡ get_or held k 0 = get_or-take (length vs) (drop (length olds) held) j 0 inside ∙ get_or-drop (length olds) held j 0 ∙ ap (λ i. get_or held i 0) (sym a) in
-          ap (meant_in section) new_at ∙ renamed.each j inside ∙ ap (λ n. with_number n (meant_in old_section (value_at vs j))) number ∙ ap (λ v. with_number (get_or held k 0) (meant_in old_section v)) (sym old_at)
+          ap (meant_in section) new_at ∙ renamed.each j inside ∙ ap (λ n. renewed_at anew n (meant_in old_section (value_at vs j))) (sym a) ∙ ap (λ v. renewed_at anew k (meant_in old_section v)) (sym old_at)
     ]
 
-entry_sized : (table : Listing) (columns : List Spec) (numbers held : List ℕ) (f : Arena) (id : ℕ) (bytes : List ℕ) → PutsEntry table columns numbers held f id bytes → EntrySize table columns numbers f id (length bytes)
-entry_sized table columns numbers held f id bytes p =
-    (length p.rest, values_sized f.section (columns_of table columns (entry_at f.entries id).decl) (values_in f id) (numbers_in f held id) p.rest p.valued, ap length p.whole ∙ length-append p.code p.rest ∙ ap (λ n. n + length p.rest) p.shortest)
+-- the values of an entry are as many as it says
+pub count_in : (f : Arena) (id : ℕ) → (entry_at f.entries id).first + (entry_at f.entries id).count ≤ length f.values → length (values_in f id) ≡ (entry_at f.entries id).count
+count_in f id inside =
+    let rest : length (drop (entry_at f.entries id).first f.values) ≡ length f.values - (entry_at f.entries id).first = length-drop (entry_at f.entries id).first f.values in
+    length-take-le (entry_at f.entries id).count (drop (entry_at f.entries id).first f.values) (omega arith)
+
+entry_sized : (table : Listing) (columns : List Spec) (numbers : List ℕ) (anew : NewValues) (f : Arena) (id : ℕ) (bytes : List ℕ) → AreNew anew (length f.values) → (entry_at f.entries id).first + (entry_at f.entries id).count ≤ length f.values → PutsEntry table columns numbers anew f id bytes → EntrySize table columns numbers f (lens_of anew.ends) id (length bytes)
+entry_sized table columns numbers anew f id bytes new inside p =
+    let cs : List Spec = columns_of table columns (entry_at f.entries id).decl in
+    let first : ℕ = (entry_at f.entries id).first in
+    let count : length (values_in f id) ≡ (entry_at f.entries id).count = count_in f id inside in
+    let sized = values_sized f.section anew (length f.values) first cs (values_in f id) p.rest new (omega arith) p.valued in
+    let own = subst (λ (n : ℕ). HaveSize f.section cs (values_in f id) (take n (drop first (lens_of anew.ends))) (length p.rest)) count sized in
+    (length p.rest, own, ap length p.whole ∙ length-append p.code p.rest ∙ ap (λ n. n + length p.rest) p.shortest)
 
 zero_byte : Uleb 0 (0 ∷ [])
 zero_byte = ((leb_one 0 (omega arith), refl), omega arith)
@@ -125,9 +146,9 @@ no_entries : (entries : List Entry) → length entries ≡ 0 → entries ≡ []
 no_entries [] e = refl
 no_entries (x ∷ entries) e = absurd (omega arith)
 
-module _ (table : Listing) (columns : List Spec) (numbers held : List ℕ) (f : Arena) (ds : List Declared) (section : List ℕ) (renumbered : IsRenumbered table columns numbers ds) where
+module _ (table : Listing) (columns : List Spec) (numbers : List ℕ) (anew : NewValues) (f : Arena) (ds : List Declared) (section : List ℕ) (renumbered : IsRenumbered table columns numbers ds) (new_ones : AreNew anew (length f.values)) (valued : (id : ℕ) → id < length f.entries → (entry_at f.entries id).first + (entry_at f.entries id).count ≤ length f.values) where
   abbrev Moved : Listed → Listed → Type 0
-  Moved old new = IsMoved numbers held f.section section old new
+  Moved old new = IsMoved numbers anew f.section section old new
 
   abbrev number_of : ℕ → ℕ
   number_of number = get_or numbers number 0 - 1
@@ -146,7 +167,7 @@ module _ (table : Listing) (columns : List Spec) (numbers held : List ℕ) (f : 
     listed : next.values ≡ new.values ++ values
     short : (more : List Value) → StandsShort section ds (next.values ++ more) entry
 
-  entry_stands : (depth number id : ℕ) (old mid new : Listed) (to : ℕ) (bytes : List ℕ) → Moved old new → (adds : AddsEntry f.section (declarations_of table) depth number old mid) → entry_at f.entries id ≡ record { at = old.place; len = mid.place - old.place; depth = depth; decl = number; first = length old.values; count = length adds.values } → values_in f id ≡ adds.values → get_or numbers number 0 ≢ 0 → PutsEntry table columns numbers held f id bytes → new.place ≤ to → to ≤ length section → bytes_between section new.place to ≡ bytes → EntryStands depth number mid new to
+  entry_stands : (depth number id : ℕ) (old mid new : Listed) (to : ℕ) (bytes : List ℕ) → Moved old new → (adds : AddsEntry f.section (declarations_of table) depth number old mid) → entry_at f.entries id ≡ record { at = old.place; len = mid.place - old.place; depth = depth; decl = number; first = length old.values; count = length adds.values } → values_in f id ≡ adds.values → get_or numbers number 0 ≢ 0 → PutsEntry table columns numbers anew f id bytes → new.place ≤ to → to ≤ length section → bytes_between section new.place to ≡ bytes → EntryStands depth number mid new to
   entry_stands depth number id old mid new to bytes moved adds here values_are used p order inside whole =
       let e : Entry = record { at = old.place; len = mid.place - old.place; depth = depth; decl = number; first = length old.values; count = length adds.values } in
       let decl : (entry_at f.entries id).decl ≡ number = ap (λ (z : Entry). z.decl) here in
@@ -154,19 +175,19 @@ module _ (table : Listing) (columns : List Spec) (numbers held : List ℕ) (f : 
       let there = renumbered.each number known used in
       let cs : List Spec = columns_of table columns number in
       let vs : List Value = adds.values in
-      let ns : List ℕ = take (length vs) (drop (length old.values) held) in
-      let put : PutsValues f.section cs vs ns p.rest = values_as f.section f.section (columns_of table columns (entry_at f.entries id).decl) cs (values_in f id) vs (numbers_in f held id) ns p.rest refl (ap (columns_of table columns) decl) values_are (ap (λ (z : Entry). take z.count (drop z.first held)) here) p.valued in
+      let i : ℕ = length old.values in
+      let put : PutsValues f.section anew i cs vs p.rest = values_as f.section f.section anew (entry_at f.entries id).first i (columns_of table columns (entry_at f.entries id).decl) cs (values_in f id) vs p.rest refl (ap (λ (z : Entry). z.first) here) (ap (columns_of table columns) decl) values_are p.valued in
       let parts : bytes_between section new.place to ≡ p.code ++ p.rest = whole ∙ p.whole in
       let c = cut section new.place to p.code p.rest order inside parts in
       let before : c.mid ≤ to = c.before in
       let code : get_or numbers (entry_at f.entries id).decl 0 ≡ (declared_at ds (number_of number)).code = ap (λ (z : ℕ). get_or numbers z 0) decl ∙ sym (ap (λ (z : Declared). z.code) there.1) in
       let coded = subst (λ (z : List ℕ). Uleb ((declared_at ds (number_of number)).code) z) (sym c.first) (subst (λ (z : ℕ). Uleb z p.code) code p.coded) in
-      let v = values_found section cs (renamed f.section vs ns) c.mid to c.before inside (subst (λ (z : List ℕ). SpellsValues cs (renamed f.section vs ns) z) (sym c.second) (values_spelled f.section cs vs ns p.rest put)) in
-      let r = are_renamed f.section section cs vs v.values ns p.rest put v.means in
+      let v = values_found section cs (renamed f.section anew i vs) c.mid to c.before inside (subst (λ (z : List ℕ). SpellsValues cs (renamed f.section anew i vs) z) (sym c.second) (values_spelled f.section anew i cs vs p.rest put)) in
+      let r = are_renamed f.section section anew i vs v.values v.means in
       let code_len : length (bytes_between section new.place c.mid) ≡ least_unsigned_len ((declared_at ds (number_of number)).code) = ap length c.first ∙ p.shortest ∙ ap least_unsigned_len code in
       let code_short : SpellsBetween (ShortestUnsigned ((declared_at ds (number_of number)).code)) section new.place c.mid = record { order = c.after; inside = omega arith; spelled = (coded.0, code_len) } in
-      let put_there : PutsValues f.section cs vs ns (bytes_between section c.mid to) = subst (λ (z : List ℕ). PutsValues f.section cs vs ns z) (sym c.second) put in
-      let written : WrittenBetween section ((declared_at ds (number_of number)).columns) v.values c.mid to = subst (λ (z : List Spec). WrittenBetween section z v.values c.mid to) (sym (ap (λ (z : Declared). z.columns) there.1)) (values_short f.section section cs vs v.values ns c.mid to c.before inside put_there v.means) in
+      let put_there : PutsValues f.section anew i cs vs (bytes_between section c.mid to) = subst (λ (z : List ℕ). PutsValues f.section anew i cs vs z) (sym c.second) put in
+      let written : WrittenBetween section ((declared_at ds (number_of number)).columns) v.values c.mid to = subst (λ (z : List Spec). WrittenBetween section z v.values c.mid to) (sym (ap (λ (z : Declared). z.columns) there.1)) (values_short f.section section anew i cs vs v.values c.mid to c.before inside put_there v.means) in
       let entry : Entry = record { at = new.place; len = to - new.place; depth = depth; decl = number_of number; first = length new.values; count = length v.values } in
       let next : Listed = record { entries = new.entries ++ entry ∷ []; values = new.values ++ v.values; ends = new.ends; place = to } in
       record {
@@ -189,7 +210,7 @@ module _ (table : Listing) (columns : List Spec) (numbers held : List ℕ) (f : 
         moved = record {
           entries = subst (λ (z : List Entry). AllZip (IsMovedEntry numbers) z (new.entries ++ entry ∷ [])) (sym adds.entered) (zip_push (IsMovedEntry numbers) old.entries new.entries e entry moved.entries (record { depth = refl; decl = refl; first = moved.count; count = r.count }));
           count = length-append new.values v.values ∙ ap (λ n. n + length v.values) moved.count ∙ ap (λ n. length old.values + n) r.count ∙ sym (length-append old.values vs) ∙ sym (ap length adds.listed);
-          values = subst (λ (z : List Value). (k : ℕ) → k < length z → meant_in section (value_at (new.values ++ v.values) k) ≡ with_number (get_or held k 0) (meant_in f.section (value_at z k))) (sym adds.listed) (values_more held f.section section old.values new.values vs v.values moved.count moved.values r);
+          values = subst (λ (z : List Value). (k : ℕ) → k < length z → meant_in section (value_at (new.values ++ v.values) k) ≡ renewed_at anew k (meant_in f.section (value_at z k))) (sym adds.listed) (values_more anew f.section section old.values new.values vs v.values moved.count moved.values r);
           ends = subst (λ (z : List ChainEnd). AllZip IsMovedEnd z new.ends) (sym adds.ended) moved.ends;
         };
         values = v.values;
@@ -210,7 +231,7 @@ module _ (table : Listing) (columns : List Spec) (numbers held : List ℕ) (f : 
     pub entries_are : last.entries ≡ new.entries ++ entries
     pub values_are : last.values ≡ new.values ++ values
     pub ends_are : last.ends ≡ new.ends ++ ends
-    pub placed : ArePlaced (EntrySize table columns numbers f) id items new.place (map (λ (e : Entry). e.at) entries) (map (λ (e : ChainEnd). e.at) ends) to
+    pub placed : ArePlaced (EntrySize table columns numbers f (lens_of anew.ends)) id items new.place (map (λ (e : Entry). e.at) entries) (map (λ (e : ChainEnd). e.at) ends) to
     pub short : (k : ℕ) → k < length entries → StandsShort section ds last.values (entry_at entries k)
     pub ends_short : All (EndsShort section) ends
 
@@ -247,7 +268,7 @@ module _ (table : Listing) (columns : List Spec) (numbers held : List ℕ) (f : 
         ]
 
     -- after an entry
-    entry_anew : (number entries ends : ℕ) (rest done : List Item) (now new : Listed) (chains : List ℕ) (to mid : ℕ) (first : List ℕ) → (e : EntryIsNext f.section (declarations_of table) start (listed_to f place) entries ends done now chains (AnEntry number ∷ rest)) → Moved now new → (s : EntryStands (length chains) e.number e.mid new mid) → PutsEntry table columns numbers held f entries first → mid ≡ new.place + length first → length now.entries ≡ entries → StandAnew (suc entries) rest s.next (opened (declarations_of table) e.number entries chains) to (listed_to f place) → StandAnew entries (AnEntry number ∷ rest) new chains to (listed_to f place)
+    entry_anew : (number entries ends : ℕ) (rest done : List Item) (now new : Listed) (chains : List ℕ) (to mid : ℕ) (first : List ℕ) → (e : EntryIsNext f.section (declarations_of table) start (listed_to f place) entries ends done now chains (AnEntry number ∷ rest)) → Moved now new → (s : EntryStands (length chains) e.number e.mid new mid) → PutsEntry table columns numbers anew f entries first → mid ≡ new.place + length first → length now.entries ≡ entries → StandAnew (suc entries) rest s.next (opened (declarations_of table) e.number entries chains) to (listed_to f place) → StandAnew entries (AnEntry number ∷ rest) new chains to (listed_to f place)
     entry_anew number entries ends rest done now new chains to mid first e moved s p size few r =
         let known : e.number < length table.decls = subst (λ (z : ℕ). e.number < z) (length-map table.decls (declared_in table.specs)) e.adds.known in
         let decl : (entry_at f.entries entries).decl ≡ e.number = ap (λ (z : Entry). z.decl) e.here in
@@ -269,11 +290,11 @@ module _ (table : Listing) (columns : List Spec) (numbers held : List ℕ) (f : 
           ends_are = r.ends_are ∙ ap (λ (z : List ChainEnd). z ++ r.ends) s.ended;
           short = first_short section ds r.last.values s.entry r.entries (subst (λ (z : List Value). StandsShort section ds z s.entry) (sym r.values_are) (s.short r.values)) r.short;
           ends_short = r.ends_short;
-          placed = (s.at, (length first, entry_sized table columns numbers held f entries first p, subst (λ (z : ℕ). ArePlaced (EntrySize table columns numbers f) (suc entries) rest z (map (λ (e : Entry). e.at) r.entries) (map (λ (e : ChainEnd). e.at) r.ends) to) there r.placed));
+          placed = (s.at, (length first, entry_sized table columns numbers anew f entries first new_ones (valued entries e.inside) p, subst (λ (z : ℕ). ArePlaced (EntrySize table columns numbers f (lens_of anew.ends)) (suc entries) rest z (map (λ (e : Entry). e.at) r.entries) (map (λ (e : ChainEnd). e.at) r.ends) to) there r.placed));
         }
 
     -- the items of the rest of a walk
-    pub stand_anew : (rest done : List Item) (now new : Listed) (chains : List ℕ) (entries ends to : ℕ) (bytes : List ℕ) → HasCome entries ends done now chains rest → Moved now new → PutsItems (PutsEntry table columns numbers held f) entries rest bytes → new.place ≤ to → to ≤ length section → bytes_between section new.place to ≡ bytes → StandAnew entries rest new chains to (listed_to f place)
+    pub stand_anew : (rest done : List Item) (now new : Listed) (chains : List ℕ) (entries ends to : ℕ) (bytes : List ℕ) → HasCome entries ends done now chains rest → Moved now new → PutsItems (PutsEntry table columns numbers anew f) entries rest bytes → new.place ≤ to → to ≤ length section → bytes_between section new.place to ≡ bytes → StandAnew entries rest new chains to (listed_to f place)
     stand_anew [] done now new chains entries ends to bytes h moved put order inside whole =
         let size : to - new.place ≡ 0 = sym (length_between section new.place to inside) ∙ ap length whole ∙ ap length put in
         let same : new.place ≡ to = omega arith in
@@ -326,7 +347,7 @@ module _ (table : Listing) (columns : List Spec) (numbers held : List ℕ) (f : 
         let onward : Moved e.mid next = record {
           entries = subst (λ (z : List Entry). AllZip (IsMovedEntry numbers) z new.entries) (sym e.adds.entered) moved.entries;
           count = moved.count ∙ sym (ap length e.adds.listed);
-          values = subst (λ (z : List Value). (k : ℕ) → k < length z → meant_in section (value_at new.values k) ≡ with_number (get_or held k 0) (meant_in f.section (value_at z k))) (sym e.adds.listed) moved.values;
+          values = subst (λ (z : List Value). (k : ℕ) → k < length z → meant_in section (value_at new.values k) ≡ renewed_at anew k (meant_in f.section (value_at z k))) (sym e.adds.listed) moved.values;
           ends = subst (λ (z : List ChainEnd). AllZip IsMovedEnd z (new.ends ++ end ∷ [])) (sym e.adds.ended) (zip_push IsMovedEnd now.ends new.ends (record { entry = e.parent; at = now.place }) end moved.ends refl);
         } in
         let come = subst (λ (z : List Item). HasCome entries (ends + 1) (done ++ AnEnd ∷ []) e.mid e.outer z) same e.next in
@@ -346,5 +367,5 @@ module _ (table : Listing) (columns : List Spec) (numbers held : List ℕ) (f : 
           ends_are = r.ends_are ∙ joined;
           short = r.short;
           ends_short = All-cons (EndsShort section) end r.ends (end_short section e.parent new.place c.mid one adds.coded) r.ends_short;
-          placed = (refl, subst (λ (z : ℕ). ArePlaced (EntrySize table columns numbers f) entries rest z (map (λ (e : Entry). e.at) r.entries) (map (λ (e : ChainEnd). e.at) r.ends) to) one r.placed);
+          placed = (refl, subst (λ (z : ℕ). ArePlaced (EntrySize table columns numbers f (lens_of anew.ends)) entries rest z (map (λ (e : Entry). e.at) r.entries) (map (λ (e : ChainEnd). e.at) r.ends) to) one r.placed);
         }

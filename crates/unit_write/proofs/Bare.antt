@@ -8,43 +8,46 @@ use Rattle.form_codec.specs.declared.value.Value.{Value}
 use Rattle.abbrev_tables.specs.declared.decl.Spec.{Spec}
 use Rattle.abbrev_tables.specs.Listings.{Listing, decl_at}
 use Rattle.entry_arena.specs.declared.entry.Entry.{Entry}
-use Rattle.entry_arena.specs.Arena.{entry_at}
+use Rattle.entry_arena.specs.Arena.{Arena, entry_at}
 use Rattle.entry_arena.specs.Trees.{ValuesBetween, declared_at}
 use Rattle.entry_read.specs.Heads.{IsHead}
 use Rattle.entry_read.specs.Units.{HeadAndForest, declarations_of, IsUnitHeld}
 use Rattle.entry_read.proofs.Declarations.{declared_is}
 use Rattle.entry_read.proofs.PlaceLaws.{entry_stands}
+use Rattle.unit_write.specs.NewExpressions.{AreEndsFor}
 use Rattle.unit_write.specs.Values.{HaveSize}
 use Rattle.unit_write.specs.Placing.{columns_of, values_in, EntrySize}
 use Rattle.unit_write.specs.Moved.{IsWritable}
 use Rattle.unit_write.proofs.Standing.{entry_declared}
 
-no_part : (specs : List Spec) (first count : ℕ) → specs ≡ [] → take count (drop first specs) ≡ []
-no_part specs first count e = ap (λ (z : List Spec). take count (drop first z)) e ∙ ap (λ (z : List Spec). take count z) (drop-nil first) ∙ take-nil count
+none_of : {A : Type 0} (items : List A) (first count : ℕ) → items ≡ [] → take count (drop first items) ≡ []
+none_of items first count e = ap (λ z. take count (drop first z)) e ∙ ap (take count) (drop-nil first) ∙ take-nil count
 
 none_valued : (section : List ℕ) (columns : List Spec) (values : List Value) (from to : ℕ) → columns ≡ [] → ValuesBetween section columns values from to → values ≡ []
 none_valued section [] [] from to e p = refl
 none_valued section [] (v ∷ values) from to e p = absurd p
 none_valued section (c ∷ columns) values from to e p = absurd (let long : length (c ∷ columns) ≡ 0 = ap length e in omega arith)
 
-module _ (unit : HeadAndForest) (table : Listing) (columns : List Spec) (numbers : List ℕ) (held : IsUnitHeld unit.forest.section unit.head (declarations_of table) unit.forest) (bare : table.specs ≡ []) (none : columns ≡ []) (numbered : length numbers ≡ length table.decls) where
+module _ (unit : HeadAndForest) (table : Listing) (columns : List Spec) (numbers lens : List ℕ) (held : IsUnitHeld unit.forest.section unit.head (declarations_of table) unit.forest) (bare : table.specs ≡ []) (none : columns ≡ []) (no_lens : lens ≡ []) (numbered : length numbers ≡ length table.decls) where
   no_values : (id : ℕ) → id < length unit.forest.entries → values_in unit.forest id ≡ []
   no_values id inside =
       let e : Entry = entry_at unit.forest.entries id in
       let s = entry_stands unit.forest.section unit.head (declarations_of table) unit.forest refl held id inside in
-      let own : (declared_at (declarations_of table) e.decl).columns ≡ [] = ap (λ z. z.columns) (declared_is table e.decl (entry_declared unit table held id inside)) ∙ no_part table.specs (decl_at table.decls e.decl).first (decl_at table.decls e.decl).count bare in
+      let own : (declared_at (declarations_of table) e.decl).columns ≡ [] = ap (λ z. z.columns) (declared_is table e.decl (entry_declared unit table held id inside)) ∙ none_of table.specs (decl_at table.decls e.decl).first (decl_at table.decls e.decl).count bare in
       none_valued unit.forest.section ((declared_at (declarations_of table) e.decl).columns) (values_in unit.forest id) s.values_at (e.at + e.len) own s.valued
 
-  sized : (id : ℕ) → id < length unit.forest.entries → (size : ℕ) × EntrySize table columns numbers unit.forest id size
+  sized : (id : ℕ) → id < length unit.forest.entries → (size : ℕ) × EntrySize table columns numbers unit.forest lens id size
   sized id inside =
-      let decl = (entry_at unit.forest.entries id).decl in
-      let own : columns_of table columns decl ≡ [] = no_part columns (decl_at table.decls decl).first (decl_at table.decls decl).count none in
-      let empty : HaveSize unit.forest.section [] [] 0 = refl in
-      let valued = subst (λ (z : List Value). HaveSize unit.forest.section [] z 0) (sym (no_values id inside)) empty in
-      let both = subst (λ (z : List Spec). HaveSize unit.forest.section z (values_in unit.forest id) 0) (sym own) valued in
-      (least_unsigned_len (slice_index numbers decl) + 0, (0, both, refl))
+      let e : Entry = entry_at unit.forest.entries id in
+      let own : columns_of table columns e.decl ≡ [] = none_of columns (decl_at table.decls e.decl).first (decl_at table.decls e.decl).count none in
+      let few : take e.count (drop e.first lens) ≡ [] = none_of lens e.first e.count no_lens in
+      let empty : HaveSize unit.forest.section [] [] [] 0 = refl in
+      let long = subst (λ (z : List ℕ). HaveSize unit.forest.section [] [] z 0) (sym few) empty in
+      let valued = subst (λ (z : List Value). HaveSize unit.forest.section [] z (take e.count (drop e.first lens)) 0) (sym (no_values id inside)) long in
+      let both = subst (λ (z : List Spec). HaveSize unit.forest.section z (values_in unit.forest id) (take e.count (drop e.first lens)) 0) (sym own) valued in
+      (least_unsigned_len (slice_index numbers e.decl) + 0, (0, both, refl))
 
-  pub bare_writable : IsHead unit.forest.section unit.head → length columns ≡ length table.specs → All (λ (number : ℕ). number ≢ 0) numbers → IsWritable unit table columns numbers
+  pub bare_writable : IsHead unit.forest.section unit.head → length columns ≡ length table.specs → All (λ (number : ℕ). number ≢ 0) numbers → IsWritable unit table columns numbers lens
   bare_writable head renewed used = record {
     head = head;
     held = held;
@@ -54,3 +57,13 @@ module _ (unit : HeadAndForest) (table : Listing) (columns : List Spec) (numbers
     used = λ id inside. used (entry_at unit.forest.entries id).decl 0 (let known : (entry_at unit.forest.entries id).decl < length table.decls = entry_declared unit table held id inside in omega arith);
     sized = sized;
   }
+
+-- where no value is held no expression is
+pub no_ends : (f : Arena) (ends : List ℕ) → ends ≡ [] → length f.values ≡ 0 → AreEndsFor f ends
+no_ends f ends is none =
+    let empty : length ends ≡ 0 = ap length is in
+    record {
+      rise = record { each = empty ∙ sym none; rising = λ k lt. absurd (omega arith); inside = λ k lt. absurd (omega arith) };
+      few = λ k span at. absurd (let lt : k < length f.values = at.inside in omega arith);
+      none = λ k lt other. absurd (omega arith);
+    }

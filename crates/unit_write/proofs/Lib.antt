@@ -1,8 +1,11 @@
 pub mod Bare
 pub mod ValueLaws
+pub mod EndLaws
 pub mod Placed
 pub mod PlacingUnit
 pub mod MostLaws
+pub mod FewLaws
+pub mod ExprLaws
 pub mod Sizing
 pub mod Standing
 pub mod Stepping

@@ -1,11 +1,13 @@
 -- What is written of a value, and of an entry, has few bytes more than what was read of it.
-use Rattle.std.proofs.Common.{◌≡◌, ◌≤◌, ◌<◌, ◌+◌, ◌-◌, ◌*◌, ◌^◌, ℕ, List, [], ◌∷◌, ◌++◌, length, Bool, true, false, ◌∙◌, ap, refl, subst, arith, inl, inr}
+use Rattle.std.proofs.Common.{◌≡◌, ◌≤◌, ◌<◌, ◌+◌, ◌-◌, ◌*◌, ◌^◌, ℕ, List, [], ◌∷◌, ◌++◌, length, Bool, true, false, suc, take, drop, get_or, ◌∙◌, sym, ap, refl, subst, arith, inl, inr}
 use Rattle.std.specs.Prelude.{ℤ, pos, negsuc, nat_le, if◌then◌else◌, slice_index, FitsSigned}
 use Rattle.std.specs.Int.{w64}
+use Prim.Native.Nat.{min}
 use Rattle.std.proofs.lemmas.Int.{ints}
-use Rattle.std.proofs.lemmas.List.{length-append}
+use Rattle.std.proofs.lemmas.List.{length-append, length-take, length-drop, get_or-take, get_or-drop}
+use Rattle.dw_base.specs.declared.fault.Span.{Span}
 use Rattle.spelled.specs.Spelled.{AreBytes}
-use Rattle.spelled.proofs.Parts.{bytes_append, bytes_after}
+use Rattle.spelled.proofs.Parts.{bytes_append, bytes_after, length_part}
 use Rattle.leb_codec.specs.Leb.{least_unsigned_len, least_signed_len}
 use Rattle.leb_codec.proofs.Lens.{unsigned_lens, signed_lens}
 use Rattle.leb_codec.proofs.SpellingLaws.{unsigned_spellings, signed_spellings}
@@ -18,20 +20,24 @@ use Rattle.form_codec.specs.declared.form.Content.TheVariants as content
 use Rattle.form_codec.specs.declared.form.Width.{Width}
 use Rattle.form_codec.specs.declared.form.Width.TheVariants.{One, Two, Three, Four, Eight}
 use Rattle.form_codec.specs.declared.value.Value.{Value}
+use Rattle.form_codec.specs.declared.value.Value.TheVariants as value
 use Rattle.fixed_width.specs.Numbers.{number}
 use Rattle.form_codec.specs.Forms.{Meaning, SpellsShape, SpellsValue, IsUlebCounted, shape_of, size_of, in_role, of_content}
 use Rattle.form_codec.specs.Forms.Meaning.{Bits, Whole, SixteenBytes, Data, Expression, Text, InUnit, InSection, SectionPlace}
-use Rattle.form_codec.specs.Values.{meant_in}
+use Rattle.form_codec.specs.Values.{bytes_in, meant_in, IsPlaced}
 use Rattle.abbrev_tables.specs.declared.decl.Spec.{Spec}
 use Rattle.abbrev_tables.specs.Tables.{Declared}
 use Rattle.abbrev_tables.specs.Listings.{Listing}
-use Rattle.entry_arena.specs.Arena.{Arena, entry_at}
-use Rattle.entry_arena.specs.Trees.{Listed, AddsEntry, ValuesBetween, bytes_between, declared_at}
+use Rattle.entry_arena.specs.Arena.{Arena, entry_at, value_at}
+use Rattle.entry_arena.specs.Trees.{Listed, AddsEntry, SpellsBetween, ValuesBetween, bytes_between, declared_at}
 use Rattle.entry_arena.proofs.Between.{length_between}
 use Rattle.entry_arena.proofs.StepLaws.{code_rises}
 use Rattle.entry_read.specs.Short.{IsWritten}
-use Rattle.unit_write.specs.Values.{with_number, HasSize, HaveSize}
-use Rattle.unit_write.specs.Placing.{columns_of, values_in, EntrySize}
+use Rattle.entry_read.specs.Expressions.{IsExprAt}
+use Rattle.unit_write.specs.Values.{renewed, HasSize, HaveSize}
+use Rattle.unit_write.specs.Placing.{columns_of, values_in, among_values, EntrySize}
+use Rattle.unit_write.specs.inside.Puts.{is_expr}
+use Rattle.unit_write.proofs.ValueLaws.{is_made}
 
 -- the bytes that a value has whatever its form
 abbrev pub own_len : Meaning → ℕ
@@ -74,12 +80,13 @@ spelled_len ZeroEnded m bytes p =
     let whole : length bytes ≡ length p.text + 1 = ap length p.whole ∙ length-append p.text (0 ∷ []) in
     omega arith
 
--- another number doesn't change them
-renumbered_len : (n : ℕ) (m : Meaning) → own_len (with_number n m) ≡ own_len m
-renumbered_len n (InUnit k) = refl
-renumbered_len n (InSection k) = refl
-renumbered_len n (SectionPlace k) = refl
-renumbered_len n m = refl
+-- of what is no expression nothing new changes them
+renewed_len : (n : ℕ) (made : List ℕ) (m : Meaning) → is_expr m ≡ false → own_len (renewed n made m) ≡ own_len m
+renewed_len n made (InUnit k) other = refl
+renewed_len n made (InSection k) other = refl
+renewed_len n made (SectionPlace k) other = refl
+renewed_len n made (Expression bytes) other = absurd (cc (other))
+renewed_len n made m other = refl
 
 small_width : (w : Width) → size_of w ≤ 8
 small_width One = omega arith
@@ -152,34 +159,81 @@ written_len column m bytes (s, inr (other, shortest)) =
     let t = shortest.spelled in
     shortest_len (shape_of t.form shortest.constant) m bytes t.small t.spelled (λ others small p. shortest.shortest shortest.constant others (record { form = t.form; known = t.known; small = small; spelled = p }))
 
--- at most ten bytes more than any bytes that spell it
-pub value_most : (column : Spec) (m : Meaning) (size code : ℕ) (constant : ℤ) (old : List ℕ) → HasSize column m size → SpellsValue code constant m old → size ≤ length old + 10
-value_most column m size code constant old (n, bytes, written, e) s =
-    let new : length bytes ≤ own_len (with_number n m) + 10 = written_len column (with_number n m) bytes written in
-    let same : own_len (with_number n m) ≡ own_len m = renumbered_len n m in
+-- an expression
+expr_most : (column : Spec) (meaning : Meaning) (len size : ℕ) → is_expr meaning ≡ true → HasSize column meaning len size → size ≤ len + 10
+expr_most column meaning len size expr h =
+    let same : renewed h.number h.made meaning ≡ Expression h.made = is_made h.number h.made meaning expr in
+    let new : length h.bytes ≤ own_len (Expression h.made) + 10 = written_len column (Expression h.made) h.bytes (subst (λ (z : Meaning). IsWritten column z h.bytes) same h.written) in
+    omega (arith, h.is, h.long)
+
+-- and what isn't one, which has at most ten bytes more than any bytes that spell it
+other_most : (column : Spec) (m : Meaning) (len size code : ℕ) (constant : ℤ) (old : List ℕ) → is_expr m ≡ false → HasSize column m len size → SpellsValue code constant m old → size ≤ length old + 10
+other_most column m len size code constant old other h s =
+    let new : length h.bytes ≤ own_len (renewed h.number h.made m) + 10 = written_len column (renewed h.number h.made m) h.bytes h.written in
+    let same : own_len (renewed h.number h.made m) ≡ own_len m = renewed_len h.number h.made m other in
     let held : own_len m ≤ length old = spelled_len (shape_of s.form constant) m old s.spelled in
-    omega (arith, e)
+    omega (arith, h.is)
+
+-- an expression gets at most three times its bytes
+abbrev IsFewOf : Value → ℕ → Type 0
+IsFewOf v len = (span : Span) → v ≡ value.Expr span → len ≤ 3 * span.len
+
+-- at most three times the bytes of a value that stands in a section, and ten more
+value_most : (section : List ℕ) (column : Spec) (v : Value) (len size code : ℕ) (constant : ℤ) (from to : ℕ) → IsFewOf v len → HasSize column (meant_in section v) len size → SpellsBetween (SpellsValue code constant (meant_in section v)) section from to → IsPlaced v from to → size + 3 * from ≤ 3 * to + 10
+value_most section column (value.Expr span) len size code constant from to few h spelled placed =
+    let most : size ≤ len + 10 = expr_most column (Expression (bytes_in section span)) len size refl h in
+    let three : len ≤ 3 * span.len = few span refl in
+    let held : length (bytes_in section span) ≤ length (bytes_between section from to) = spelled_len (shape_of spelled.spelled.form constant) (Expression (bytes_in section span)) (bytes_between section from to) spelled.spelled.spelled in
+    let old : length (bytes_between section from to) ≡ to - from = length_between section from to spelled.inside in
+    let end : span.at + span.len ≡ to = placed in
+    let inside : to ≤ length section = spelled.inside in
+    let own : length (bytes_in section span) ≡ span.len = length_part span.at span.len section (omega arith) in
+    let order : from ≤ to = spelled.order in
+    omega arith
+value_most section column v len size code constant from to few h spelled placed =
+    let most : size ≤ length (bytes_between section from to) + 10 = other_most column (meant_in section v) len size code constant (bytes_between section from to) refl h spelled.spelled in
+    let old : length (bytes_between section from to) ≡ to - from = length_between section from to spelled.inside in
+    let order : from ≤ to = spelled.order in
+    omega arith
 
 -- and so for values that stand in a section
-pub values_most : (section : List ℕ) (cs ds : List Spec) (vs : List Value) (size from to : ℕ) → HaveSize section cs vs size → ValuesBetween section ds vs from to → from + size ≤ to + 10 * length vs
-values_most section [] [] [] size from to p q = omega (arith, p, q)
-values_most section [] (d ∷ ds) [] size from to p q = absurd q
-values_most section [] ds (v ∷ vs) size from to p q = absurd p
-values_most section (c ∷ cs) ds [] size from to p q = absurd p
-values_most section (c ∷ cs) [] (v ∷ vs) size from to p q = absurd q
-values_most section (c ∷ cs) (d ∷ ds) (v ∷ vs) size from to (first, rest, has, have, sum) (next, spelled, placed, more) =
-    let here : first ≤ length (bytes_between section from next) + 10 = value_most c (meant_in section v) first d.form d.constant (bytes_between section from next) has spelled.spelled in
-    let len : length (bytes_between section from next) ≡ next - from = length_between section from next spelled.inside in
-    let order : from ≤ next = spelled.order in
-    let others : next + rest ≤ to + 10 * length vs = values_most section cs ds vs rest next to have more in
+pub values_most : (section : List ℕ) (cs ds : List Spec) (vs : List Value) (lens : List ℕ) (size from to : ℕ) → ((k : ℕ) → k < length vs → IsFewOf (value_at vs k) (get_or lens k 0)) → HaveSize section cs vs lens size → ValuesBetween section ds vs from to → size + 3 * from ≤ 3 * to + 10 * length vs
+values_most section [] [] [] [] size from to few p q = omega (arith, p, q)
+values_most section [] [] [] (n ∷ lens) size from to few p q = absurd p
+values_most section [] (d ∷ ds) [] lens size from to few p q = absurd q
+values_most section [] ds (v ∷ vs) lens size from to few p q = absurd p
+values_most section (c ∷ cs) ds [] lens size from to few p q = absurd p
+values_most section (c ∷ cs) [] (v ∷ vs) lens size from to few p q = absurd q
+values_most section (c ∷ cs) ds (v ∷ vs) [] size from to few p q = absurd p
+values_most section (c ∷ cs) (d ∷ ds) (v ∷ vs) (n ∷ lens) size from to few (first, rest, has, have, sum) (next, spelled, placed, more) =
+    let here : first + 3 * from ≤ 3 * next + 10 = value_most section c v n first d.form d.constant from next (few 0 (omega arith)) has spelled placed in
+    let others : rest + 3 * next ≤ 3 * to + 10 * length vs = values_most section cs ds vs lens rest next to (λ k lt. few (suc k) (omega arith)) have more in
     omega (arith, sum)
 
--- an entry takes at most four bytes more, and ten for each value, where its new code has no more than five
-pub entry_most : (f : Arena) (table : Listing) (columns : List Spec) (numbers : List ℕ) (ds : List Declared) (depth number id size : ℕ) (now mid : Listed) → least_unsigned_len (slice_index numbers (entry_at f.entries id).decl) ≤ 5 → (adds : AddsEntry f.section ds depth number now mid) → values_in f id ≡ adds.values → EntrySize table columns numbers f id size → now.place + size ≤ mid.place + 4 + 10 * length adds.values
-entry_most f table columns numbers ds depth number id size now mid five adds same sized =
+-- each expression of a unit gets at most three times its bytes
+abbrev pub AreFew : Arena → List ℕ → Type 0
+AreFew f lens = (k : ℕ) (span : Span) → IsExprAt f k span → get_or lens k 0 ≤ 3 * span.len
+
+-- so does each of an entry
+few_in : (f : Arena) (lens : List ℕ) (first count k : ℕ) → AreFew f lens → k < length (take count (drop first f.values)) → IsFewOf (value_at (take count (drop first f.values)) k) (get_or (take count (drop first lens)) k 0)
+few_in f lens first count k few lt = λ span is.
+    let part : length (take count (drop first f.values)) ≡ min count (length (drop first f.values)) = length-take count (drop first f.values) in
+    let rest : length (drop first f.values) ≡ length f.values - first = length-drop first f.values in
+    let own : k < count = omega arith in
+    let inside : first + k < length f.values = omega arith in
+    let there : value_at (take count (drop first f.values)) k ≡ value_at f.values (first + k) = get_or-take count (drop first f.values) k _ own ∙ get_or-drop first f.values k _ in
+    let len : get_or (take count (drop first lens)) k 0 ≡ get_or lens (first + k) 0 = get_or-take count (drop first lens) k 0 own ∙ get_or-drop first lens k 0 in
+    let most : get_or lens (first + k) 0 ≤ 3 * span.len = few (first + k) span (record { inside = inside; is = sym there ∙ is }) in
+    omega arith
+
+-- an entry takes at most three times its bytes, four more, and ten for each value, where its new code has no more than five
+pub entry_most : (f : Arena) (table : Listing) (columns : List Spec) (numbers lens : List ℕ) (ds : List Declared) (depth number id size : ℕ) (now mid : Listed) → AreFew f lens → least_unsigned_len (slice_index numbers (entry_at f.entries id).decl) ≤ 5 → (adds : AddsEntry f.section ds depth number now mid) → values_in f id ≡ adds.values → EntrySize table columns numbers f lens id size → size + 3 * now.place ≤ 3 * mid.place + 4 + 10 * length adds.values
+entry_most f table columns numbers lens ds depth number id size now mid few five adds same sized =
     let cs : List Spec = columns_of table columns (entry_at f.entries id).decl in
-    let valued = subst (λ (z : List Value). HaveSize f.section cs z sized.0) same sized.1 in
-    let rest : adds.values_at + sized.0 ≤ mid.place + 10 * length adds.values = values_most f.section cs ((declared_at ds number).columns) adds.values sized.0 adds.values_at mid.place valued adds.valued in
+    let own : List ℕ = among_values f lens id in
+    let valued = subst (λ (z : List Value). HaveSize f.section cs z own sized.0) same sized.1 in
+    let each = subst (λ (z : List Value). (k : ℕ) → k < length z → IsFewOf (value_at z k) (get_or own k 0)) same (λ k lt. few_in f lens (entry_at f.entries id).first (entry_at f.entries id).count k few lt) in
+    let rest : sized.0 + 3 * adds.values_at ≤ 3 * mid.place + 10 * length adds.values = values_most f.section cs ((declared_at ds number).columns) adds.values own sized.0 adds.values_at mid.place each valued adds.valued in
     let code : now.place < adds.values_at = code_rises f.section ((declared_at ds number).code) now.place adds.values_at adds.coded in
     let sum = sized.2 in
     omega (arith, five, sum)

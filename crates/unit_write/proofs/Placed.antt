@@ -8,7 +8,7 @@ use Rattle.entry_arena.specs.Arena.{Arena, entry_at}
 use Rattle.entry_arena.specs.Walks.{Item}
 use Rattle.entry_arena.specs.Walks.Item.{AnEntry, AnEnd}
 use Rattle.unit_write.specs.Values.{HaveSize, OneSize}
-use Rattle.unit_write.specs.Placing.{columns_of, values_in, EntrySize, ArePlaced, OnePlacing}
+use Rattle.unit_write.specs.Placing.{columns_of, values_in, among_values, EntrySize, ArePlaced, OnePlacing}
 
 module _ (Size : ℕ → ℕ → Type 0) where
   pub placed_entry : (id at : ℕ) (items : List Item) (entries ends : List ℕ) (to number size : ℕ) → ArePlaced Size id items at entries ends to → Size (id + length entries) size → ArePlaced Size id (items ++ AnEntry number ∷ []) at (entries ++ to ∷ []) ends (to + size)
@@ -61,25 +61,27 @@ module _ (Size : ℕ → ℕ → Type 0) where
       (more.0, cc, more.2)
 
 -- values have one size together
-have_one_size : OneSize → (section : List ℕ) (columns : List Spec) (values : List Value) (m n : ℕ) → HaveSize section columns values m → HaveSize section columns values n → m ≡ n
-have_one_size one section [] [] m n p q = p ∙ sym q
-have_one_size one section [] (v ∷ values) m n p q = absurd p
-have_one_size one section (c ∷ columns) [] m n p q = absurd p
-have_one_size one section (c ∷ columns) (v ∷ values) m n p q =
-    let first : p.0 ≡ q.0 = one c (meant_in section v) p.0 q.0 p.2 q.2 in
-    let rest : p.1 ≡ q.1 = have_one_size one section columns values p.1 q.1 p.3 q.3 in
+have_one_size : OneSize → (section : List ℕ) (columns : List Spec) (values : List Value) (lens : List ℕ) (m n : ℕ) → HaveSize section columns values lens m → HaveSize section columns values lens n → m ≡ n
+have_one_size one section [] [] [] m n p q = p ∙ sym q
+have_one_size one section [] [] (l ∷ lens) m n p q = absurd p
+have_one_size one section [] (v ∷ values) lens m n p q = absurd p
+have_one_size one section (c ∷ columns) [] lens m n p q = absurd p
+have_one_size one section (c ∷ columns) (v ∷ values) [] m n p q = absurd p
+have_one_size one section (c ∷ columns) (v ∷ values) (l ∷ lens) m n p q =
+    let first : p.0 ≡ q.0 = one c (meant_in section v) l p.0 q.0 p.2 q.2 in
+    let rest : p.1 ≡ q.1 = have_one_size one section columns values lens p.1 q.1 p.3 q.3 in
     let here : m ≡ p.0 + p.1 = p.4 in
     let there : n ≡ q.0 + q.1 = q.4 in
     omega arith
 
-entry_one_size : OneSize → (table : Listing) (columns : List Spec) (numbers : List ℕ) (f : Arena) (id m n : ℕ) → EntrySize table columns numbers f id m → EntrySize table columns numbers f id n → m ≡ n
-entry_one_size one table columns numbers f id m n p q =
-    let rest : p.0 ≡ q.0 = have_one_size one f.section (columns_of table columns (entry_at f.entries id).decl) (values_in f id) p.0 q.0 p.1 q.1 in
+entry_one_size : OneSize → (table : Listing) (columns : List Spec) (numbers : List ℕ) (f : Arena) (lens : List ℕ) (id m n : ℕ) → EntrySize table columns numbers f lens id m → EntrySize table columns numbers f lens id n → m ≡ n
+entry_one_size one table columns numbers f lens id m n p q =
+    let rest : p.0 ≡ q.0 = have_one_size one f.section (columns_of table columns (entry_at f.entries id).decl) (values_in f id) (among_values f lens id) p.0 q.0 p.1 q.1 in
     let here = p.2 in
     let there = q.2 in
     omega (arith, here, there)
 
 -- the law, from that of values
 pub one_placing : OneSize → OnePlacing
-one_placing one table columns numbers f id at items entries others ends other_ends to other p q =
-    placed_once (EntrySize table columns numbers f) (entry_one_size one table columns numbers f) id at items entries others ends other_ends to other p q
+one_placing one table columns numbers f lens id at items entries others ends other_ends to other p q =
+    placed_once (EntrySize table columns numbers f lens) (entry_one_size one table columns numbers f lens) id at items entries others ends other_ends to other p q

@@ -25,18 +25,18 @@ use Rattle.unit_write.specs.inside.Most.{HasRoom}
 use Rattle.unit_write.specs.Placing.{EntrySize, ArePlaced}
 use Rattle.unit_write.specs.Moved.{IsWritable, IsPlacedAt}
 use Rattle.unit_write.specs.inside.Readings.{IsNext, HasItem, PutsItem}
-use Rattle.unit_write.proofs.MostLaws.{entry_most}
+use Rattle.unit_write.proofs.MostLaws.{AreFew, entry_most}
 use Rattle.unit_write.proofs.Placed.{placed_entry, placed_end}
 use Rattle.unit_write.proofs.Standing.{whole_walk}
 use Rattle.unit_write.proofs.ValueLaws.{five_bytes}
 
--- what is placed of a front of the unit's walk takes at most four bytes more for each entry, and ten for each value
+-- what is placed of a front of the unit's walk takes at most three times its bytes, four more for each entry, and ten for each value
 abbrev pub IsAtMost : HeadAndForest → ℕ → Listed → ℕ → Type 0
 IsAtMost unit start now end =
-    end + unit.head.at ≤ start + now.place + 4 * length now.entries + 10 * length now.values
+    end + 3 * unit.head.at ≤ start + 3 * now.place + 4 * length now.entries + 10 * length now.values
 
 -- a front of the unit's whole walk has its places
-pub record IsPlacing (unit : HeadAndForest) (table : Listing) (columns : List Spec) (numbers : List ℕ) (start : ℕ) (items : Items) (places : Places) : Type 0 where
+pub record IsPlacing (unit : HeadAndForest) (table : Listing) (columns : List Spec) (numbers lens : List ℕ) (start : ℕ) (items : Items) (places : Places) : Type 0 where
   pub place : ℕ
   pub inside : place ≤ end_of unit.head
   pub done : List Item
@@ -47,9 +47,9 @@ pub record IsPlacing (unit : HeadAndForest) (table : Listing) (columns : List Sp
   pub begun : places.start ≡ start
   pub most : IsAtMost unit start now places.end
   pub counted : length places.entries.items ≡ items.entries
-  pub placed : ArePlaced (EntrySize table columns numbers unit.forest) 0 done (start + (entries_at unit.head - unit.head.at)) places.entries.items places.ends.items places.end
+  pub placed : ArePlaced (EntrySize table columns numbers unit.forest lens) 0 done (start + (entries_at unit.head - unit.head.at)) places.entries.items places.ends.items places.end
 
-module _ (unit : HeadAndForest) (table : Listing) (columns : List Spec) (numbers : List ℕ) (start : ℕ) where
+module _ (unit : HeadAndForest) (table : Listing) (columns : List Spec) (numbers lens : List ℕ) (start : ℕ) where
   abbrev HasCome : ℕ → ℕ → ℕ → List Item → Listed → List ℕ → List Item → Type 0
   HasCome place entries ends done now chains rest =
       HasWalked unit.forest.section (declarations_of table) (entries_at unit.head) (listed_to unit.forest place) entries ends done now chains rest
@@ -63,7 +63,7 @@ module _ (unit : HeadAndForest) (table : Listing) (columns : List Spec) (numbers
       let v : length now.values ≤ length unit.forest.values = r.values in
       omega (arith, most)
 
-  pub placing_most : (items : Items) (places : Places) → IsPlacing unit table columns numbers start items places → places.end ≤ start + most_bytes unit
+  pub placing_most : (items : Items) (places : Places) → IsPlacing unit table columns numbers lens start items places → places.end ≤ start + most_bytes unit
   placing_most items places h = most_of h.place items.entries items.ends h.done h.now h.chains h.rest places.end h.walked h.inside h.most
 
   -- the walk before its first step
@@ -73,9 +73,9 @@ module _ (unit : HeadAndForest) (table : Listing) (columns : List Spec) (numbers
   none_most : (end : ℕ) → end ≡ start + header_size unit.head.kind → IsAtMost unit start (nothing_from (entries_at unit.head)) end
   none_most end end_is = omega arith
 
-  pub placing_none : (places : Places) → IsWritable unit table columns numbers → places.start ≡ start → places.entries.items ≡ [] → places.ends.items ≡ [] → places.end ≡ start + header_size unit.head.kind → IsPlacing unit table columns numbers start (record { entries = 0; ends = 0 }) places
+  pub placing_none : (places : Places) → IsWritable unit table columns numbers lens → places.start ≡ start → places.entries.items ≡ [] → places.ends.items ≡ [] → places.end ≡ start + header_size unit.head.kind → IsPlacing unit table columns numbers lens start (record { entries = 0; ends = 0 }) places
   placing_none places writable begun no_entries no_ends end_is =
-      let Size = EntrySize table columns numbers unit.forest in
+      let Size = EntrySize table columns numbers unit.forest lens in
       let at = start + (entries_at unit.head - unit.head.at) in
       let here : at ≡ places.end = omega arith in
       record {
@@ -101,15 +101,15 @@ module _ (unit : HeadAndForest) (table : Listing) (columns : List Spec) (numbers
       EndIsNext unit.forest.section (declarations_of table) (entries_at unit.head) (listed_to unit.forest place) entries ends done now chains rest
 
   -- an entry and a code 0 keep to what they take at most
-  entry_keeps : (place entries ends : ℕ) (done : List Item) (now : Listed) (chains : List ℕ) (rest : List Item) (end size : ℕ) → (n : EntryNext place entries ends done now chains rest) → IsWritable unit table columns numbers → All (λ (number : ℕ). number < 2 ^ 32) numbers → EntrySize table columns numbers unit.forest entries size → IsAtMost unit start now end → IsAtMost unit start n.mid (end + size)
-  entry_keeps place entries ends done now chains rest end size n writable small sized most =
+  entry_keeps : (place entries ends : ℕ) (done : List Item) (now : Listed) (chains : List ℕ) (rest : List Item) (end size : ℕ) → (n : EntryNext place entries ends done now chains rest) → IsWritable unit table columns numbers lens → AreFew unit.forest lens → All (λ (number : ℕ). number < 2 ^ 32) numbers → EntrySize table columns numbers unit.forest lens entries size → IsAtMost unit start now end → IsAtMost unit start n.mid (end + size)
+  entry_keeps place entries ends done now chains rest end size n writable few small sized most =
       let decl : ℕ = (entry_at unit.forest.entries entries).decl in
       let same : decl ≡ n.number = ap (λ (e : Entry). e.decl) n.here in
       let known : n.number < length (declarations_of table) = n.adds.known in
       let count : length (declarations_of table) ≡ length table.decls = count_same table in
       let numbered : length numbers ≡ length table.decls = writable.numbered in
       let five = five_bytes (slice_index numbers decl) (small decl 0 (omega arith)) in
-      let bytes : now.place + size ≤ n.mid.place + 4 + 10 * length n.adds.values = entry_most unit.forest table columns numbers (declarations_of table) (length chains) n.number entries size now n.mid five n.adds n.values_are sized in
+      let bytes : size + 3 * now.place ≤ 3 * n.mid.place + 4 + 10 * length n.adds.values = entry_most unit.forest table columns numbers lens (declarations_of table) (length chains) n.number entries size now n.mid few five n.adds n.values_are sized in
       let entered : length n.mid.entries ≡ length now.entries + 1 = ap length n.adds.entered ∙ length_push now.entries _ in
       let listed : length n.mid.values ≡ length now.values + length n.adds.values = ap length n.adds.listed ∙ length-append now.values n.adds.values in
       omega (arith, most)
@@ -122,23 +122,23 @@ module _ (unit : HeadAndForest) (table : Listing) (columns : List Spec) (numbers
       omega (arith, most)
 
   -- there is room for what stands next
-  pub placing_room : (old new : Items) (places : Places) (next : Next) → (h : IsPlacing unit table columns numbers start old places) → IsNext unit.forest (declarations_of table) (entries_at unit.head) h.place h.done h.now h.chains h.rest old new (Some next) → IsWritable unit table columns numbers → All (λ (number : ℕ). number < 2 ^ 32) numbers → start + most_bytes unit < least_reserved → HasRoom (EntrySize table columns numbers unit.forest) next places.end
-  placing_room old new places (TheEntry id) h n writable small room =
-      let Size = EntrySize table columns numbers unit.forest in
+  pub placing_room : (old new : Items) (places : Places) (next : Next) → (h : IsPlacing unit table columns numbers lens start old places) → IsNext unit.forest (declarations_of table) (entries_at unit.head) h.place h.done h.now h.chains h.rest old new (Some next) → IsWritable unit table columns numbers lens → AreFew unit.forest lens → All (λ (number : ℕ). number < 2 ^ 32) numbers → start + most_bytes unit < least_reserved → HasRoom (EntrySize table columns numbers unit.forest lens) next places.end
+  placing_room old new places (TheEntry id) h n writable few small room =
+      let Size = EntrySize table columns numbers unit.forest lens in
       let sized = writable.sized old.entries n.2.inside in
       let same : id ≡ old.entries = n.0 in
-      let keeps = entry_keeps h.place old.entries old.ends h.done h.now h.chains h.rest places.end sized.0 n.2 writable small sized.1 h.most in
+      let keeps = entry_keeps h.place old.entries old.ends h.done h.now h.chains h.rest places.end sized.0 n.2 writable few small sized.1 h.most in
       let most : places.end + sized.0 ≤ start + most_bytes unit = most_of h.place (old.entries + 1) old.ends _ n.2.mid _ n.2.later (places.end + sized.0) n.2.next h.inside keeps in
       (sized.0, subst (λ (i : ℕ). Size i sized.0) (sym same) sized.1, omega arith)
-  placing_room old new places TheEnd h n writable small room =
+  placing_room old new places TheEnd h n writable few small room =
       let keeps = end_keeps h.place old.entries old.ends h.done h.now h.chains h.rest places.end n.1 h.most in
       let most : places.end + 1 ≤ start + most_bytes unit = most_of h.place old.entries (old.ends + 1) _ n.1.mid n.1.outer n.1.later (places.end + 1) n.1.next h.inside keeps in
       omega arith
 
   -- what stands next is placed behind the front
-  pub placing_next : (old new : Items) (before after : Places) (next : Next) → (h : IsPlacing unit table columns numbers start old before) → IsNext unit.forest (declarations_of table) (entries_at unit.head) h.place h.done h.now h.chains h.rest old new (Some next) → IsWritable unit table columns numbers → All (λ (number : ℕ). number < 2 ^ 32) numbers → PutsItem (EntrySize table columns numbers unit.forest) next before after → after.start ≡ before.start → IsPlacing unit table columns numbers start new after
-  placing_next old new before after (TheEntry id) h n writable small puts begun =
-      let Size = EntrySize table columns numbers unit.forest in
+  pub placing_next : (old new : Items) (before after : Places) (next : Next) → (h : IsPlacing unit table columns numbers lens start old before) → IsNext unit.forest (declarations_of table) (entries_at unit.head) h.place h.done h.now h.chains h.rest old new (Some next) → IsWritable unit table columns numbers lens → AreFew unit.forest lens → All (λ (number : ℕ). number < 2 ^ 32) numbers → PutsItem (EntrySize table columns numbers unit.forest lens) next before after → after.start ≡ before.start → IsPlacing unit table columns numbers lens start new after
+  placing_next old new before after (TheEntry id) h n writable few small puts begun =
+      let Size = EntrySize table columns numbers unit.forest lens in
       let at = start + (entries_at unit.head - unit.head.at) in
       let number = n.2.number in
       let sized = writable.sized old.entries n.2.inside in
@@ -149,7 +149,7 @@ module _ (unit : HeadAndForest) (table : Listing) (columns : List Spec) (numbers
       let moved = subst (λ (z : ℕ). ArePlaced Size 0 (h.done ++ AnEntry number ∷ []) at (before.entries.items ++ before.end ∷ []) before.ends.items z) end_is placed in
       let entered = subst (λ (z : List ℕ). ArePlaced Size 0 (h.done ++ AnEntry number ∷ []) at z before.ends.items after.end) (sym puts.0) moved in
       let ended = subst (λ (z : List ℕ). ArePlaced Size 0 (h.done ++ AnEntry number ∷ []) at after.entries.items z after.end) (sym puts.1) entered in
-      subst (λ (z : Items). IsPlacing unit table columns numbers start z after) (sym n.1)
+      subst (λ (z : Items). IsPlacing unit table columns numbers lens start z after) (sym n.1)
       (record {
         place = h.place;
         inside = h.inside;
@@ -159,18 +159,18 @@ module _ (unit : HeadAndForest) (table : Listing) (columns : List Spec) (numbers
         rest = n.2.later;
         walked = n.2.next;
         begun = begun ∙ h.begun;
-        most = subst (λ (z : ℕ). IsAtMost unit start n.2.mid z) end_is (entry_keeps h.place old.entries old.ends h.done h.now h.chains h.rest before.end sized.0 n.2 writable small sized.1 h.most);
+        most = subst (λ (z : ℕ). IsAtMost unit start n.2.mid z) end_is (entry_keeps h.place old.entries old.ends h.done h.now h.chains h.rest before.end sized.0 n.2 writable few small sized.1 h.most);
         counted = ap length puts.0 ∙ length_push before.entries.items before.end ∙ ap (λ (z : ℕ). z + 1) h.counted;
         placed = ended;
       })
-  placing_next old new before after TheEnd h n writable small puts begun =
-      let Size = EntrySize table columns numbers unit.forest in
+  placing_next old new before after TheEnd h n writable few small puts begun =
+      let Size = EntrySize table columns numbers unit.forest lens in
       let at = start + (entries_at unit.head - unit.head.at) in
       let placed = placed_end Size 0 at h.done before.entries.items before.ends.items before.end h.placed in
       let moved = subst (λ (z : ℕ). ArePlaced Size 0 (h.done ++ AnEnd ∷ []) at before.entries.items (before.ends.items ++ before.end ∷ []) z) (sym puts.2) placed in
       let entered = subst (λ (z : List ℕ). ArePlaced Size 0 (h.done ++ AnEnd ∷ []) at z (before.ends.items ++ before.end ∷ []) after.end) (sym puts.0) moved in
       let ended = subst (λ (z : List ℕ). ArePlaced Size 0 (h.done ++ AnEnd ∷ []) at after.entries.items z after.end) (sym puts.1) entered in
-      subst (λ (z : Items). IsPlacing unit table columns numbers start z after) (sym n.0)
+      subst (λ (z : Items). IsPlacing unit table columns numbers lens start z after) (sym n.0)
       (record {
         place = h.place;
         inside = h.inside;
@@ -186,7 +186,7 @@ module _ (unit : HeadAndForest) (table : Listing) (columns : List Spec) (numbers
       })
 
   -- at the end of the walk all is placed
-  pub placing_all : (old new : Items) (places : Places) → (h : IsPlacing unit table columns numbers start old places) → IsNext unit.forest (declarations_of table) (entries_at unit.head) h.place h.done h.now h.chains h.rest old new None → IsWritable unit table columns numbers → IsPlacedAt unit table columns numbers start places.entries.items places.ends.items places.end
+  pub placing_all : (old new : Items) (places : Places) → (h : IsPlacing unit table columns numbers lens start old places) → IsNext unit.forest (declarations_of table) (entries_at unit.head) h.place h.done h.now h.chains h.rest old new None → IsWritable unit table columns numbers lens → IsPlacedAt unit table columns numbers lens start places.entries.items places.ends.items places.end
   placing_all old new places h n writable =
       let walk = subst (λ (z : Listed). Walks unit.forest.section (declarations_of table) (nothing_from (entries_at unit.head)) [] h.done z h.chains) n.1.all h.walked.walked in
       let closed = subst (λ (z : List ℕ). Walks unit.forest.section (declarations_of table) (nothing_from (entries_at unit.head)) [] h.done (listed_to unit.forest h.place) z) n.1.closed walk in
@@ -197,6 +197,6 @@ module _ (unit : HeadAndForest) (table : Listing) (columns : List Spec) (numbers
       }
 
   -- the entry that stands next is held
-  pub next_held : (old new : Items) (places : Places) (next : Next) → (h : IsPlacing unit table columns numbers start old places) → IsNext unit.forest (declarations_of table) (entries_at unit.head) h.place h.done h.now h.chains h.rest old new (Some next) → HasItem unit.forest next
+  pub next_held : (old new : Items) (places : Places) (next : Next) → (h : IsPlacing unit table columns numbers lens start old places) → IsNext unit.forest (declarations_of table) (entries_at unit.head) h.place h.done h.now h.chains h.rest old new (Some next) → HasItem unit.forest next
   next_held old new places (TheEntry id) h n = let same : id ≡ old.entries = n.0 in let inside = n.2.inside in omega arith
   next_held old new places TheEnd h n = tt

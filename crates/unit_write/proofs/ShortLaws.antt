@@ -14,36 +14,33 @@ use Rattle.entry_arena.specs.Trees.{declared_at, bytes_between, SpellsBetween}
 use Rattle.entry_arena.proofs.Between.{length_between}
 use Rattle.entry_arena.proofs.SpellingLaws.{cut}
 use Rattle.entry_read.specs.Short.{IsWritten, WrittenBetween, StandsShort, EndsShort}
-use Rattle.unit_write.specs.Values.{with_number}
-use Rattle.unit_write.specs.inside.Puts.{PutsValues}
+use Rattle.unit_write.specs.Moved.{NewValues}
+use Rattle.unit_write.specs.inside.Puts.{renewed_at, PutsValues}
 use Rattle.spelled.proofs.Parts.{own_part}
 
--- what values mean with numbers of their own
-abbrev pub renamed : List ℕ → List Value → List ℕ → List Meaning
-renamed section [] ns = []
-renamed section (v ∷ vs) [] = []
-renamed section (v ∷ vs) (n ∷ ns) = with_number n (meant_in section v) ∷ renamed section vs ns
+-- what values mean anew, of which the first has a number
+abbrev pub renamed : List ℕ → NewValues → ℕ → List Value → List Meaning
+renamed section anew i [] = []
+renamed section anew i (v ∷ vs) = renewed_at anew i (meant_in section v) ∷ renamed section anew (suc i) vs
 
 -- values that mean what was written stand in what was written
-pub values_short : (old new : List ℕ) (cs : List Spec) (vs ws : List Value) (ns : List ℕ) (from to : ℕ) → from ≤ to → to ≤ length new → PutsValues old cs vs ns (bytes_between new from to) → map (meant_in new) ws ≡ renamed old vs ns → WrittenBetween new cs ws from to
-values_short old new [] [] [] [] from to order inside p e =
+pub values_short : (old new : List ℕ) (anew : NewValues) (i : ℕ) (cs : List Spec) (vs ws : List Value) (from to : ℕ) → from ≤ to → to ≤ length new → PutsValues old anew i cs vs (bytes_between new from to) → map (meant_in new) ws ≡ renamed old anew i vs → WrittenBetween new cs ws from to
+values_short old new anew i [] [] [] from to order inside p e =
     let size : to - from ≡ 0 = sym (length_between new from to inside) ∙ ap length p in
     omega arith
-values_short old new [] [] (w ∷ ws) [] from to order inside p e = absurd (cc (e))
-values_short old new [] [] ws (n ∷ ns) from to order inside p e = absurd p
-values_short old new [] (v ∷ vs) ws ns from to order inside p e = absurd p
-values_short old new (c ∷ cs) [] ws ns from to order inside p e = absurd p
-values_short old new (c ∷ cs) (v ∷ vs) ws [] from to order inside p e = absurd p
-values_short old new (c ∷ cs) (v ∷ vs) [] (n ∷ ns) from to order inside p e = absurd (cc (e))
-values_short old new (c ∷ cs) (v ∷ vs) (w ∷ ws) (n ∷ ns) from to order inside (first, rest, x, p, whole) e =
-    let here : meant_in new w ≡ with_number n (meant_in old v) = cc (e) in
-    let there : map (meant_in new) ws ≡ renamed old vs ns = cc (e) in
+values_short old new anew i [] [] (w ∷ ws) from to order inside p e = absurd (cc (e))
+values_short old new anew i [] (v ∷ vs) ws from to order inside p e = absurd p
+values_short old new anew i (c ∷ cs) [] ws from to order inside p e = absurd p
+values_short old new anew i (c ∷ cs) (v ∷ vs) [] from to order inside p e = absurd (cc (e))
+values_short old new anew i (c ∷ cs) (v ∷ vs) (w ∷ ws) from to order inside (first, rest, x, p, whole) e =
+    let here : meant_in new w ≡ renewed_at anew i (meant_in old v) = cc (e) in
+    let there : map (meant_in new) ws ≡ renamed old anew (suc i) vs = cc (e) in
     let k = cut new from to first rest order inside whole in
     let before : k.mid ≤ to = k.before in
-    let bytes : IsWritten c (with_number n (meant_in old v)) (bytes_between new from k.mid) = subst (λ (z : List ℕ). IsWritten c (with_number n (meant_in old v)) z) (sym k.first) x in
+    let bytes : IsWritten c (renewed_at anew i (meant_in old v)) (bytes_between new from k.mid) = subst (λ (z : List ℕ). IsWritten c (renewed_at anew i (meant_in old v)) z) (sym k.first) x in
     let written : IsWritten c (meant_in new w) (bytes_between new from k.mid) = subst (λ (m : Meaning). IsWritten c m (bytes_between new from k.mid)) (sym here) bytes in
-    let others : PutsValues old cs vs ns (bytes_between new k.mid to) = subst (λ (z : List ℕ). PutsValues old cs vs ns z) (sym k.second) p in
-    (k.mid, record { order = k.after; inside = omega arith; spelled = written }, values_short old new cs vs ws ns k.mid to k.before inside others there)
+    let others : PutsValues old anew (suc i) cs vs (bytes_between new k.mid to) = subst (λ (z : List ℕ). PutsValues old anew (suc i) cs vs z) (sym k.second) p in
+    (k.mid, record { order = k.after; inside = omega arith; spelled = written }, values_short old new anew (suc i) cs vs ws k.mid to k.before inside others there)
 
 -- so does an entry whose code and values are written, whatever values are listed behind its own
 pub entry_short : (section : List ℕ) (ds : List Declared) (before vs more : List Value) (at mid to depth decl : ℕ) → at ≤ to → SpellsBetween (ShortestUnsigned ((declared_at ds decl).code)) section at mid → WrittenBetween section ((declared_at ds decl).columns) vs mid to → StandsShort section ds ((before ++ vs) ++ more) (record { at = at; len = to - at; depth = depth; decl = decl; first = length before; count = length vs })

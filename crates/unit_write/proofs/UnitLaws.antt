@@ -19,10 +19,12 @@ use Rattle.entry_read.specs.declared.head.UnitHead.{UnitHead}
 use Rattle.fixed_width.specs.InitialLengths.{least_reserved}
 use Rattle.entry_read.specs.Heads.{IsUnitType, type_unit, header_size, unit_type}
 use Rattle.entry_read.specs.Units.{HeadAndForest, entries_at, declarations_of}
+use Rattle.entry_read.proofs.PlaceLaws.{units_lie}
+use Rattle.unit_write.specs.NewExpressions.{lens_of}
 use Rattle.unit_write.specs.Placing.{EntrySize, ArePlaced, IsRenumbered}
 use Rattle.entry_read.specs.Short.{StandsShort, EndsShort}
-use Rattle.unit_write.specs.Moved.{IsMovedEntry, IsWritable, IsPlacedAt, IsWrittenAnew}
-use Rattle.unit_write.specs.inside.Puts.{PutsEntry, PutsItems, header_bytes}
+use Rattle.unit_write.specs.Moved.{NewValues, IsMovedEntry, IsWritable, IsPlacedAt, IsWrittenAnew}
+use Rattle.unit_write.specs.inside.Puts.{AreNew, PutsEntry, PutsItems, header_bytes}
 use Rattle.unit_write.proofs.ValueLaws.{one_size}
 use Rattle.unit_write.proofs.Placed.{one_placing}
 use Rattle.unit_write.proofs.Anew.{nothing_moved, stand_anew}
@@ -57,7 +59,10 @@ zip_some R (x ∷ xs) (y ∷ ys) a some = λ e. absurd (cc (e))
 pub from_header : (at size start : ℕ) → start + (at + size - at) ≡ start + size
 from_header at size start = omega arith
 
-module _ (unit : HeadAndForest) (table : Listing) (columns : List Spec) (numbers : List ℕ) (writable : IsWritable unit table columns numbers) where
+module _ (unit : HeadAndForest) (table : Listing) (columns : List Spec) (numbers : List ℕ) (anew : NewValues) (writable : IsWritable unit table columns numbers (lens_of anew.ends)) where
+  abbrev lens : List ℕ
+  lens = lens_of anew.ends
+
   abbrev kind : ℕ
   kind = unit.head.kind
 
@@ -73,16 +78,17 @@ module _ (unit : HeadAndForest) (table : Listing) (columns : List Spec) (numbers
       ap (λ (z : UnitHead). z.extra) writable.head.fields ∙ (rw there refl)
 
   -- the new unit has room for its header
-  pub room : (start end : ℕ) (entries ends : List ℕ) → IsPlacedAt unit table columns numbers start entries ends end → start + 12 ≤ end
+  pub room : (start end : ℕ) (entries ends : List ℕ) → IsPlacedAt unit table columns numbers lens start entries ends end → start + 12 ≤ end
   room start end entries ends p =
-      let up : start + (entries_at unit.head - unit.head.at) ≤ end = placed_order (EntrySize table columns numbers unit.forest) 0 (start + (entries_at unit.head - unit.head.at)) p.whole.items entries ends end p.placed in
+      let up : start + (entries_at unit.head - unit.head.at) ≤ end = placed_order (EntrySize table columns numbers unit.forest lens) 0 (start + (entries_at unit.head - unit.head.at)) p.whole.items entries ends end p.placed in
       let e : start + (entries_at unit.head - unit.head.at) ≡ start + header_size kind = from_header unit.head.at (header_size kind) start in
       let some : 12 ≤ header_size kind = some_header kind of_type in
       omega arith
 
-  pub unit_anew : (held : List ℕ) (new_table offset end len : ℕ) (old front section : List ℕ) (entries ends : List ℕ) → (p : IsPlacedAt unit table columns numbers (length old) entries ends end) → end < least_reserved → new_table < 2 ^ 32 → offset < 2 ^ 32 → unit.head.extra < 2 ^ 64 → (kind ≢ type_unit → offset ≡ 0) → len ≡ end - length old - 4 → front ≡ old ++ header_bytes len kind new_table unit.head.extra offset → Appends (PutsItems (PutsEntry table columns numbers held unit.forest) 0) p.whole.items front section → (ds : List Declared) → IsRenumbered table columns numbers ds → IsWrittenAnew unit table columns numbers ds new_table offset held (length old) section
-  unit_anew held new_table offset end len old front section entries ends p usual narrow few wide no_offset len_is front_is (body, puts, whole) ds renumbered =
+  pub unit_anew : AreNew anew (length unit.forest.values) → (new_table offset end len : ℕ) (old front section : List ℕ) (entries ends : List ℕ) → (p : IsPlacedAt unit table columns numbers lens (length old) entries ends end) → end < least_reserved → new_table < 2 ^ 32 → offset < 2 ^ 32 → unit.head.extra < 2 ^ 64 → (kind ≢ type_unit → offset ≡ 0) → len ≡ end - length old - 4 → front ≡ old ++ header_bytes len kind new_table unit.head.extra offset → Appends (PutsItems (PutsEntry table columns numbers anew unit.forest) 0) p.whole.items front section → (ds : List Declared) → IsRenumbered table columns numbers ds → IsWrittenAnew unit table columns numbers ds new_table offset anew (length old) section
+  unit_anew new_ones new_table offset end len old front section entries ends p usual narrow few wide no_offset len_is front_is (body, puts, whole) ds renumbered =
       let f : Arena = unit.forest in
+      let lie = units_lie f.section unit.head (declarations_of table) f refl writable.held in
       let start : ℕ = length old + header_size kind in
       let header : List ℕ = header_bytes len kind new_table unit.head.extra offset in
       let size : length front ≡ start = ap length front_is ∙ length-append old header ∙ ap (λ (n : ℕ). length old + n) (header_len len kind new_table unit.head.extra offset of_type) in
@@ -91,10 +97,10 @@ module _ (unit : HeadAndForest) (table : Listing) (columns : List Spec) (numbers
       let order : start ≤ length section = omega arith in
       let bytes : bytes_between section start (length section) ≡ body = ap (λ (n : ℕ). bytes_between section n (length section)) (sym size) ∙ bytes_behind section front body whole in
       let come : HasWalked f.section (declarations_of table) (entries_at unit.head) (listed_to f p.place) 0 0 [] (nothing_from (entries_at unit.head)) [] p.whole.items = record { walked = (refl, refl); onward = p.whole.walked; entries_are = refl; ends_are = refl } in
-      let r = stand_anew table columns numbers held f ds section renumbered (entries_at unit.head) p.place writable.used p.whole.items [] (nothing_from (entries_at unit.head)) (nothing_from start) [] 0 0 (length section) body come (nothing_moved numbers held f.section section (entries_at unit.head) start) puts order (omega arith) bytes in
+      let r = stand_anew table columns numbers anew f ds section renumbered new_ones lie.order.valued.inside (entries_at unit.head) p.place writable.used p.whole.items [] (nothing_from (entries_at unit.head)) (nothing_from start) [] 0 0 (length section) body come (nothing_moved numbers anew f.section section (entries_at unit.head) start) puts order (omega arith) bytes in
       let from : length old + (entries_at unit.head - unit.head.at) ≡ start = from_header unit.head.at (header_size kind) (length old) in
-      let placed = subst (λ (z : ℕ). ArePlaced (EntrySize table columns numbers f) 0 p.whole.items z (map (λ (e : Entry). e.at) r.entries) (map (λ (e : ChainEnd). e.at) r.ends) (length section)) (sym from) r.placed in
-      let same = one_placing one_size table columns numbers f 0 (length old + (entries_at unit.head - unit.head.at)) p.whole.items entries (map (λ (e : Entry). e.at) r.entries) ends (map (λ (e : ChainEnd). e.at) r.ends) end (length section) p.placed placed in
+      let placed = subst (λ (z : ℕ). ArePlaced (EntrySize table columns numbers f lens) 0 p.whole.items z (map (λ (e : Entry). e.at) r.entries) (map (λ (e : ChainEnd). e.at) r.ends) (length section)) (sym from) r.placed in
+      let same = one_placing one_size table columns numbers f lens 0 (length old + (entries_at unit.head - unit.head.at)) p.whole.items entries (map (λ (e : Entry). e.at) r.entries) ends (map (λ (e : ChainEnd). e.at) r.ends) end (length section) p.placed placed in
       let ended : end ≡ length section = same.2 in
       let space : length old + 12 ≤ end = room (length old) end entries ends p in
       let long : length section ≡ length old + 4 + len = omega arith in
@@ -119,6 +125,6 @@ module _ (unit : HeadAndForest) (table : Listing) (columns : List Spec) (numbers
         placed = record {
           place = p.place;
           whole = p.whole;
-          placed = subst (λ (z : List ChainEnd). ArePlaced (EntrySize table columns numbers f) 0 p.whole.items (length old + (entries_at unit.head - unit.head.at)) (map (λ (e : Entry). e.at) r.last.entries) (map (λ (e : ChainEnd). e.at) z) (length section)) (sym r.ends_are) (subst (λ (z : List Entry). ArePlaced (EntrySize table columns numbers f) 0 p.whole.items (length old + (entries_at unit.head - unit.head.at)) (map (λ (e : Entry). e.at) z) (map (λ (e : ChainEnd). e.at) r.ends) (length section)) (sym r.entries_are) placed);
+          placed = subst (λ (z : List ChainEnd). ArePlaced (EntrySize table columns numbers f lens) 0 p.whole.items (length old + (entries_at unit.head - unit.head.at)) (map (λ (e : Entry). e.at) r.last.entries) (map (λ (e : ChainEnd). e.at) z) (length section)) (sym r.ends_are) (subst (λ (z : List Entry). ArePlaced (EntrySize table columns numbers f lens) 0 p.whole.items (length old + (entries_at unit.head - unit.head.at)) (map (λ (e : Entry). e.at) z) (map (λ (e : ChainEnd). e.at) r.ends) (length section)) (sym r.entries_are) placed);
         };
       }

@@ -2,7 +2,6 @@
 use Rattle.std.specs.Prelude.{◌≡◌, ◌≢◌, ◌<◌, ◌+◌, ◌-◌, ℕ, List, length, map, slice_index}
 use Rattle.std.specs.List.{All, AllZip}
 use Rattle.form_codec.specs.declared.form.Form.TheVariants.{Ref1, Ref2}
-use Rattle.form_codec.specs.declared.value.Value.{Value}
 use Rattle.form_codec.specs.Forms.{code_of}
 use Rattle.form_codec.specs.Values.{meant_in}
 use Rattle.abbrev_tables.specs.declared.decl.Spec.{Spec}
@@ -17,7 +16,9 @@ use Rattle.entry_read.specs.declared.head.UnitHead.{UnitHead}
 use Rattle.entry_read.specs.Heads.{IsHead}
 use Rattle.entry_read.specs.Units.{HeadAndForest, entries_at, declarations_of, IsUnit, IsUnitHeld}
 use Rattle.entry_read.specs.Short.{StandsShort, EndsShort}
-use Rattle.unit_write.specs.Values.{with_number}
+use Rattle.unit_write.specs.declared.write.NewNumbers.{NewNumbers}
+use Rattle.unit_write.specs.Values.{renewed}
+use Rattle.unit_write.specs.NewExpressions.{lens_of, made_of}
 use Rattle.unit_write.specs.Placing.{EntrySize, ArePlaced}
 
 -- an entry is where it was among the entries, with the declaration that has its new number
@@ -31,31 +32,42 @@ pub record IsMovedEntry (numbers : List ℕ) (old new : Entry) : Type 0 where
 abbrev pub IsMovedEnd : ChainEnd → ChainEnd → Type 0
 IsMovedEnd old new = new.entry ≡ old.entry
 
--- There are as many values. Each means what it meant, but that references and section offsets have these numbers.
-pub record AreMovedValues (f : Arena) (held : List ℕ) (section : List ℕ) (new : Listed) : Type 0 where
+-- what is written for the values of a unit: for each the number of a reference or a section offset, and where the bytes of an
+-- expression end; and these bytes
+pub record NewValues : Type 0 where
+  pub held : List ℕ
+  pub ends : List ℕ
+  pub expressions : List ℕ
+
+abbrev pub new_values : NewNumbers → NewValues
+new_values new = record { held = new.held.items; ends = new.ends.items; expressions = new.expressions.items }
+
+-- There are as many values. Each means what it meant, but that references and section offsets have these numbers, and expressions
+-- these bytes.
+pub record AreMovedValues (f : Arena) (anew : NewValues) (section : List ℕ) (new : Listed) : Type 0 where
   pub count : length new.values ≡ length f.values
-  pub each : (k : ℕ) → k < length f.values → meant_in section (value_at new.values k) ≡ with_number (slice_index held k) (meant_in f.section (value_at f.values k))
+  pub each : (k : ℕ) → k < length f.values → meant_in section (value_at new.values k) ≡ renewed (slice_index anew.held k) (made_of anew.ends anew.expressions k) (meant_in f.section (value_at f.values k))
 
 -- a reference of this form has room for any number that fits 32 bits
 abbrev pub IsRoomy : Spec → Type 0
 IsRoomy column = (column.form ≢ code_of Ref1) × (column.form ≢ code_of Ref2)
 
 -- What is needed of a unit that is to be written: it is held of its section, by the declarations of a table; the declaration of
--- each entry is used; and something can be written for each value in its new column.
-pub record IsWritable (unit : HeadAndForest) (table : Listing) (columns : List Spec) (numbers : List ℕ) : Type 0 where
+-- each entry is used; and something can be written for each value in its new column, where expressions have so many bytes.
+pub record IsWritable (unit : HeadAndForest) (table : Listing) (columns : List Spec) (numbers lens : List ℕ) : Type 0 where
   pub head : IsHead unit.forest.section unit.head
   pub held : IsUnitHeld unit.forest.section unit.head (declarations_of table) unit.forest
   pub numbered : length numbers ≡ length table.decls
   pub renewed : length columns ≡ length table.specs
   pub roomy : All IsRoomy columns
   pub used : (id : ℕ) → id < length unit.forest.entries → slice_index numbers (entry_at unit.forest.entries id).decl ≢ 0
-  pub sized : (id : ℕ) → id < length unit.forest.entries → (size : ℕ) × EntrySize table columns numbers unit.forest id size
+  pub sized : (id : ℕ) → id < length unit.forest.entries → (size : ℕ) × EntrySize table columns numbers unit.forest lens id size
 
 -- The places of a unit's entries and codes 0, and where it begins and ends, in a new section.
-pub record IsPlacedAt (unit : HeadAndForest) (table : Listing) (columns : List Spec) (numbers : List ℕ) (start : ℕ) (entries ends : List ℕ) (to : ℕ) : Type 0 where
+pub record IsPlacedAt (unit : HeadAndForest) (table : Listing) (columns : List Spec) (numbers lens : List ℕ) (start : ℕ) (entries ends : List ℕ) (to : ℕ) : Type 0 where
   pub place : ℕ
   pub whole : IsWhole unit.forest.section (declarations_of table) (entries_at unit.head) (record { entries = unit.forest.entries; values = unit.forest.values; ends = unit.forest.ends; place = place })
-  pub placed : ArePlaced (EntrySize table columns numbers unit.forest) 0 whole.items (start + (entries_at unit.head - unit.head.at)) entries ends to
+  pub placed : ArePlaced (EntrySize table columns numbers unit.forest lens) 0 whole.items (start + (entries_at unit.head - unit.head.at)) entries ends to
 
 -- The new head: where the unit stands now, the new place of its table and of its type's entry, and all else as it was.
 pub record IsMovedHead (old new : UnitHead) (start end new_table type_offset : ℕ) : Type 0 where
@@ -68,7 +80,7 @@ pub record IsMovedHead (old new : UnitHead) (start end new_table type_offset : �
 
 -- The unit stands in the section from a place to its end, and no bytes follow its tree; its entries, values and codes 0 are
 -- those of the old unit at their new places, with these numbers. No byte is too many.
-pub record IsWrittenAnew (unit : HeadAndForest) (table : Listing) (columns : List Spec) (numbers : List ℕ) (ds : List Declared) (new_table type_at : ℕ) (held : List ℕ) (start : ℕ) (section : List ℕ) : Type 0 where
+pub record IsWrittenAnew (unit : HeadAndForest) (table : Listing) (columns : List Spec) (numbers : List ℕ) (ds : List Declared) (new_table type_at : ℕ) (anew : NewValues) (start : ℕ) (section : List ℕ) : Type 0 where
   pub head : UnitHead
   pub fields : IsMovedHead unit.head head start (length section) new_table type_at
   pub is_head : IsHead section head
@@ -76,8 +88,8 @@ pub record IsWrittenAnew (unit : HeadAndForest) (table : Listing) (columns : Lis
   pub is_unit : IsUnit section head ds forest
   pub ends_there : forest.place ≡ length section
   pub entries : AllZip (IsMovedEntry numbers) unit.forest.entries forest.entries
-  pub values : AreMovedValues unit.forest held section forest
+  pub values : AreMovedValues unit.forest anew section forest
   pub ends : AllZip IsMovedEnd unit.forest.ends forest.ends
   pub short : (id : ℕ) → id < length forest.entries → StandsShort section ds forest.values (entry_at forest.entries id)
   pub ends_short : All (EndsShort section) forest.ends
-  pub placed : IsPlacedAt unit table columns numbers start (map (λ (e : Entry). e.at) forest.entries) (map (λ (e : ChainEnd). e.at) forest.ends) (length section)
+  pub placed : IsPlacedAt unit table columns numbers (lens_of anew.ends) start (map (λ (e : Entry). e.at) forest.entries) (map (λ (e : ChainEnd). e.at) forest.ends) (length section)

@@ -20,10 +20,15 @@ columns_of table columns number = (declared_in columns (decl_at table.decls numb
 abbrev pub values_in : Arena → ℕ → List Value
 values_in f id = take (entry_at f.entries id).count (drop (entry_at f.entries id).first f.values)
 
--- so many bytes are written for an entry: the new code of its declaration, and its values in the new columns
-abbrev pub EntrySize : Listing → List Spec → List ℕ → Arena → ℕ → ℕ → Type 0
-EntrySize table columns numbers f id size =
-    (rest : ℕ) × HaveSize f.section (columns_of table columns (entry_at f.entries id).decl) (values_in f id) rest × (size ≡ least_unsigned_len (slice_index numbers (entry_at f.entries id).decl) + rest)
+-- what stands for the values of an entry in a list that has one for each value
+abbrev pub among_values : {A : Type 0} → Arena → List A → ℕ → List A
+among_values f items id = take (entry_at f.entries id).count (drop (entry_at f.entries id).first items)
+
+-- So many bytes are written for an entry: the new code of its declaration, and its values in the new columns. `lens` has the bytes of
+-- each value's expression.
+abbrev pub EntrySize : Listing → List Spec → List ℕ → Arena → List ℕ → ℕ → ℕ → Type 0
+EntrySize table columns numbers f lens id size =
+    (rest : ℕ) × HaveSize f.section (columns_of table columns (entry_at f.entries id).decl) (values_in f id) (among_values f lens id) rest × (size ≡ least_unsigned_len (slice_index numbers (entry_at f.entries id).decl) + rest)
 
 -- The items of a walk stand one after the other from a place up to another, the entries and the ends of chains at these
 -- places. A code 0 has one byte. The first entry is the one with the number `id`.
@@ -36,7 +41,7 @@ ArePlaced _ _ _ _ _ _ _ = ⊥
 -- a law: the items of a walk have one place each
 abbrev pub OnePlacing : Type 0
 OnePlacing =
-    (table : Listing) (columns : List Spec) (numbers : List ℕ) (f : Arena) (id at : ℕ) (items : List Item) (entries others ends other_ends : List ℕ) (to other : ℕ) → ArePlaced (EntrySize table columns numbers f) id items at entries ends to → ArePlaced (EntrySize table columns numbers f) id items at others other_ends other → (entries ≡ others) × (ends ≡ other_ends) × (to ≡ other)
+    (table : Listing) (columns : List Spec) (numbers : List ℕ) (f : Arena) (lens : List ℕ) (id at : ℕ) (items : List Item) (entries others ends other_ends : List ℕ) (to other : ℕ) → ArePlaced (EntrySize table columns numbers f lens) id items at entries ends to → ArePlaced (EntrySize table columns numbers f lens) id items at others other_ends other → (entries ≡ others) × (ends ≡ other_ends) × (to ≡ other)
 
 -- The new table has each used declaration at its new number less 1, with its new columns. A declaration isn't used where
 -- its new number is 0.

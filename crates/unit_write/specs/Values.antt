@@ -1,9 +1,9 @@
 -- How many bytes a value takes that is written (DWARF 5 sections 7.5.5 and 7.5.6). The size doesn't depend on its number where that
--- follows what it names.
+-- follows what it names, and of an expression only on how many bytes it has.
 use Rattle.std.specs.Prelude.{◌≡◌, ◌+◌, ℕ, List, [], ◌∷◌, length, Bool, true, false}
 use Rattle.form_codec.specs.declared.value.Value.{Value}
 use Rattle.form_codec.specs.Forms.{Meaning}
-use Rattle.form_codec.specs.Forms.Meaning.{InUnit, InSection, SectionPlace}
+use Rattle.form_codec.specs.Forms.Meaning.{Expression, InUnit, InSection, SectionPlace}
 use Rattle.form_codec.specs.Values.{meant_in}
 use Rattle.abbrev_tables.specs.declared.decl.Spec.{Spec}
 use Rattle.entry_read.specs.Short.{IsWritten}
@@ -15,24 +15,29 @@ is_moving (InSection n) = true
 is_moving (SectionPlace n) = true
 is_moving meaning = false
 
--- the same value, with another number where it is such a one
-abbrev pub with_number : ℕ → Meaning → Meaning
-with_number new (InUnit n) = InUnit new
-with_number new (InSection n) = InSection new
-with_number new (SectionPlace n) = SectionPlace new
-with_number new meaning = meaning
+-- the same value, with another number where it is such a one, and with other bytes where it is an expression
+abbrev pub renewed : ℕ → List ℕ → Meaning → Meaning
+renewed new made (InUnit n) = InUnit new
+renewed new made (InSection n) = InSection new
+renewed new made (SectionPlace n) = SectionPlace new
+renewed new made (Expression bytes) = Expression made
+renewed new made meaning = meaning
 
--- So many bytes are written for the value of a column, whatever number it gets.
-abbrev pub HasSize : Spec → Meaning → ℕ → Type 0
-HasSize column meaning size = (number : ℕ) × (bytes : List ℕ) × IsWritten column (with_number number meaning) bytes × (size ≡ length bytes)
+-- So many bytes are written for the value of a column, whatever number it gets, and whichever bytes of an expression, if these are `len`.
+pub record HasSize (column : Spec) (meaning : Meaning) (len size : ℕ) : Type 0 where
+  pub number : ℕ
+  pub made : List ℕ
+  pub long : length made ≡ len
+  pub bytes : List ℕ
+  pub written : IsWritten column (renewed number made meaning) bytes
+  pub is : size ≡ length bytes
 
--- so many bytes are written for the values of columns
-abbrev pub HaveSize : List ℕ → List Spec → List Value → ℕ → Type 0
-HaveSize section [] [] size = size ≡ 0
-HaveSize section [] (v ∷ vs) size = ⊥
-HaveSize section (c ∷ cs) [] size = ⊥
-HaveSize section (c ∷ cs) (v ∷ vs) size = (first : ℕ) × (rest : ℕ) × HasSize c (meant_in section v) first × HaveSize section cs vs rest × (size ≡ first + rest)
+-- so many bytes are written for the values of columns; `lens` has the bytes of each expression
+abbrev pub HaveSize : List ℕ → List Spec → List Value → List ℕ → ℕ → Type 0
+HaveSize section [] [] [] size = size ≡ 0
+HaveSize section (c ∷ cs) (v ∷ vs) (n ∷ ns) size = (first : ℕ) × (rest : ℕ) × HasSize c (meant_in section v) n first × HaveSize section cs vs ns rest × (size ≡ first + rest)
+HaveSize _ _ _ _ _ = ⊥
 
 -- a law: a value has one size
 abbrev pub OneSize : Type 0
-OneSize = (column : Spec) (meaning : Meaning) (m n : ℕ) → HasSize column meaning m → HasSize column meaning n → m ≡ n
+OneSize = (column : Spec) (meaning : Meaning) (len m n : ℕ) → HasSize column meaning len m → HasSize column meaning len n → m ≡ n

@@ -2,3 +2,4 @@
 pub mod Most
 pub mod Puts
 pub mod Readings
+pub mod Expressions

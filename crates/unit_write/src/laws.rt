@@ -3,7 +3,8 @@ ghost use Rattle.std.specs.Prelude.{◌<◌, ◌^◌, length};
 ghost use Rattle.spelled.specs.Spelled.{AreBytes};
 ghost use Rattle.unit_write.specs.Values.{OneSize};
 ghost use Rattle.unit_write.specs.Placing.{OnePlacing};
-ghost use Rattle.unit_write.specs.Sizes.{NumbersHaveSizes, ShortestHaveSizes};
+ghost use Rattle.unit_write.specs.NewExpressions.{OnePlainEnds};
+ghost use Rattle.unit_write.specs.Sizes.{NumbersHaveSizes, ExpressionsHaveSizes, ShortestHaveSizes};
 
 /// A law: the bytes that are written for a value in a column have one size, whatever number stands in the value.
 pub fn one_size()
@@ -16,10 +17,17 @@ pub fn one_placing()
     ensures { OnePlacing }
 {}
 
-/// Laws: something can be written for a reference or a section offset in a form that has room for it, whatever its number, and
-/// for another value that its column's form and constant spell. So callers show that a unit can be written.
+/// A law: where the new bytes of a unit's expressions end is one list.
+pub fn one_ends()
+    ensures { OnePlainEnds }
+{}
+
+/// Laws: something can be written for a reference or a section offset in a form that has room for it, whatever its number, for an
+/// expression in DW_FORM_exprloc, whatever its bytes, and for another value that its column's form and constant spell. So callers show
+/// that a unit can be written.
 pub fn values_have_sizes()
     ensures numbers { NumbersHaveSizes }
+    ensures expressions { ExpressionsHaveSizes }
     ensures others { ShortestHaveSizes }
 {}
 

@@ -1,6 +1,7 @@
 //! Units of .debug_info (DWARF 5 section 7.5) written anew: where their entries stand, and their bytes.
 #![tactic(auto)]
 
+mod expressions;
 mod items;
 mod laws;
 mod parts;
@@ -12,6 +13,7 @@ mod write;
 #[cfg(test)]
 mod write_tests;
 
-pub use laws::{bytes_are_small, one_placing, one_size, values_have_sizes};
+pub use expressions::{expression_ends, write_expressions};
+pub use laws::{bytes_are_small, one_ends, one_placing, one_size, values_have_sizes};
 pub use places::{Places, place_unit};
 pub use write::{NewNumbers, write_unit};

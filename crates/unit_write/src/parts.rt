@@ -1,5 +1,7 @@
 // The parts of what is written of an entry: the new columns of its declaration, and its values.
-ghost use Rattle.std.specs.Prelude.{◌≡◌, ◌<◌, length, take, drop};
+ghost use Rattle.std.specs.Prelude.{◌≡◌, ◌≤◌, ◌<◌, length, take, drop, slice_index};
+ghost use Rattle.entry_arena.specs.Order.{IsInOrder};
+ghost use Rattle.unit_write.specs.NewExpressions.{begin_of as begin_among, made_of};
 ghost use Rattle.unit_write.specs.Placing.{columns_of, values_in};
 
 use abbrev_tables::{Spec, Table};
@@ -26,8 +28,28 @@ pub fn new_columns<'a>(table: &Table, specs: &'a [Spec], number: u32) -> &'a [Sp
 /// The values of the entry with a number.
 pub fn values_of<'a>(forest: &'a Forest<'_>, id: u32) -> &'a [Value]
     requires { id < length forest.now.entries }
-    ensures { result.now ≡ values_in forest.entry.now id }
+    ensures values { result.now ≡ values_in forest.entry.now id }
+    ensures order { IsInOrder forest.entry.now }
 {
     let entry = forest.entry(id);
     part(forest.values(), entry.first, entry.count)
+}
+
+/// Where the bytes of the expression of the value with a number begin, where `ends` says of each value where they end.
+pub fn begin_of(ends: &[u32], number: usize) -> u32
+    requires { number ≤ length ends.now }
+    ensures { result ≡ begin_among ends.now number }
+{
+    if number == 0 { 0 } else { ends[number - 1] }
+}
+
+/// The bytes of the expression of the value with a number, among those of all.
+pub fn made_for<'a>(ends: &[u32], expressions: &'a [u8], number: usize) -> &'a [u8]
+    requires number { number < length ends.now }
+    requires rising { begin_among ends.now number ≤ slice_index ends.now number }
+    requires inside { slice_index ends.now number ≤ length expressions.now }
+    ensures { result.now ≡ made_of ends.now expressions.entry.now number }
+{
+    let begin = begin_of(ends, number) as usize;
+    &expressions[begin..ends[number] as usize]
 }

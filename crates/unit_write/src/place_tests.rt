@@ -33,26 +33,27 @@ fn values_have_sizes(rt: HostRuntime) {
     let span = Span { at: 0, len: 3 };
     let rows = [
         // DW_FORM_udata has as few bytes as the number needs, and DW_FORM_sdata too
-        (0x0f, int(127), 1),
-        (0x0f, int(128), 2),
-        (0x0d, int(-64), 1),
-        (0x0d, int(64), 2),
+        (0x0f, int(127), 0, 1),
+        (0x0f, int(128), 0, 2),
+        (0x0d, int(-64), 0, 1),
+        (0x0d, int(64), 0, 2),
         // DW_FORM_data4, DW_FORM_implicit_const, DW_FORM_flag_present, DW_FORM_addr
-        (0x06, int(7), 4),
-        (0x19, Value::Flag(true), 0),
-        (0x01, Value::Addr(0), 8),
-        // a text ends with a byte 0, and an expression begins with its count
-        (0x08, Value::Text(span), 4),
-        (0x18, Value::Expr(span), 4),
+        (0x06, int(7), 0, 4),
+        (0x19, Value::Flag(true), 0, 0),
+        (0x01, Value::Addr(0), 0, 8),
+        // a text ends with a byte 0, and an expression has its new bytes behind their count
+        (0x08, Value::Text(span), 0, 4),
+        (0x18, Value::Expr(span), 127, 128),
+        (0x18, Value::Expr(span), 128, 130),
         // references have the bytes of their forms whatever their numbers, and DW_FORM_ref_udata has five
-        (0x13, Value::LocalRef(0), 4),
-        (0x14, Value::LocalRef(0), 8),
-        (0x15, Value::LocalRef(0), 5),
-        (0x10, Value::SectionRef(1), 4),
-        (0x17, Value::Offset(1), 4),
+        (0x13, Value::LocalRef(0), 0, 4),
+        (0x14, Value::LocalRef(0), 0, 8),
+        (0x15, Value::LocalRef(0), 0, 5),
+        (0x10, Value::SectionRef(1), 0, 4),
+        (0x17, Value::Offset(1), 0, 4),
     ];
-    for (form, value, size) in rows.iter() {
-        assert_eq!(rt; written_size(column(*form), value), *size);
+    for (form, value, len, size) in rows.iter() {
+        assert_eq!(rt; written_size(column(*form), value, *len), *size);
     }
 }
 
@@ -66,7 +67,7 @@ pub(crate) fn has_room(unit: &Unit<'_>, start: u64) -> bool
     }
     let forest = unit.forest();
     let more = 4 * u64::from(forest.len()) + 10 * u64::from(forest.value_count());
-    start + len + more < 0xffff_fff0
+    start + 3 * len + more < 0xffff_fff0
 }
 
 // Whether these are new codes of the declarations of a table without columns.
@@ -95,10 +96,14 @@ fn place_bare(
     if !are_codes(table, &numbers) {
         return Err("no codes")?;
     }
+    if unit.forest().value_count() != 0 {
+        return Err("values")?;
+    }
     if !has_room(unit, start) {
         return Err("no room")?;
     }
-    Ok(place_unit(alloc, unit, table, &Vec::new(alloc), &numbers, start))
+    let ends = Vec::new(alloc);
+    Ok(place_unit(alloc, unit, table, &Vec::new(alloc), &numbers, &ends, start))
 }
 
 // The places of a unit of a section.
@@ -165,10 +170,10 @@ fn entries_and_ends_have_places(rt: HostRuntime) -> Result<(), Fail> {
     );
     assert_eq!(rt; places.ends.as_slice(), [1016, 1019].as_slice());
     assert_eq!(rt; places.end, 1020);
-    // the last place with room for 22 bytes that were read and 4 more for each of four entries
-    let places = placed(alloc, &TREE, &BARE_TABLE, &[127, 128], 4_294_967_241)?
+    // the last place with room for three times the 22 bytes that were read and 4 more for each of four entries
+    let places = placed(alloc, &TREE, &BARE_TABLE, &[127, 128], 4_294_967_197)?
         .ok()
         .ok_or("no memory")?;
-    assert_eq!(rt; places.end, 4_294_967_261);
+    assert_eq!(rt; places.end, 4_294_967_217);
     Ok(())
 }

@@ -1,5 +1,5 @@
 // A unit written anew.
-ghost use Rattle.std.specs.Prelude.{◌≡◌, ◌≢◌, ◌≤◌, ◌<◌, ◌+◌, ◌-◌, ◌^◌, ◌++◌, ℕ, List, length, OnOk, OnErr};
+ghost use Rattle.std.specs.Prelude.{◌≡◌, ◌≢◌, ◌≤◌, ◌<◌, ◌+◌, ◌-◌, ◌^◌, ◌++◌, ℕ, List, length, slice_index, OnOk, OnErr};
 ghost use Rattle.std.specs.List.{All};
 ghost use Rattle.spelled.specs.Spelled.{Appends};
 ghost use Rattle.leb_codec.specs.Digits.{Extends};
@@ -11,12 +11,13 @@ ghost use Rattle.fixed_width.specs.InitialLengths.{least_reserved};
 ghost use Rattle.entry_read.specs.Heads.{type_unit};
 ghost use Rattle.unit_write.specs.Values.{HaveSize};
 ghost use Rattle.unit_write.specs.Placing.{IsRenumbered};
-ghost use Rattle.unit_write.specs.Moved.{IsRoomy, IsWritable, IsPlacedAt, IsWrittenAnew};
+ghost use Rattle.unit_write.specs.NewExpressions.{lens_of, AreEndsFor};
+ghost use Rattle.unit_write.specs.Moved.{IsRoomy, IsWritable, IsPlacedAt, IsWrittenAnew, new_values};
 ghost use Rattle.unit_write.specs.inside.Readings.{HasItem};
-ghost use Rattle.unit_write.specs.inside.Puts.{PutsValues, PutsEntry, PutsItems, PutsNext, own_bytes, header_bytes};
+ghost use Rattle.unit_write.specs.inside.Puts.{AreNew, PutsValues, PutsEntry, PutsItems, PutsNext, own_bytes, header_bytes};
 
 use crate::items::{Items, Next};
-use crate::parts::{new_columns, part, values_of};
+use crate::parts::{made_for, new_columns, values_of};
 use crate::values::put_value;
 use abbrev_tables::{Spec, Table};
 use dw_base::NoMemory;
@@ -41,6 +42,10 @@ pub struct NewNumbers {
     /// For each value, in the order of the values, the number that stands in it where it is a reference or a section offset;
     /// for another value any number.
     pub held: Vec<u64>,
+    /// For each value where the bytes of its expression end in `expressions`, as `expression_ends` says.
+    pub ends: Vec<u32>,
+    /// The new bytes of all expressions, one after the other.
+    pub expressions: Vec<u8>,
 }
 
 // Appends the fields that only the headers of type units and of skeleton units have, or a front of them.
@@ -76,24 +81,33 @@ pub(crate) fn put_head(
     put_own(out, head.kind, head.extra, new.type_offset)
 }
 
-// Appends the values of columns, each with a number of its own, or a front of them.
+// Appends the values of columns, or a front of them. `first` is the number of the first one among all values.
 fn put_values(
     out: &mut Vec<u8>,
     columns: &[Spec],
     values: &[Value],
-    numbers: &[u64],
     section: &[u8],
+    first: u32,
+    new: &NewNumbers,
 ) -> Result<(), NoMemory>
-    requires sized { (size : ℕ) × HaveSize section.now columns.now values.now size }
+    requires sized { (lens : List ℕ) × (size : ℕ) × HaveSize section.now columns.now values.now lens size }
     requires inside { All (LiesIn (length section.now)) values.now }
     requires roomy { All IsRoomy columns.now }
-    requires numbered { length numbers.now ≡ length values.now }
-    requires narrow { All (λ number. number < 2 ^ 32) numbers.now }
-    ensures ok { OnOk result (Appends (PutsValues section.now columns.now values.now) numbers.now out.old.items out.new.items) }
+    requires new { (count : ℕ) × AreNew (new_values new.now) count × (first + length values.now ≤ count) }
+    ensures ok { OnOk result (Appends (PutsValues section.now (new_values new.now) first columns.now) values.now out.old.items out.new.items) }
     ensures err { OnErr result (Extends out.old.items out.new.items) }
 {
     for (place, column) in columns.iter().enumerate() {
-        put_value(out, *column, &values[place], numbers[place], section)?;
+        let number = first as usize + place;
+        let made = made_for(&new.ends, &new.expressions, number);
+        put_value(
+            out,
+            *column,
+            &values[place],
+            new.held[number],
+            made,
+            section,
+        )?;
     }
     Ok(())
 }
@@ -105,13 +119,13 @@ fn put_entry(
     decls: &Table,
     specs: &[Spec],
     numbers: &[u32],
-    held: &[u64],
+    new: &NewNumbers,
     id: u32,
 ) -> Result<(), NoMemory>
-    requires writable { IsWritable unit.now decls.now specs.now numbers.now }
-    requires held { (length held.now ≡ length unit.now.forest.values) × All (λ number. number < 2 ^ 32) held.now }
+    requires writable { IsWritable unit.now decls.now specs.now numbers.now (lens_of new.now.ends.items) }
+    requires new { AreNew (new_values new.now) (length unit.now.forest.values) }
     requires inside { id < length unit.now.forest.entries }
-    ensures ok { OnOk result (Appends (PutsEntry decls.now specs.now numbers.now held.now unit.now.forest) id out.old.items out.new.items) }
+    ensures ok { OnOk result (Appends (PutsEntry decls.now specs.now numbers.now (new_values new.now) unit.now.forest) id out.old.items out.new.items) }
     ensures err { OnErr result (Extends out.old.items out.new.items) }
 {
     let forest = unit.forest();
@@ -121,8 +135,9 @@ fn put_entry(
         out,
         new_columns(decls, specs, entry.decl),
         values_of(forest, id),
-        part(held, entry.first, entry.count),
         forest.section(),
+        entry.first,
+        new,
     )
 }
 
@@ -133,17 +148,17 @@ fn put_next(
     decls: &Table,
     specs: &[Spec],
     numbers: &[u32],
-    held: &[u64],
+    new: &NewNumbers,
     next: Next,
 ) -> Result<(), NoMemory>
-    requires writable { IsWritable unit.now decls.now specs.now numbers.now }
-    requires held { (length held.now ≡ length unit.now.forest.values) × All (λ number. number < 2 ^ 32) held.now }
+    requires writable { IsWritable unit.now decls.now specs.now numbers.now (lens_of new.now.ends.items) }
+    requires new { AreNew (new_values new.now) (length unit.now.forest.values) }
     requires inside { HasItem unit.now.forest next }
-    ensures ok { OnOk result (Appends (PutsNext (PutsEntry decls.now specs.now numbers.now held.now unit.now.forest)) next out.old.items out.new.items) }
+    ensures ok { OnOk result (Appends (PutsNext (PutsEntry decls.now specs.now numbers.now (new_values new.now) unit.now.forest)) next out.old.items out.new.items) }
     ensures err { OnErr result (Extends out.old.items out.new.items) }
 {
     match next {
-        Next::Entry(id) => put_entry(out, unit, decls, specs, numbers, held, id),
+        Next::Entry(id) => put_entry(out, unit, decls, specs, numbers, new, id),
         Next::End => {
             out.push(0)?;
             Ok(())
@@ -158,16 +173,16 @@ fn put_items(
     decls: &Table,
     specs: &[Spec],
     numbers: &[u32],
-    held: &[u64],
+    new: &NewNumbers,
 ) -> Result<(), NoMemory>
-    requires writable { IsWritable unit.now decls.now specs.now numbers.now }
-    requires held { (length held.now ≡ length unit.now.forest.values) × All (λ number. number < 2 ^ 32) held.now }
-    ensures ok { (ds : List Declared) (start place : ℕ) (whole : IsWhole unit.now.forest.section ds start (listed_to unit.now.forest place)) → OnOk result (Appends (PutsItems (PutsEntry decls.now specs.now numbers.now held.now unit.now.forest) 0) whole.items out.old.items out.new.items) }
+    requires writable { IsWritable unit.now decls.now specs.now numbers.now (lens_of new.now.ends.items) }
+    requires new { AreNew (new_values new.now) (length unit.now.forest.values) }
+    ensures ok { (ds : List Declared) (start place : ℕ) (whole : IsWhole unit.now.forest.section ds start (listed_to unit.now.forest place)) → OnOk result (Appends (PutsItems (PutsEntry decls.now specs.now numbers.now (new_values new.now) unit.now.forest) 0) whole.items out.old.items out.new.items) }
     ensures grows { Extends out.old.items out.new.items }
 {
     let mut items = Items::new();
     while let Some(next) = items.next(unit.forest()) {
-        put_next(out, unit, decls, specs, numbers, held, next)?;
+        put_next(out, unit, decls, specs, numbers, new, next)?;
     }
     Ok(())
 }
@@ -181,26 +196,27 @@ fn put_unit(
     numbers: &[u32],
     new: &NewNumbers,
 ) -> Result<(), NoMemory>
-    requires writable { IsWritable unit.now decls.now specs.now numbers.now }
-    requires ends { (entries : List ℕ) × (ends : List ℕ) × IsPlacedAt unit.now decls.now specs.now numbers.now (length out.old.items) entries ends new.now.end }
+    requires writable { IsWritable unit.now decls.now specs.now numbers.now (lens_of new.now.ends.items) }
+    requires ends { (entries : List ℕ) × (ends : List ℕ) × IsPlacedAt unit.now decls.now specs.now numbers.now (lens_of new.now.ends.items) (length out.old.items) entries ends new.now.end }
     requires fits { new.now.end < least_reserved }
-    requires held { (length new.now.held.items ≡ length unit.now.forest.values) × All (λ number. number < 2 ^ 32) new.now.held.items }
+    requires new { AreNew (new_values new.now) (length unit.now.forest.values) }
     requires narrow { (new.now.table < 2 ^ 32) × (new.now.type_offset < 2 ^ 32) }
     requires type_offset { unit.now.head.kind ≢ type_unit → new.now.type_offset ≡ 0 }
-    ensures ok { (ds : List Declared) → IsRenumbered decls.now specs.now numbers.now ds → OnOk result (IsWrittenAnew unit.now decls.now specs.now numbers.now ds new.now.table new.now.type_offset new.now.held.items (length out.old.items) out.new.items) }
+    ensures ok { (ds : List Declared) → IsRenumbered decls.now specs.now numbers.now ds → OnOk result (IsWrittenAnew unit.now decls.now specs.now numbers.now ds new.now.table new.now.type_offset (new_values new.now) (length out.old.items) out.new.items) }
     ensures grows { Extends out.old.items out.new.items }
 {
     let len = new.end - out.len() as u64 - 4;
     put_head(out, unit.head(), len, new)?;
-    put_items(out, unit, decls, specs, numbers, &new.held)
+    put_items(out, unit, decls, specs, numbers, new)
 }
 
 /// Appends a unit written anew (DWARF 5 section 7.5) to `out`, the front of a new .debug_info, with the unit's table `decls`, a
 /// new column in place of each of the table's, the new code of each declaration, and new numbers, each below 2^32.
 ///
 /// The entries keep their order and their values, but that references and section offsets have their new numbers. Every
-/// LEB128 number has its fewest bytes, but those of DW_FORM_ref_udata, which have five. No byte follows the tree. The unit
-/// ends at `new.end`, as `place_unit` says. The only error is want of memory; it leaves `out` as it was.
+/// LEB128 number has its fewest bytes, but those of DW_FORM_ref_udata, which have five. An expression has its new bytes. No
+/// byte follows the tree. The unit ends at `new.end`, as `place_unit` says. The only error is want of memory; it leaves `out`
+/// as it was.
 pub fn write_unit(
     out: &mut Vec<u8>,
     unit: &Unit<'_>,
@@ -209,13 +225,14 @@ pub fn write_unit(
     numbers: &Vec<u32>,
     new: &NewNumbers,
 ) -> Result<(), NoMemory>
-    requires writable { IsWritable unit.now decls.now specs.now.items numbers.now.items }
-    requires ends { (entries : List ℕ) × (ends : List ℕ) × IsPlacedAt unit.now decls.now specs.now.items numbers.now.items (length out.old.items) entries ends new.now.end }
+    requires writable { IsWritable unit.now decls.now specs.now.items numbers.now.items (lens_of new.now.ends.items) }
+    requires ends { (entries : List ℕ) × (ends : List ℕ) × IsPlacedAt unit.now decls.now specs.now.items numbers.now.items (lens_of new.now.ends.items) (length out.old.items) entries ends new.now.end }
     requires fits { new.now.end < least_reserved }
     requires held { (length new.now.held.items ≡ length unit.now.forest.values) × All (λ number. number < 2 ^ 32) new.now.held.items }
+    requires expressions { AreEndsFor unit.now.forest new.now.ends.items × ((k : ℕ) → k < length unit.now.forest.values → slice_index new.now.ends.items k ≤ length new.now.expressions.items) }
     requires narrow { (new.now.table < 2 ^ 32) × (new.now.type_offset < 2 ^ 32) }
     requires type_offset { unit.now.head.kind ≢ type_unit → new.now.type_offset ≡ 0 }
-    ensures written { OnOk result ((ds : List Declared) → IsRenumbered decls.now specs.now.items numbers.now.items ds → IsWrittenAnew unit.now decls.now specs.now.items numbers.now.items ds new.now.table new.now.type_offset new.now.held.items (length out.old.items) out.new.items) }
+    ensures written { OnOk result ((ds : List Declared) → IsRenumbered decls.now specs.now.items numbers.now.items ds → IsWrittenAnew unit.now decls.now specs.now.items numbers.now.items ds new.now.table new.now.type_offset (new_values new.now) (length out.old.items) out.new.items) }
     ensures behind { OnOk result (Extends out.old.items out.new.items) }
     ensures unchanged { OnErr result (out.new.items ≡ out.old.items) }
 {

@@ -1,24 +1,28 @@
 // Bytes of units, written by hand from DWARF 5 sections 7.5 and 7.6.
-ghost use Rattle.std.specs.Prelude.{◌≡◌, ◌≢◌, ◌<◌, ◌^◌, ℕ, List, length, IsTrue};
+ghost use Rattle.std.specs.Prelude.{◌≡◌, ◌≢◌, ◌<◌, ◌*◌, ◌^◌, ℕ, List, length, slice_index, IsTrue};
 ghost use Rattle.std.specs.List.{All};
 ghost use Rattle.form_codec.specs.Values.{meant_in, IsValueIn};
 ghost use Rattle.entry_arena.specs.Arena.{entry_at};
+ghost use Rattle.dw_base.specs.declared.fault.Reach.TheVariants.{Narrow};
+ghost use Rattle.entry_read.specs.Expressions.{HasOperations};
 ghost use Rattle.entry_read.specs.Heads.{IsHead};
 ghost use Rattle.entry_read.specs.Units.{declarations_of, IsTable, IsUnitHeld};
 ghost use Rattle.unit_write.specs.Values.{HasSize, HaveSize};
 ghost use Rattle.unit_write.specs.Placing.{columns_of, values_in};
+ghost use Rattle.unit_write.specs.NewExpressions.{AreEndsFor, lens_of};
 ghost use Rattle.unit_write.specs.Moved.{IsRoomy, IsWritable};
 ghost use Rattle.unit_write.specs.Sizes.{HoldsNumber};
 
 use crate::laws::bytes_are_small;
 use crate::parts::{new_columns, values_of};
 use crate::place_tests::has_room;
-use crate::values::{moves, put_number};
+use crate::values::{is_expression, moves, put_number};
 use crate::write::put_head;
-use crate::{NewNumbers, place_unit, write_unit};
+use crate::{NewNumbers, expression_ends, place_unit, write_expressions, write_unit};
 use abbrev_tables::{Spec, Table};
-use dw_base::NoMemory;
-use entry_read::{Counts, Unit, UnitHead, heads, read_unit};
+use dw_base::{NoMemory, Reach};
+use entry_arena::Operations;
+use entry_read::{Counts, Unit, UnitHead, heads, read_expressions, read_unit};
 use form_codec::{Form, Value, admits, spelled_size};
 use std::alloc::Global;
 use std::process::Abort;
@@ -71,6 +75,8 @@ fn header_of(alloc: Global, kind: u8) -> Result<Vec<u8>, NoMemory> {
         table: 0x1234,
         type_offset: 0x1d,
         held: Vec::new(alloc),
+        ends: Vec::new(alloc),
+        expressions: Vec::new(alloc),
     };
     let mut out = Vec::new(alloc);
     put_head(&mut out, head, 0x21, &new)?;
@@ -113,8 +119,11 @@ fn holds_number(form: u64, value: &Value) -> bool
 
 // Whether something can be written for a value in a column, other than a constant of the declaration.
 fn is_sized(column: Spec, value: &Value) -> bool
-    ensures { IsTrue result → (section : List ℕ) → length section < 2 ^ 63 → IsValueIn section value.now → (size : ℕ) × HasSize column (meant_in section value.now) size }
+    ensures { IsTrue result → (section : List ℕ) (len : ℕ) → length section < 2 ^ 63 → IsValueIn section value.now → len < 2 ^ 64 → (size : ℕ) × HasSize column (meant_in section value.now) len size }
 {
+    if is_expression(value) {
+        return column.form == 0x18;
+    }
     if moves(value) {
         return holds_number(column.form, value);
     }
@@ -124,7 +133,7 @@ fn is_sized(column: Spec, value: &Value) -> bool
 
 // Whether it can for the values of an entry.
 fn are_sized(columns: &[Spec], values: &[Value]) -> bool
-    ensures { IsTrue result → (section : List ℕ) → length section < 2 ^ 63 → All (IsValueIn section) values.now → (size : ℕ) × HaveSize section columns.now values.now size }
+    ensures { IsTrue result → (section lens : List ℕ) → length section < 2 ^ 63 → All (IsValueIn section) values.now → length lens ≡ length values.now → ((k : ℕ) → slice_index lens k < 2 ^ 64) → (size : ℕ) × HaveSize section columns.now values.now lens size }
 {
     if columns.len() != values.len() {
         return false;
@@ -139,7 +148,7 @@ fn are_sized(columns: &[Spec], values: &[Value]) -> bool
 
 // Whether it can for all entries of a unit.
 fn entries_are_sized(unit: &Unit<'_>, table: &Table, specs: &[Spec]) -> bool
-    ensures { IsTrue result → (id : ℕ) → id < length unit.now.forest.entries → ((entry_at unit.now.forest.entries id).decl < length table.now.decls) × ((section : List ℕ) → length section < 2 ^ 63 → All (IsValueIn section) (values_in unit.now.forest id) → (size : ℕ) × HaveSize section (columns_of table.now specs.now (entry_at unit.now.forest.entries id).decl) (values_in unit.now.forest id) size) }
+    ensures { IsTrue result → (id : ℕ) → id < length unit.now.forest.entries → ((entry_at unit.now.forest.entries id).decl < length table.now.decls) × ((section lens : List ℕ) → length section < 2 ^ 63 → All (IsValueIn section) (values_in unit.now.forest id) → length lens ≡ length (values_in unit.now.forest id) → ((k : ℕ) → slice_index lens k < 2 ^ 64) → (size : ℕ) × HaveSize section (columns_of table.now specs.now (entry_at unit.now.forest.entries id).decl) (values_in unit.now.forest id) lens size) }
 {
     let forest = unit.forest();
     for id in 0..forest.len() {
@@ -169,10 +178,18 @@ fn are_used(numbers: &[u32]) -> bool
 }
 
 // Whether a unit can be written with these columns and codes.
-fn is_writable(unit: &Unit<'_>, table: &Table, specs: &Vec<Spec>, numbers: &Vec<u32>) -> bool
+fn is_writable(
+    unit: &Unit<'_>,
+    table: &Table,
+    specs: &Vec<Spec>,
+    numbers: &Vec<u32>,
+    ends: &Vec<u32>,
+) -> bool
     requires head { IsHead unit.now.forest.section unit.now.head }
     requires held { IsUnitHeld unit.now.forest.section unit.now.head (declarations_of table.now) unit.now.forest }
-    ensures { IsTrue result → IsWritable unit.now table.now specs.now.items numbers.now.items }
+    requires ends { AreEndsFor unit.now.forest ends.now.items }
+    requires room { 3 * length unit.now.forest.section < 2 ^ 32 }
+    ensures { IsTrue result → IsWritable unit.now table.now specs.now.items numbers.now.items (lens_of ends.now.items) }
 {
     bytes_are_small(unit.forest().section());
     if specs.len() != table.specs().len() || numbers.len() != table.len() as usize {
@@ -187,37 +204,64 @@ fn is_writable(unit: &Unit<'_>, table: &Table, specs: &Vec<Spec>, numbers: &Vec<
     entries_are_sized(unit, table, specs)
 }
 
+// Whether these are so many numbers of 32 bits.
+fn are_narrow(numbers: &Vec<u64>, count: usize) -> bool
+    ensures count { IsTrue result → length numbers.now.items ≡ count }
+    ensures narrow { IsTrue result → All (λ number. number < 2 ^ 32) numbers.now.items }
+{
+    numbers.len() == count && numbers.iter().all(|number| *number < 1 << 32)
+}
+
+// What stands in a unit that is written: the numbers of its values, and those of its operations.
+#[derive(Clone, Copy)]
+struct Named<'a> {
+    held: &'a [u64],
+    references: &'a [u64],
+}
+
 // A unit written behind two bytes, with its table at 0x30.
 fn write_sized(
     alloc: Global,
     unit: &Unit<'_>,
+    operations: &Operations,
     table: &Table,
     specs: &[Spec],
     numbers: &[u32],
-    held: &[u64],
+    named: Named<'_>,
 ) -> Result<Vec<u8>, Fail>
     requires head { IsHead unit.now.forest.section unit.now.head }
     requires held { IsUnitHeld unit.now.forest.section unit.now.head (declarations_of table.now) unit.now.forest }
+    requires operations { HasOperations Narrow unit.now.forest operations.now }
 {
     let specs = specs.to_vec(alloc)?;
     let numbers = numbers.to_vec(alloc)?;
-    let held = held.to_vec(alloc)?;
-    let narrow = held.iter().all(|number| *number < 1 << 32);
-    if !narrow || held.len() != unit.forest().value_count() as usize {
+    let held = named.held.to_vec(alloc)?;
+    let references = named.references.to_vec(alloc)?;
+    if !are_narrow(&held, unit.forest().value_count() as usize) {
         return Err("no numbers")?;
     }
-    if !is_writable(unit, table, &specs, &numbers) {
+    if !are_narrow(&references, operations.ops().len()) {
+        return Err("no references")?;
+    }
+    if unit.forest().section().len() >= 1 << 30 {
+        return Err("too long")?;
+    }
+    let ends = expression_ends(alloc, unit, operations)?;
+    if !is_writable(unit, table, &specs, &numbers, &ends) {
         return Err("not writable")?;
     }
     if !has_room(unit, 2) {
         return Err("no room")?;
     }
-    let places = place_unit(alloc, unit, table, &specs, &numbers, 2)?;
+    let places = place_unit(alloc, unit, table, &specs, &numbers, &ends, 2)?;
+    let expressions = write_expressions(alloc, unit, operations, &ends, &references)?;
     let new = NewNumbers {
         end: places.end,
         table: 0x30,
         type_offset: 0,
         held,
+        ends,
+        expressions,
     };
     let mut out = [0xaa, 0xbb].to_vec(alloc)?;
     write_unit(&mut out, unit, table, &specs, &numbers, &new)?;
@@ -232,7 +276,7 @@ fn write_at(
     table: &Table,
     specs: &[Spec],
     numbers: &[u32],
-    held: &[u64],
+    named: Named<'_>,
 ) -> Result<Vec<u8>, Fail>
     requires head { IsHead info.now head.now }
     requires table { IsTable table.now }
@@ -242,7 +286,10 @@ fn write_at(
         values: 0,
     };
     match read_unit(alloc, info, head, table, before, 0) {
-        Ok(unit) => write_sized(alloc, &unit, table, specs, numbers, held),
+        Ok(unit) => match read_expressions(alloc, &unit, 0, Reach::Narrow) {
+            Ok(held) => write_sized(alloc, &unit, &held, table, specs, numbers, named),
+            Err(_) => Err("expressions")?,
+        },
         Err(_) => Err("refused")?,
     }
 }
@@ -254,7 +301,7 @@ fn written(
     table: &[u8],
     specs: &[Spec],
     numbers: &[u32],
-    held: &[u64],
+    named: Named<'_>,
 ) -> Result<Vec<u8>, Fail> {
     if table.is_empty() {
         return Err("no table")?;
@@ -262,7 +309,7 @@ fn written(
     let table = Table::read(alloc, table, 0, 0).ok().ok_or("no table")?;
     let heads = heads(alloc, info, 0).ok().ok_or("no heads")?;
     for head in heads.iter() {
-        return write_at(alloc, info, head, &table, specs, numbers, held);
+        return write_at(alloc, info, head, &table, specs, numbers, named);
     }
     Err("no unit")?
 }
@@ -302,8 +349,47 @@ fn units_are_written_anew(rt: HostRuntime) -> Result<(), Fail> {
         0xaa, 0xbb, 0x1d, 0, 0, 0, 5, 0, 1, 8, 0x30, 0, 0, 0, 2, 0x40, 0, 0, 0, 5, 1, 0x92, 0x80,
         0x80, 0x80, 0, 0x13, 0, 0, 0, 0x0e, 0, 0, 0, 0,
     ];
-    let held = [0x40, 99, 0x12, 0x13, 0x0e];
-    let out = written(rt.alloc(), &UNIT, &TABLE, &specs, &[2, 1], &held)?;
+    let named = Named {
+        held: &[0x40, 99, 0x12, 0x13, 0x0e],
+        references: &[],
+    };
+    let out = written(rt.alloc(), &UNIT, &TABLE, &specs, &[2, 1], named)?;
+    assert_eq!(rt; out.as_slice(), bytes.as_slice());
+    Ok(())
+}
+
+// A root with a base type and two variables. The expression of the first is DW_OP_lit0, DW_OP_convert to the base type and
+// DW_OP_stack_value, and that of the second is DW_OP_fbreg with a padded 8.
+const LOCATED: [u8; 26] = [
+    0x16, 0, 0, 0, 5, 0, 1, 8, 0, 0, 0, 0, 1, 2, 3, 4, 0x30, 0xa8, 0x0d, 0x9f, 3, 3, 0x91, 0x88, 0,
+    0,
+];
+
+// Only the third declaration has a column: DW_AT_location in DW_FORM_exprloc.
+const LOCATED_TABLE: [u8; 18] = [
+    1, 0x11, 1, 0, 0, 2, 0x24, 0, 0, 0, 3, 0x34, 0, 0x02, 0x18, 0, 0, 0,
+];
+
+#[test]
+fn expressions_are_written_anew(rt: HostRuntime) -> Result<(), Fail> {
+    // the reference to the base type has five bytes, and the 8 of DW_OP_fbreg has one
+    let bytes: [u8; 31] = [
+        0xaa, 0xbb, 0x19, 0, 0, 0, 5, 0, 1, 8, 0x30, 0, 0, 0, 1, 2, 3, 8, 0x30, 0xa8, 0x8d, 0x80,
+        0x80, 0x80, 0, 0x9f, 3, 2, 0x91, 0x08, 0,
+    ];
+    let named = Named {
+        held: &[99, 99],
+        references: &[99, 0x0d, 99, 99],
+    };
+    let specs = [column(0x02, 0x18)];
+    let out = written(
+        rt.alloc(),
+        &LOCATED,
+        &LOCATED_TABLE,
+        &specs,
+        &[1, 2, 3],
+        named,
+    )?;
     assert_eq!(rt; out.as_slice(), bytes.as_slice());
     Ok(())
 }

@@ -1,5 +1,5 @@
 -- The values of entries, by the numbers of their columns.
-use Rattle.std.proofs.Common.{◌≡◌, ◌<◌, ◌+◌, ◌++◌, ◌∙◌, ℕ, List, ◌∷◌, length, take, drop, sym, ap, subst, refl, arith}
+use Rattle.std.proofs.Common.{◌≡◌, ◌≤◌, ◌<◌, ◌+◌, ◌-◌, ◌++◌, ◌∙◌, ℕ, List, ◌∷◌, length, take, drop, sym, ap, subst, refl, arith}
 use Rattle.std.specs.Prelude.{pos}
 use Rattle.std.proofs.Math.Seq.{get_or-append_seam}
 use Rattle.std.proofs.lemmas.List.{length-append, length-take-le, take-append-drop, drop_more}
@@ -73,3 +73,16 @@ column_stands info abbrevs unit is owned id k known inside =
     let s = entry_stands info unit.head (declarations unit) unit.forest is.section is.entries id known in
     let front = values_front unit.forest.section (declaration_of unit id).columns (values_of unit id) s.values_at ((entry_of unit id).at + (entry_of unit id).len) k s.valued in
     (front.0, stands_at unit owned id known k front.0 inside (record { values_at = s.values_at; coded = s.coded; valued = front.1 }))
+
+-- so each value of such a unit is that of a column
+pub value_stands : (info abbrevs : List ℕ) (unit : UnitRead) → IsUnitRead info abbrevs unit → HaveOwners (declarations unit) unit.forest → (number : ℕ) → number < length unit.forest.values → (id : ℕ) × (name : ℕ) × (place : ℕ) × HasValueAt unit id number name (meant_in unit.forest.section (value_at unit.forest.values number)) place
+value_stands info abbrevs unit is owned number inside =
+    let owner = owned.owned number inside in
+    let id : ℕ = owner.0 in
+    let from : (entry_of unit id).first ≤ number = owner.2 in
+    let to : number < (entry_of unit id).first + (entry_of unit id).count = owner.3 in
+    let k : ℕ = number - (entry_of unit id).first in
+    let same : (entry_of unit id).first + k ≡ number = omega arith in
+    let (place, stands) = column_stands info abbrevs unit is owned id k owner.1 (omega arith) in
+    let name : ℕ = (spec_at (declaration_of unit id).columns k).name in
+    (id, name, place, subst (λ (n : ℕ). HasValueAt unit id n name (meant_in unit.forest.section (value_at unit.forest.values n)) place) same stands)

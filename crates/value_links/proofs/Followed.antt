@@ -16,7 +16,7 @@ use Rattle.value_links.specs.declared.lists.ListRead.{ListRead as HeldList}
 use Rattle.value_links.specs.declared.parts.Parts.{Parts}
 use Rattle.value_links.specs.Reading.{ListSection, ListRead, Linkable, Reading, lists_of, of_kind, list_at, part_at}
 use Rattle.value_links.specs.ListPlaces.{IsSlot, SlotNames}
-use Rattle.value_links.specs.Linked.Linked.{Itself, Refers, Program, ListAt, SlotAt, BaseOf, Kept}
+use Rattle.value_links.specs.Linked.Linked.{Itself, Operates, Refers, Program, ListAt, SlotAt, BaseOf, Kept}
 use Rattle.value_links.specs.Lists.{IsFrozen, AreListsOf}
 use Rattle.value_links.specs.Links.{IsFollowed, IsLinkFound}
 use Rattle.value_links.specs.Parts.{section_held}
@@ -39,6 +39,7 @@ slot_followed r slots kind p i is known counted =
 -- so what a link tells can be followed
 pub can_follow : (r : Linkable) → SlotsName r → (u id name : ℕ) (meaning : Meaning) (told : Link) → IsLinkFound r u id name meaning (Some told) → (to : Link) × IsFollowed r told to
 can_follow r slots u id name meaning told (Itself own, links, is) = (Plain, subst (λ (z : Link). IsFollowed r z Plain) (sym is) refl)
+can_follow r slots u id name meaning told (Operates operations, links, is) = (Plain, subst (λ (z : Link). IsFollowed r z Plain) (sym is) refl)
 can_follow r slots u id name meaning told (Refers unit target, links, is) = (Place unit target, subst (λ (z : Link). IsFollowed r z (Place unit target)) (sym is) refl)
 can_follow r slots u id name meaning told (Program p, links, is) = (Lines p, subst (λ (z : Link). IsFollowed r z (Lines p)) (sym is) refl)
 can_follow r slots u id name meaning told (ListAt kind at, links, is) = (AtList kind at, subst (λ (z : Link). IsFollowed r z (AtList kind at)) (sym is) refl)

@@ -1,11 +1,18 @@
 -- What values refer to is known from what is held: rows of programs don't tell, and the units are those that are held.
 use Rattle.std.proofs.Common.{◌≡◌, ◌<◌, ◌+◌, ◌∙◌, ℕ, suc, List, [], ◌∷◌, length, get_or, sym, ap, subst, refl, arith}
-use Rattle.std.specs.Prelude.{map, Option, Some, None}
+use Rattle.std.specs.Prelude.{◌⊎◌, map, Option, Some, None, true, false}
+use Rattle.std.specs.List.{AllZip}
 use Rattle.std.proofs.lemmas.List.{get_or-map, length-map}
 use Rattle.std.proofs.lemmas.Slice.Zip.{AllZip-long}
 use Rattle.line_machine.specs.declared.head.Head.{Head}
+use Rattle.expr_ops.specs.declared.op.Op.{Op}
+use Rattle.expr_ops.specs.declared.names.Named.{Named}
+use Rattle.expr_ops.specs.declared.names.Named.TheVariants.{Nothing, BaseType, UnitEntry, SectionEntry}
+use Rattle.expr_ops.specs.Drafts.{is_generic}
+use Rattle.expr_ops.specs.Expressions.{Operation}
+use Rattle.expr_ops.specs.Names.{named_by}
 use Rattle.form_codec.specs.Forms.{Meaning}
-use Rattle.form_codec.specs.Forms.Meaning.{InUnit, InSection, SectionPlace, LocationList, RangeList}
+use Rattle.form_codec.specs.Forms.Meaning.{Expression, InUnit, InSection, SectionPlace, LocationList, RangeList}
 use Rattle.dw_base.specs.declared.fault.Reach.{Reach}
 use Rattle.entry_read.specs.Units.{HeadAndForest}
 use Rattle.entry_arena.specs.Arena.{IsEntryAt}
@@ -15,6 +22,7 @@ use Rattle.list_model.specs.declared.entry.ListKind.TheVariants.{Ranges}
 use Rattle.list_model.specs.declared.tables.AddrTable.{AddrTable}
 use Rattle.list_model.specs.Addresses.{HasBase}
 use Rattle.value_links.specs.declared.link.Link.{Link}
+use Rattle.value_links.specs.declared.operations.OpLink.{OpLink}
 use Rattle.value_links.specs.declared.parts.Parts.{Parts}
 use Rattle.value_links.specs.declared.units.NamedTable.{NamedTable}
 use Rattle.value_links.specs.Sections.{debug_addr, debug_rnglists}
@@ -25,9 +33,11 @@ use Rattle.value_links.specs.ListPlaces.{IsListPlace, IsOffsetsAt, NamesPart, Is
 use Rattle.list_model.specs.declared.context.Context.{Context}
 use Rattle.value_links.specs.Values.{HasValueAt, root_of}
 use Rattle.value_links.specs.Contexts.{IsContext}
+use Rattle.value_links.specs.Operations.{OpTarget, LinkedOperation, LinksOperation, LinksReference}
+use Rattle.value_links.specs.Operations.OpTarget.{GenericType, AnEntry}
 use Rattle.value_links.specs.Linked.{Linked, IsTargetAt, OffsetLinks, Links}
 use Rattle.value_links.specs.Laws.{AreLinked}
-use Rattle.value_links.specs.Links.{IsLinkFound}
+use Rattle.value_links.specs.Links.{IsLinkFound, IsOpLinkFound}
 use Rattle.value_links.specs.Parts.{HoldsParts}
 use Rattle.value_links.specs.World.{World, head_and_forest, AreTablesOf, Holds, IsWorldOf}
 use Rattle.value_links.proofs.HeldUnits.{held_count}
@@ -92,12 +102,25 @@ module _ (r s : Linkable) (same : AreAlike r s) where
   base_held : (u p : ℕ) → IsBaseOf r u Ranges p → IsBaseOf s u Ranges p
   base_held u p named = subst (λ (us : List UnitRead). NamesPart s.ranges (root_of (unit_among us u)).attributes rnglists_base p) same.units (subst (λ (z : ListSection). NamesPart z (root_of (unit_at r u)).attributes rnglists_base p) same.ranges named)
 
+  reference_held : (u : ℕ) (kind : Named) (code n : ℕ) (target : OpTarget) → LinksReference r u kind code n target → LinksReference s u kind code n target
+  reference_held u Nothing code n target named = named
+  reference_held u BaseType code n target named = subst (λ (us : List UnitRead). ((is_generic code n ≡ true) × (target ≡ GenericType)) ⊎ ((is_generic code n ≡ false) × ((id : ℕ) × IsEntryAt (unit_among us u).forest id ((unit_among us u).head.at + n) × (target ≡ AnEntry u id)))) same.units named
+  reference_held u UnitEntry code n target named = subst (λ (us : List UnitRead). (id : ℕ) × IsEntryAt (unit_among us u).forest id ((unit_among us u).head.at + n) × (target ≡ AnEntry u id)) same.units named
+  reference_held u SectionEntry code n target named = subst (λ (us : List UnitRead). (unit : ℕ) × (id : ℕ) × (unit < length us) × IsEntryAt (unit_among us unit).forest id n × (target ≡ AnEntry unit id)) same.units named
+
+  operations_held : (u : ℕ) (operations : List Operation) (linked : List LinkedOperation) → AllZip (LinksOperation r u) operations linked → AllZip (LinksOperation s u) operations linked
+  operations_held u [] [] all = tt
+  operations_held u [] (l ∷ linked) all = all
+  operations_held u (o ∷ operations) [] all = all
+  operations_held u (o ∷ operations) (l ∷ linked) (first, rest) = (record { operation = first.operation; target = reference_held u (named_by o.code) o.code o.a l.target first.target }, operations_held u operations linked rest)
+
   links_held : (u id name : ℕ) (meaning : Meaning) (linked : Linked) → Links r u id name meaning linked → Links s u id name meaning linked
   links_held u id name (InUnit n) linked (target, here, is) = (target, subst (λ (us : List UnitRead). IsTargetAt (unit_among us u).forest target ((unit_among us u).head.at + n)) same.units here, is)
   links_held u id name (InSection n) linked (unit, target, here, is) = (unit, target, subst (λ (us : List UnitRead). (unit < length us) × IsTargetAt (unit_among us unit).forest target n) same.units here, is)
   links_held u id name (SectionPlace n) linked f = offset_held u id (offset_class name) n linked f
   links_held u id name (LocationList i) linked (p, (n, first, (inside, at)), less, is) = absurd (omega (arith, inside))
   links_held u id name (RangeList i) linked (p, named, less, is) = (p, base_held u p named, subst (λ (z : ListSection). i < (part_at z p).slots) same.ranges less, is)
+  links_held u id name (Expression bytes) linked (all, (operations, spelled, zipped), is) = (all, (operations, spelled, operations_held u operations all zipped), is)
   links_held u id name meaning linked f = f
 
   value_held : (u id number name : ℕ) (meaning : Meaning) (place : ℕ) → HasValueAt (unit_at s u) id number name meaning place → HasValueAt (unit_at r u) id number name meaning place
@@ -110,15 +133,18 @@ module _ (r s : Linkable) (same : AreAlike r s) where
   pub linked_held : AreLinked r → AreLinked s
   linked_held linked = record {
     values = λ u id number name meaning place inside here. let (to, links) = linked.values u id number name meaning place (known_held u inside) (value_held u id number name meaning place here) in (to, links_held u id name meaning to links);
-    read = λ u id number name meaning place inside here. linked.read u id number name meaning place (known_held u inside) (value_held u id number name meaning place here);
     types = λ u inside is_type.
         let (id, here) = linked.types u (known_held u inside) (subst (λ (us : List UnitRead). (unit_among us u).head.kind ≡ type_unit) (sym same.units) is_type) in
         (id, subst (λ (us : List UnitRead). IsEntryAt (unit_among us u).forest id ((unit_among us u).head.at + (unit_among us u).head.type_at)) same.units here);
   }
 
-link_alike : (r s : Linkable) (u id name : ℕ) (meaning : Meaning) (found : Option Link) → AreAlike r s → IsLinkFound r u id name meaning found → IsLinkFound s u id name meaning found
+pub link_alike : (r s : Linkable) (u id name : ℕ) (meaning : Meaning) (found : Option Link) → AreAlike r s → IsLinkFound r u id name meaning found → IsLinkFound s u id name meaning found
 link_alike r s u id name meaning None same f = λ linked g. f linked (links_held s r (alike_back r s same) u id name meaning linked g)
 link_alike r s u id name meaning (Some link) same (linked, f, told) = (linked, links_held r s same u id name meaning linked f, told)
+
+op_link_alike : (r s : Linkable) (u : ℕ) (op : Op) (found : Option OpLink) → AreAlike r s → IsOpLinkFound r u op found → IsOpLinkFound s u op found
+op_link_alike r s u op None same none = λ target named. none target (reference_held s r (alike_back r s same) u (named_by op.code) op.code op.a target named)
+op_link_alike r s u op (Some link) same (target, named, told) = (target, reference_held r s same u (named_by op.code) op.code op.a target named, told)
 
 -- what is read of which these are the parts is alike
 pub parts_alike : (file other : List ℕ) (r s : Linkable) (parts : Parts) → HoldsParts file r parts → HoldsParts other s parts → AreAlike r s
@@ -168,3 +194,7 @@ link_held world parts held file r holds u id name meant found each =
     let same : AreAlike own r.links = world_alike world held.reach held.is file r holds in
     let here : IsLinkFound own u id name (meant own.units) found = each world.image own held.parts_are in
     link_alike own r.links u id name (meant r.links.units) found same (subst (λ (us : List UnitRead). IsLinkFound own u id name (meant us) found) same.units here)
+
+-- likewise of what an operation names
+pub op_link_held : (world : World) (parts : Parts) (held : IsHeldIn world.image parts world) (file : List ℕ) (r : Reading) → Holds file world r → (u : ℕ) (op : Op) (found : Option OpLink) → ((f : List ℕ) (s : Linkable) → HoldsParts f s parts → IsOpLinkFound s u op found) → IsOpLinkFound r.links u op found
+op_link_held world parts held file r holds u op found each = op_link_alike held.is.r.links r.links u op found (world_alike world held.reach held.is file r holds) (each world.image held.is.r.links held.parts_are)

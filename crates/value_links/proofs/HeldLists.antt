@@ -86,6 +86,7 @@ module _ (file : List ℕ) (r : Linkable) (parts : Parts) (holds : HoldsParts fi
     tiled = contributions_are.tiled;
     few = holds.few_ranges;
     contexts = contexts_counted;
+    operations = holds.operations.count;
     stand = subst (λ (addr : List ℕ). All (λ (context : Context). HasTable addr context.table) parts.contexts.items) (sym holds.addresses) (subst (All (λ (context : Context). HasTable r.addresses context.table)) (sym holds.contexts) (tables_stand r.addresses r.units r.contexts holds.read.contexts));
     bases = holds.bases.count ∙ sym (held_count r.units parts.units.units.items holds.units.units);
     inside = All-from_get_or (λ (found : Option ℕ). IfSome found (λ p. p < length parts.ranges.parts.items)) parts.bases.items None (λ u inside. let known : u < length r.units = subst (λ (n : ℕ). u < n) holds.bases.count inside in base_inside u known (get_or parts.bases.items u None) (holds.bases.each u known));

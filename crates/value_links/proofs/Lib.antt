@@ -2,6 +2,8 @@ mod WorkedRows
 pub mod SectionLaws
 pub mod Bases
 pub mod LinkLaws
+pub mod ExpressionBytes
+pub mod ExpressionLaws
 pub mod Targets
 pub mod Tiles
 pub mod LinkedOnce
@@ -50,3 +52,5 @@ pub mod ListContexts
 pub mod ListGroups
 pub mod ListBytes
 pub mod ListLaws
+pub mod ExprLinks
+pub mod OpLinks

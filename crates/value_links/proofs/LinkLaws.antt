@@ -1,11 +1,11 @@
--- A value refers to something or has a fault, and never both.
+-- A value refers to something or has a fault, and never both. Expressions are looked at apart.
 use Rattle.std.proofs.Common.{◌≡◌, ◌≤◌, ◌<◌, ◌+◌, ◌*◌, ◌∙◌, ◌⊎◌, inl, inr, ℕ, zero, suc, List, [], ◌∷◌, length, sym, ap, subst, refl, arith}
 use Rattle.std.proofs.lemmas.Bool.{cases_eq, cases_lt}
 use Rattle.dw_base.specs.declared.fault.Kind.{Kind}
-use Rattle.dw_base.specs.declared.fault.Kind.TheVariants.{Target as NoTarget, Pointer, NoBase, Unbuilt}
+use Rattle.dw_base.specs.declared.fault.Kind.TheVariants.{Target as NoTarget, Pointer, NoBase}
 use Rattle.fixed_width.specs.InitialLengths.{version, unit_length, unit_end, least_reserved, IsWhole}
 use Rattle.form_codec.specs.Forms.{Meaning}
-use Rattle.form_codec.specs.Forms.Meaning.{InUnit, InSection, SectionPlace, LocationList, RangeList}
+use Rattle.form_codec.specs.Forms.Meaning.{Expression, InUnit, InSection, SectionPlace, LocationList, RangeList}
 use Rattle.entry_arena.specs.declared.entry.Target.{Target}
 use Rattle.entry_arena.specs.declared.entry.Target.TheVariants.{Entry as TheEntry, ChainEnd as TheEnd}
 use Rattle.entry_arena.specs.Arena.{Arena, entry_at, chain_end_at}
@@ -24,7 +24,7 @@ use Rattle.value_links.specs.ListPlaces.{IsListPlace, IsOffsetsAt, base_of}
 use Rattle.value_links.specs.Linked.{Linked, IsTargetAt, IsSectionTarget, IsProgramAt, IndexLinks, OffsetLinks, Links}
 use Rattle.value_links.specs.Linked.Linked.{Itself, Refers, Program, ListAt, SlotAt, BaseOf, Kept}
 use Rattle.value_links.specs.LinkFaults.{IsTargetless, NamesNothing, IsIndexAstray, IsDangling, IsBaseless, FaultValue}
-use Rattle.value_links.specs.Laws.{LinkedOrFaulty, LinkedHaveNoFault}
+use Rattle.value_links.specs.Laws.{LinkedHaveNoFault}
 use Rattle.value_links.proofs.Bases.{first_or_none, one_base}
 
 -- ONE OR THE OTHER
@@ -201,22 +201,21 @@ module _ (r : Linkable) (u id : ℕ) where
     | inr none ↦ inr (λ (s : (unit : ℕ) × (target : Target) × IsSectionTarget r n unit target). none s.0 s.2.0 (s.1, s.2.1))
   ]
 
-  value_or_fault : (name : ℕ) (meaning : Meaning) → ((v : Linked) × Links r u id name meaning v) ⊎ ((kind : Kind) × FaultValue r u id name meaning kind)
+  -- a value is linked, has a fault, or is an expression
+  pub value_or_fault : (name : ℕ) (meaning : Meaning) → ((v : Linked) × Links r u id name meaning v) ⊎ (((kind : Kind) × FaultValue r u id name meaning kind) ⊎ ((bytes : List ℕ) × (meaning ≡ Expression bytes)))
   value_or_fault name (InUnit n) = elim (target_or_none (unit_at r u).forest ((unit_at r u).head.at + n)) [
     | inl found ↦ inl (Refers u found.0, (found.0, found.1, refl))
-    | inr none ↦ inr (NoTarget, none)
+    | inr none ↦ inr (inl (NoTarget, none))
   ]
   value_or_fault name (InSection n) = elim (section_or_none n) [
     | inl found ↦ inl (Refers found.0 found.1, (found.0, found.1, found.2, refl))
-    | inr none ↦ inr (NoTarget, none)
+    | inr none ↦ inr (inl (NoTarget, none))
   ]
-  value_or_fault name (SectionPlace n) = elim (offset_or_fault (offset_class name) n) [ inl links ↦ inl links | inr none ↦ inr (Pointer, none) ]
-  value_or_fault name (LocationList i) = elim (index_or_fault Locations i) [ inl links ↦ inl links | inr fault ↦ elim fault [ inl astray ↦ inr (Pointer, astray) | inr none ↦ inr (NoBase, none) ] ]
-  value_or_fault name (RangeList i) = elim (index_or_fault Ranges i) [ inl links ↦ inl links | inr fault ↦ elim fault [ inl astray ↦ inr (Pointer, astray) | inr none ↦ inr (NoBase, none) ] ]
+  value_or_fault name (SectionPlace n) = elim (offset_or_fault (offset_class name) n) [ inl links ↦ inl links | inr none ↦ inr (inl (Pointer, none)) ]
+  value_or_fault name (LocationList i) = elim (index_or_fault Locations i) [ inl links ↦ inl links | inr fault ↦ elim fault [ inl astray ↦ inr (inl (Pointer, astray)) | inr none ↦ inr (inl (NoBase, none)) ] ]
+  value_or_fault name (RangeList i) = elim (index_or_fault Ranges i) [ inl links ↦ inl links | inr fault ↦ elim fault [ inl astray ↦ inr (inl (Pointer, astray)) | inr none ↦ inr (inl (NoBase, none)) ] ]
+  value_or_fault name (Expression bytes) = inr (inr (bytes, refl))
   value_or_fault name meaning = inl (Itself meaning, refl)
-
-pub linked_or_faulty : LinkedOrFaulty
-linked_or_faulty r u id name meaning = value_or_fault r u id name meaning
 
 -- NEVER BOTH
 
@@ -253,8 +252,7 @@ has_base r u id name (RangeList i) v means none = none (index_based r u Ranges i
 has_base r u id name meaning v means none = none
 
 pub linked_faultless : LinkedHaveNoFault
-linked_faultless r u id name meaning v NoTarget built means fault = has_target r u id name meaning v means fault
-linked_faultless r u id name meaning v Pointer built means fault = points r u id name meaning v means fault
-linked_faultless r u id name meaning v NoBase built means fault = has_base r u id name meaning v means fault
-linked_faultless r u id name meaning v Unbuilt built means fault = built refl
-linked_faultless r u id name meaning v kind built means fault = fault
+linked_faultless r u id name meaning v NoTarget means fault = has_target r u id name meaning v means fault
+linked_faultless r u id name meaning v Pointer means fault = points r u id name meaning v means fault
+linked_faultless r u id name meaning v NoBase means fault = has_base r u id name meaning v means fault
+linked_faultless r u id name meaning v kind means fault = fault

@@ -1,9 +1,18 @@
 -- The value of an attribute refers to one thing.
-use Rattle.std.proofs.Common.{◌≡◌, ◌≤◌, ◌<◌, ◌+◌, ◌∙◌, ℕ, List, length, sym, ap, subst, arith}
+use Rattle.std.proofs.Common.{◌≡◌, ◌≤◌, ◌<◌, ◌+◌, ◌∙◌, inl, inr, true≢false, ℕ, List, length, sym, ap, subst, arith}
+use Rattle.std.specs.List.{AllZip}
 use Rattle.std.proofs.lemmas.List.Elements.{All-get_or}
+use Rattle.dw_base.specs.declared.fault.Reach.TheVariants.{Wide}
+use Rattle.expr_ops.specs.declared.names.Named.{Named}
+use Rattle.expr_ops.specs.declared.names.Named.TheVariants.{Nothing, BaseType, UnitEntry, SectionEntry}
+use Rattle.expr_ops.specs.Expressions.{Operation}
+use Rattle.expr_ops.specs.Names.{named_by}
+use Rattle.expr_ops.proofs.Levels.{expression_once}
 use Rattle.form_codec.specs.Forms.{Meaning}
-use Rattle.form_codec.specs.Forms.Meaning.{InUnit, InSection, SectionPlace, LocationList, RangeList}
+use Rattle.form_codec.specs.Forms.Meaning.{Expression, InUnit, InSection, SectionPlace, LocationList, RangeList}
 use Rattle.entry_arena.specs.declared.entry.Target.{Target}
+use Rattle.entry_arena.specs.declared.entry.Target.TheVariants.{Entry as TheEntry}
+use Rattle.entry_arena.specs.Arena.{IsEntryAt}
 use Rattle.entry_read.specs.Units.{entries_at, end_of}
 use Rattle.list_model.specs.declared.contribution.Contribution.{Contribution}
 use Rattle.list_model.specs.declared.entry.ListKind.{ListKind}
@@ -16,9 +25,12 @@ use Rattle.value_links.specs.Values.{root_of}
 use Rattle.value_links.specs.ListPlaces.{IsOffsetsAt, SlotNames, IsBaseOf, base_of}
 use Rattle.value_links.specs.Whole.{IsReadToLinks}
 use Rattle.value_links.specs.Linked.{Linked, IsTargetAt, IsSectionTarget, IsProgramAt, OffsetLinks, IndexLinks, Links}
-use Rattle.value_links.specs.Linked.Linked.{Refers, Program, SlotAt, BaseOf}
+use Rattle.value_links.specs.Operations.{OpTarget, LinkedOperation, NamesUnitEntry, NamesSectionEntry, NamesType, LinksReference, LinksOperation}
+use Rattle.value_links.specs.Operations.OpTarget.{AnEntry}
+use Rattle.value_links.specs.Linked.Linked.{Operates, Refers, Program, SlotAt, BaseOf}
 use Rattle.value_links.specs.Laws.{OneLinked}
-use Rattle.value_links.proofs.Targets.{HasTargets, held_targets, target_once}
+use Rattle.value_links.proofs.Targets.{HasTargets, held_targets, entry_once, target_once}
+use Rattle.value_links.proofs.ReadingOnce.{zip_once}
 use Rattle.entry_read.proofs.Chained.{has_bytes, lies_once}
 use Rattle.value_links.proofs.Tiles.{units_chained, programs_chained, parts_chained, tiled_of}
 use Rattle.value_links.proofs.Bases.{one_base}
@@ -97,6 +109,35 @@ module _ (file : List ℕ) (r : Linkable) (read : IsReadToLinks file r) where
   offset_once u id Views n v w a b = absurd a
   offset_once u id NoOffset n v w a b = absurd a
 
+  -- what an operation names is one thing
+  unit_entry_once : (u : ℕ) → u < length r.units → (n : ℕ) (a b : OpTarget) → NamesUnitEntry r u n a → NamesUnitEntry r u n b → a ≡ b
+  unit_entry_once u inside n a b (i, here, e) (j, there, f) =
+      e ∙ ap (λ (z : ℕ). AnEntry u z) (entry_once (unit_at r u).forest (targets u inside).order i j ((unit_at r u).head.at + n) here there) ∙ sym f
+
+  section_entry_once : (n : ℕ) (a b : OpTarget) → NamesSectionEntry r n a → NamesSectionEntry r n b → a ≡ b
+  section_entry_once n a b (v, i, v_in, here, e) (w, j, w_in, there, f) =
+      let same : v ≡ w = unit_once v w (TheEntry i) (TheEntry j) n (v_in, here) (w_in, there) in
+      let moved : IsEntryAt (unit_at r w).forest i n = subst (λ (z : ℕ). IsEntryAt (unit_at r z).forest i n) same here in
+      let entry : i ≡ j = entry_once (unit_at r w).forest (targets w w_in).order i j n moved there in
+      e ∙ ap (λ (z : ℕ). AnEntry z i) same ∙ ap (λ (z : ℕ). AnEntry w z) entry ∙ sym f
+
+  type_once : (u : ℕ) → u < length r.units → (code n : ℕ) (a b : OpTarget) → NamesType r u code n a → NamesType r u code n b → a ≡ b
+  type_once u inside code n a b (inl (is, e)) (inl (also, f)) = e ∙ sym f
+  type_once u inside code n a b (inl (is, e)) (inr (isnt, there)) = absurd (true≢false (sym is ∙ isnt))
+  type_once u inside code n a b (inr (isnt, here)) (inl (is, f)) = absurd (true≢false (sym is ∙ isnt))
+  type_once u inside code n a b (inr (isnt, here)) (inr (neither, there)) = unit_entry_once u inside n a b here there
+
+  reference_once : (u : ℕ) → u < length r.units → (named : Named) (code n : ℕ) (a b : OpTarget) → LinksReference r u named code n a → LinksReference r u named code n b → a ≡ b
+  reference_once u inside Nothing code n a b e f = e ∙ sym f
+  reference_once u inside BaseType code n a b p q = type_once u inside code n a b p q
+  reference_once u inside UnitEntry code n a b p q = unit_entry_once u inside n a b p q
+  reference_once u inside SectionEntry code n a b p q = section_entry_once n a b p q
+
+  operation_once : (u : ℕ) → u < length r.units → (o : Operation) (x y : LinkedOperation) → LinksOperation r u o x → LinksOperation r u o y → x ≡ y
+  operation_once u inside o x y p q =
+      let target : x.target ≡ y.target = reference_once u inside (named_by o.code) o.code o.a x.target y.target p.target q.target in
+      ap (λ (z : Operation). record { operation = z; target = x.target }) (p.operation ∙ sym q.operation) ∙ ap (λ (z : OpTarget). record { operation = y.operation; target = z }) target
+
   value_once : (u id name : ℕ) (meaning : Meaning) (v w : Linked) → u < length r.units → Links r u id name meaning v → Links r u id name meaning w → v ≡ w
   value_once u id name (InUnit n) v w inside (a, here, e) (b, there, f) =
       let target : a ≡ b = target_once (unit_at r u).forest (targets u inside).order a b ((unit_at r u).head.at + n) here there in
@@ -105,6 +146,10 @@ module _ (file : List ℕ) (r : Linkable) (read : IsReadToLinks file r) where
   value_once u id name (SectionPlace n) v w inside a b = offset_once u id (offset_class name) n v w a b
   value_once u id name (LocationList i) v w inside a b = index_once u Locations i v w a b
   value_once u id name (RangeList i) v w inside a b = index_once u Ranges i v w a b
+  value_once u id name (Expression bytes) v w inside (a, (os, spelled, here), e) (b, (ps, again, there), f) =
+      let same : os ≡ ps = expression_once Wide os ps bytes spelled again in
+      let moved : AllZip (LinksOperation r u) ps a = subst (λ (z : List Operation). AllZip (LinksOperation r u) z a) same here in
+      e ∙ ap (λ (z : List LinkedOperation). Operates z) (zip_once (LinksOperation r u) (operation_once u inside) ps a b moved there) ∙ sym f
   value_once u id name meaning v w inside a b = a ∙ sym b
 
 pub linked_once : OneLinked

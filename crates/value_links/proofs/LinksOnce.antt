@@ -14,7 +14,7 @@ use Rattle.value_links.specs.Reading.{UnitRead, Linkable, no_unit, declarations,
 use Rattle.value_links.specs.Values.{entry_of, declaration_of, HasValueAt}
 use Rattle.value_links.specs.inside.Values.{meaning_at}
 use Rattle.value_links.specs.Linked.{Linked, Links}
-use Rattle.value_links.specs.Linked.Linked.{Itself, Refers, Program, ListAt, SlotAt, BaseOf, Kept}
+use Rattle.value_links.specs.Linked.Linked.{Itself, Operates, Refers, Program, ListAt, SlotAt, BaseOf, Kept}
 use Rattle.value_links.specs.Links.{IsLinkOf, IsFollowed}
 use Rattle.value_links.specs.inside.Owners.{IsOwner, name_with}
 use Rattle.value_links.specs.Laws.{OneLinkedValue, OneLink}
@@ -66,6 +66,7 @@ linked_value_once file r u number v w read a b =
 -- one link tells what a value refers to
 told_once : (linked : Linked) (a b : Link) → IsLinkOf linked a → IsLinkOf linked b → a ≡ b
 told_once (Itself meaning) a b e f = e ∙ sym f
+told_once (Operates operations) a b e f = e ∙ sym f
 told_once (Refers unit target) a b e f = e ∙ sym f
 told_once (Program program) a b e f = e ∙ sym f
 told_once (ListAt kind place) a b e f = e ∙ sym f

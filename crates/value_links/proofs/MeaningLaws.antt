@@ -1,18 +1,18 @@
 -- What a value refers to means one thing, and means something where all is told of lists.
 use Rattle.std.proofs.Common.{◌≡◌, ◌<◌, ◌∙◌, inl, inr, ℕ, List, length, sym, ap, subst, refl, arith}
 use Rattle.form_codec.specs.Forms.{Meaning}
-use Rattle.form_codec.specs.Forms.Meaning.{InUnit, InSection, SectionPlace, LocationList, RangeList}
+use Rattle.form_codec.specs.Forms.Meaning.{Expression, InUnit, InSection, SectionPlace, LocationList, RangeList}
 use Rattle.list_model.specs.declared.entry.ListKind.{ListKind}
 use Rattle.list_model.specs.declared.entry.ListKind.TheVariants.{Ranges, Locations}
 use Rattle.value_links.specs.Attributes.{OffsetClass, offset_class}
 use Rattle.value_links.specs.Attributes.OffsetClass.{LinePtr, RngList, LocList, RngListsPtr, LocListsPtr, AddrPtr, StrOffsetsPtr, MacPtr, Views, NoOffset}
 use Rattle.value_links.specs.Reading.{Linkable, Reading, of_kind, part_at}
 use Rattle.value_links.specs.Linked.{Linked, IsListAt, OffsetLinks, IndexLinks, Links, IsLinked}
-use Rattle.value_links.specs.Linked.Linked.{Itself as LinkItself, Refers as LinkRefers, Program as LinkProgram, ListAt, SlotAt, BaseOf, Kept as LinkKept}
+use Rattle.value_links.specs.Linked.Linked.{Itself as LinkItself, Operates as LinkOperates, Refers as LinkRefers, Program as LinkProgram, ListAt, SlotAt, BaseOf, Kept as LinkKept}
 use Rattle.value_links.specs.Lists.{AreTold}
 use Rattle.value_links.specs.Whole.{IsReading}
 use Rattle.value_links.specs.Resolved.{ListMeaning, MeansList, Resolved, ResolvesLink}
-use Rattle.value_links.specs.Resolved.Resolved.{Itself, Refers, Program, AList, Indexed, PartOf, Kept}
+use Rattle.value_links.specs.Resolved.Resolved.{Itself, Operates, Refers, Program, AList, Indexed, PartOf, Kept}
 use Rattle.value_links.specs.Laws.{OneMeaning, LinkedMean}
 use Rattle.value_links.proofs.LinkedOnce.{slot_once, linked_once}
 use Rattle.value_links.proofs.ListMeanings.{list_means_once, named_means}
@@ -21,6 +21,7 @@ use Rattle.value_links.proofs.ListMeanings.{list_means_once, named_means}
 
 resolved_once : (file : List ℕ) (r : Reading) → IsReading file r → (linked : Linked) (v w : Resolved) → ResolvesLink r linked v → ResolvesLink r linked w → v ≡ w
 resolved_once file r read (LinkItself meaning) v w a b = a ∙ sym b
+resolved_once file r read (LinkOperates operations) v w a b = a ∙ sym b
 resolved_once file r read (LinkRefers unit target) v w a b = a ∙ sym b
 resolved_once file r read (LinkProgram p) v w a b = a ∙ sym b
 resolved_once file r read (ListAt kind at) v w (a, p, e) (b, q, f) = e ∙ ap (λ (z : ListMeaning). AList z) (list_means_once file r read kind at a b p q) ∙ sym f
@@ -64,10 +65,12 @@ links_sound r u id name (InSection n) v (unit, target, here, e) = subst (λ (z :
 links_sound r u id name (SectionPlace n) v links = offset_sound r u id (offset_class name) n v links
 links_sound r u id name (LocationList i) v links = index_sound r u Locations i v links
 links_sound r u id name (RangeList i) v links = index_sound r u Ranges i v links
+links_sound r u id name (Expression bytes) v (operations, expression, e) = subst (λ (z : Linked). IsSound r z) (sym e) tt
 links_sound r u id name meaning v e = subst (λ (z : Linked). IsSound r z) (sym e) tt
 
 resolved_of : (file : List ℕ) (r : Reading) → IsReading file r → AreTold r.links Ranges r.range_lists → (u number : ℕ) → u < length r.links.units → (linked : Linked) → IsLinked r.links u number linked → IsSound r.links linked → (v : Resolved) × ResolvesLink r linked v
 resolved_of file r read told u number known (LinkItself meaning) here sound = (Itself meaning, refl)
+resolved_of file r read told u number known (LinkOperates operations) here sound = (Operates operations, refl)
 resolved_of file r read told u number known (LinkRefers unit target) here sound = (Refers unit target, refl)
 resolved_of file r read told u number known (LinkProgram p) here sound = (Program p, refl)
 resolved_of file r read told u number known (ListAt Ranges at) here sound =

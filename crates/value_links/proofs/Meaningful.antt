@@ -35,7 +35,9 @@ use Rattle.value_links.specs.Faults.{FaultLinks, IsValid}
 use Rattle.value_links.specs.Faults.Pass.{OfLinks}
 use Rattle.value_links.specs.Laws.{ValidFilesMean}
 use Rattle.value_links.specs.Parts.{LinkedFilesMean}
-use Rattle.value_links.proofs.LinkLaws.{search_below, linked_or_faulty}
+use Rattle.value_links.proofs.LinkLaws.{search_below}
+use Rattle.value_links.proofs.ExpressionBytes.{unit_small}
+use Rattle.value_links.proofs.ExpressionLaws.{linked_or_fault}
 use Rattle.value_links.proofs.ListMeanings.{named_means}
 use Rattle.value_links.proofs.MeaningLaws.{links_mean}
 
@@ -159,10 +161,12 @@ module _ (file : List ℕ) (reach : Reach) (r : Linkable) (read : IsReadToLinks 
   no_link_fault kind place f = valid OfLinks kind (offset_named file info_name + place) (inl (place, refl, f))
 
   pub valid_values : ValuesLink r
-  valid_values u id number name meaning place inside h = elim (linked_or_faulty r u id name meaning) [
-    | inl links ↦ links
-    | inr faulty ↦ absurd (no_link_fault faulty.0 place (record { r = r; read = read; u = u; inside = inside; fault = inl (record { id = id; number = number; name = name; meaning = meaning; stands = h; fault = faulty.1 }) }))
-  ]
+  valid_values u id number name meaning place inside h =
+      let is : IsUnitRead (debug_info file) (debug_abbrev file) (unit_at r u) = All-get_or (IsUnitRead (debug_info file) (debug_abbrev file)) r.units u no_unit inside read.units.each in
+      elim (linked_or_fault r reach u id number name meaning place h (unit_small (debug_info file) (debug_abbrev file) (unit_at r u) is id number name meaning place h)) [
+        | inl links ↦ links
+        | inr faulty ↦ absurd (no_link_fault faulty.0 faulty.1 (record { r = r; read = read; u = u; inside = inside; fault = faulty.2 }))
+      ]
 
   valid_types : TypesStand r
   valid_types u inside is_type = elim (search_below (λ i. (entry_at (unit_at r u).forest.entries i).at ≡ (unit_at r u).head.at + (unit_at r u).head.type_at) (λ i. cases_eq (entry_at (unit_at r u).forest.entries i).at ((unit_at r u).head.at + (unit_at r u).head.type_at)) (length (unit_at r u).forest.entries)) [
@@ -176,4 +180,4 @@ valid_means file reach r read told valid = file_means file r read told (valid_va
 -- LINKED FILES
 
 pub linked_means : LinkedFilesMean
-linked_means file r read told linked = (file_means file r read told linked.values linked.types, linked.read)
+linked_means file r read told linked = file_means file r read told linked.values linked.types

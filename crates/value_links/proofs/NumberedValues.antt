@@ -1,8 +1,10 @@
 -- What the value with a number refers to, in what is held of a valid file.
-use Rattle.std.proofs.Common.{◌≡◌, ◌≤◌, ◌<◌, ◌+◌, ◌-◌, ◌∙◌, ℕ, List, length, sym, ap, subst, arith}
+use Rattle.std.proofs.Common.{◌≡◌, ◌≤◌, ◌<◌, ◌+◌, ◌-◌, ◌∙◌, ℕ, List, length, sym, ap, subst, refl, arith}
 use Rattle.std.specs.Prelude.{Some}
 use Rattle.dw_base.specs.declared.fault.Reach.{Reach}
+use Rattle.dw_base.specs.declared.fault.Span.{Span}
 use Rattle.form_codec.specs.declared.value.Value.{Value}
+use Rattle.form_codec.specs.declared.value.Value.TheVariants as value_is
 use Rattle.form_codec.specs.Values.{meant_in}
 use Rattle.abbrev_tables.specs.Listings.{Listing, spec_at}
 use Rattle.entry_arena.specs.Arena.{Arena, entry_at, value_at}
@@ -11,18 +13,20 @@ use Rattle.entry_read.specs.Units.{HeadAndForest, declarations_of, IsTable}
 use Rattle.entry_read.specs.Places.{HaveOwners, StandsAtColumn}
 use Rattle.entry_read.proofs.PlaceLaws.{entry_stands}
 use Rattle.value_links.specs.declared.link.Link.{Link}
+use Rattle.value_links.specs.declared.link.Link.TheVariants.{Plain}
 use Rattle.value_links.specs.declared.units.NamedTable.{NamedTable}
 use Rattle.value_links.specs.Sections.{debug_info, debug_abbrev}
-use Rattle.value_links.specs.Reading.{UnitRead, Reading, declarations, unit_at, unit_among, IsUnitRead}
+use Rattle.value_links.specs.Reading.{UnitRead, Linkable, Reading, declarations, unit_at, unit_among, IsUnitRead}
 use Rattle.value_links.specs.Values.{entry_of, declaration_of, values_of, HasValueAt}
 use Rattle.value_links.specs.inside.Values.{meaning_at}
 use Rattle.value_links.specs.Linked.{Linked, Links}
+use Rattle.value_links.specs.Linked.Linked.{Operates}
 use Rattle.value_links.specs.inside.Owners.{IsOwner, name_with}
 use Rattle.value_links.specs.Links.{held_at, IsFollowed, HasLink, IsLinkFound}
 use Rattle.value_links.specs.World.{World, head_and_forest, Holds, IsWorldOf}
 use Rattle.value_links.specs.inside.World.{own_table}
 use Rattle.value_links.proofs.HeldUnits.{unit_is, unit_owners, held_count, held_is}
-use Rattle.value_links.proofs.HeldLinks.{units_held}
+use Rattle.value_links.proofs.HeldLinks.{units_held, link_alike, world_alike}
 use Rattle.value_links.proofs.EntryValues.{stands_at}
 use Rattle.value_links.proofs.Meaningful.{valid_values}
 
@@ -104,3 +108,20 @@ module _ (world : World) (reach : Reach) (is : IsWorldOf world.image reach world
       value_linked told link (linked, links, is) followed =
           let own : Links r.links u id name (meaning_at (unit_at r.links u) number) linked = subst (λ (z : Value). Links r.links u id name (meant_in (unit_at r.links u).forest.section z) linked) value_there links in
           (linked, told, record { id = id; name = name; meaning = meaning_at (unit_at r.links u) number; place = stands_there.0; stands = stands_there.1; links = own }, is, followed)
+
+  -- an expression refers to what its operations name
+  module _ (forest : Arena) (f : forest ≡ (held_at world.units u).forest) (number : ℕ) (counted : number < length forest.values) (value : Value) (v : value ≡ value_at forest.values number) (span : Span) (e : value ≡ value_is.Expr span) (file : List ℕ) (r : Reading) (holds : Holds file world r) where
+    pub expression_linked : HasLink r.links u number Plain
+    expression_linked =
+        let own : Linkable = is.r.links in
+        let section : List ℕ = (unit_at own u).forest.section in
+        let table : Listing = own_table world u in
+        let (id, known_id, from, to) = own_owners.owned number (subst (λ (z : Arena). number < length z.values) f counted) in
+        let owner : IsOwner forest.entries id number = subst (λ (z : Arena). IsOwner z.entries id number) (sym f) (record { known = known_id; from = from; to = to }) in
+        let name : ℕ = name_with (declarations_of table) (entry_at forest.entries id) number in
+        let (linked, links) = value_links forest f table refl id number name owner refl value v in
+        let operates = subst (λ (z : Value). Links own u id name (meant_in section z) linked) e links in
+        let there : IsLinkFound own u id name (meant_in section value) (Some Plain) = subst (λ (z : Value). IsLinkFound own u id name (meant_in section z) (Some Plain)) (sym e) (Operates operates.0, (operates.0, operates.1, refl), refl) in
+        let alike : IsLinkFound r.links u id name (meant_in section value) (Some Plain) = link_alike own r.links u id name (meant_in section value) (Some Plain) (world_alike world reach is file r holds) there in
+        let found : IsLinkFound r.links u id name (meant_in (unit_at r.links u).forest.section value) (Some Plain) = subst (λ (z : List UnitRead). IsLinkFound r.links u id name (meant_in (unit_among z u).forest.section value) (Some Plain)) (units_held world reach is file r holds) alike in
+        value_linked forest f table refl id number name owner refl value v file r holds Plain Plain found refl

@@ -1,9 +1,11 @@
 -- What is found in what is held is said of what was read.
-use Rattle.std.proofs.Common.{◌≡◌, ◌<◌, ◌+◌, ◌∙◌, ℕ, List, length, sym, ap, subst}
+use Rattle.std.proofs.Common.{◌≡◌, ◌<◌, ◌+◌, ◌∙◌, ℕ, List, length, sym, ap, subst, refl}
 use Rattle.std.specs.Prelude.{Option, Some, true, false}
 use Rattle.dw_base.specs.declared.fault.Kind.{Kind}
 use Rattle.dw_base.specs.declared.fault.Kind.TheVariants.{Target as NoTarget}
+use Rattle.dw_base.specs.declared.fault.Span.{Span}
 use Rattle.form_codec.specs.declared.value.Value.{Value}
+use Rattle.form_codec.specs.declared.value.Value.TheVariants as value
 use Rattle.form_codec.specs.Forms.{Meaning}
 use Rattle.form_codec.specs.Values.{meant_in}
 use Rattle.abbrev_tables.specs.Listings.{Listing, spec_at}
@@ -19,11 +21,12 @@ use Rattle.value_links.specs.Whole.{AreFirstBases}
 use Rattle.value_links.specs.Values.{entry_of, declaration_of, HasValueAt}
 use Rattle.value_links.specs.World.{head_and_forest}
 use Rattle.value_links.specs.Linked.{Linked, Links, IsFirstLow, HasAddress}
-use Rattle.value_links.specs.LinkFaults.{IsUnread, FaultValue, FaultAttribute, FaultType}
+use Rattle.value_links.specs.Linked.Linked.{Operates}
+use Rattle.value_links.specs.LinkFaults.{FaultValue, FaultAttribute, FaultType}
 use Rattle.value_links.specs.Links.{held_at}
 use Rattle.value_links.specs.Laws.{AreLinked}
 use Rattle.value_links.specs.Parts.{HoldsParts}
-use Rattle.value_links.specs.inside.Checks.{table_held, root_attributes, IsCause, IsTyped, IsChecked, AreColumnsLinked, AreEntriesLinked, IsUnitLinked}
+use Rattle.value_links.specs.inside.Checks.{table_held, root_attributes, IsCause, IsTyped, IsChecked, IsNoExpr, IsExprLinked, IsColumnLinked, AreColumnsLinked, AreEntriesLinked, IsUnitLinked}
 use Rattle.value_links.proofs.HeldUnits.{unit_owners}
 use Rattle.value_links.proofs.LinkedValues.{parts_count, part_is}
 use Rattle.value_links.proofs.TabledUnits.{table_is}
@@ -46,19 +49,12 @@ module _ (file : List ℕ) (r : Linkable) (parts : Parts) (holds : HoldsParts fi
 
     -- VALUES
 
-    -- a value that isn't waited for
-    pub not_unread : (unit : HeadAndForest) (v : Value) → unit ≡ held_at parts.units.units.items u → (¬ IsUnread (meant_in unit.forest.section v)) → ¬ IsUnread (meant_in (unit_at r u).forest.section v)
-    not_unread unit v e none = subst (λ (z : HeadAndForest). ¬ IsUnread (meant_in z.forest.section v)) (e ∙ unit_same) none
-
-    pub is_unread_there : (unit : HeadAndForest) (v : Value) → unit ≡ held_at parts.units.units.items u → IsUnread (meant_in unit.forest.section v) → IsUnread (meant_in (unit_at r u).forest.section v)
-    is_unread_there unit v e is = subst (λ (z : HeadAndForest). IsUnread (meant_in z.forest.section v)) (e ∙ unit_same) is
-
     -- a value that refers to nothing
-    pub cause_there : (id name : ℕ) (unit : HeadAndForest) (table : Listing) (v : Value) (kind : Kind) → unit ≡ held_at parts.units.units.items u → table ≡ table_held parts.units u → ((w : Linked) → Links r u id name (meant_in (unit_at r u).forest.section v) w → ⊥) → IsCause (root_attributes unit.forest (declarations_of table)) v kind → FaultValue r u id name (meant_in (unit_at r u).forest.section v) kind
-    cause_there id name unit table v kind e t none is =
+    pub cause_there : (id name : ℕ) (unit : HeadAndForest) (table : Listing) (v : Value) (kind : Kind) → unit ≡ held_at parts.units.units.items u → table ≡ table_held parts.units u → IsNoExpr v → ((w : Linked) → Links r u id name (meant_in (unit_at r u).forest.section v) w → ⊥) → IsCause (root_attributes unit.forest (declarations_of table)) v kind → FaultValue r u id name (meant_in (unit_at r u).forest.section v) kind
+    cause_there id name unit table v kind e t plain none is =
         let by_unit : IsCause (root_attributes (unit_at r u).forest (declarations_of table)) v kind = subst (λ (z : HeadAndForest). IsCause (root_attributes z.forest (declarations_of table)) v kind) (e ∙ unit_same) is in
         let by_table : IsCause (root_attributes (unit_at r u).forest (declarations (unit_at r u))) v kind = subst (λ (z : Listing). IsCause (root_attributes (unit_at r u).forest (declarations_of z)) v kind) (t ∙ table_same) by_unit in
-        cause_is r u id name (unit_at r u).forest.section v kind none by_table
+        cause_is r u id name (unit_at r u).forest.section v kind plain none by_table
 
     -- ENTRIES
 
@@ -87,6 +83,17 @@ module _ (file : List ℕ) (r : Linkable) (parts : Parts) (holds : HoldsParts fi
         checked_column name found n is =
             subst (λ (z : ℕ). IsChecked r u id z (meant_in (unit_at r u).forest.section (value_at (unit_at r u).forest.values ((entry_of (unit_at r u) id).first + k))) found) (n ∙ name_same)
             (subst (λ (z : Value). IsChecked r u id name (meant_in (unit_at r u).forest.section z) found) value_same is)
+
+        -- an expression whose operations name what they may
+        pub expr_column : (span : Span) → value_at values (entry.first + k) ≡ value.Expr span → entry.first + k < length values → IsExprLinked r u (entry.first + k) → IsColumnLinked r u id k
+        expr_column span is k_in linked =
+            let number : ℕ = (entry_of (unit_at r u) id).first + k in
+            let section : List ℕ = (unit_at r u).forest.section in
+            let numbered : entry.first + k ≡ number = ap (λ (z : Entry). z.first + k) (e ∙ entry_same) in
+            let there : value_at (unit_at r u).forest.values number ≡ value.Expr span = sym value_same ∙ is in
+            let k_there : number < length (unit_at r u).forest.values = subst (λ (z : List Value). number < length z) (v ∙ ap (λ (z : HeadAndForest). z.forest.values) unit_same) (subst (λ (z : ℕ). z < length values) numbered k_in) in
+            let (operations, links) = subst (λ (z : ℕ). IsExprLinked r u z) numbered linked span (record { inside = k_there; is = there }) in
+            (Operates operations, subst (λ (z : Value). Links r u id (spec_at (declaration_of (unit_at r u) id).columns k).name (meant_in section z) (Operates operations)) (sym there) (operations, links, refl))
 
         pub column_fault : (name : ℕ) (kind : Kind) (place : ℕ) → name ≡ (spec_at (declared_at (declarations_of table) entry.decl).columns k).name → k < entry.count → StandsAtColumn (held_at parts.units.units.items u).forest.section (declarations_of table) (held_at parts.units.units.items u).forest.values (entry_at (held_at parts.units.units.items u).forest.entries id) k place → FaultValue r u id name (meant_in (unit_at r u).forest.section (value_at values (entry.first + k))) kind → FaultAttribute r u kind place
         column_fault name kind place n k_in stands fault =
@@ -119,15 +126,15 @@ module _ (file : List ℕ) (r : Linkable) (parts : Parts) (holds : HoldsParts fi
         (there.0, there.1, ap (λ (z : HeadAndForest). z.head.at + 20) unit_same)
 
     -- a value of a unit in which all is linked
-    pub value_checked : IsUnitLinked r u → (id number name : ℕ) (meaning : Meaning) (place : ℕ) → HasValueAt (unit_at r u) id number name meaning place → ((v : Linked) × Links r u id name meaning v) × (¬ IsUnread meaning)
+    pub value_checked : IsUnitLinked r u → (id number name : ℕ) (meaning : Meaning) (place : ℕ) → HasValueAt (unit_at r u) id number name meaning place → (v : Linked) × Links r u id name meaning v
     value_checked linked id number name meaning place h =
         let section : List ℕ = (unit_at r u).forest.section in
         let column = column_of (unit_at r u) owned id h.known number name meaning place h in
         let k : ℕ = column.0 in
         let there : Meaning = meant_in section (value_at (unit_at r u).forest.values ((entry_of (unit_at r u) id).first + k)) in
         let is = linked.entries id h.known k column.1 in
-        let named : Links r u id name there is.0.0 = subst (λ (z : ℕ). Links r u id z there is.0.0) (sym column.2) is.0.1 in
-        ((is.0.0, subst (λ (z : Meaning). Links r u id name z is.0.0) (sym column.3) named), subst (λ (z : Meaning). ¬ IsUnread z) (sym column.3) is.1)
+        let named : Links r u id name there is.0 = subst (λ (z : ℕ). Links r u id z there is.0) (sym column.2) is.1 in
+        (is.0, subst (λ (z : Meaning). Links r u id name z is.0) (sym column.3) named)
 
   held_inside : (u : ℕ) → u < length r.units → u < length parts.units.units.items
   held_inside u known = subst (λ (z : ℕ). u < z) (sym (parts_count file r parts holds)) known
@@ -136,8 +143,7 @@ module _ (file : List ℕ) (r : Linkable) (parts : Parts) (holds : HoldsParts fi
 
   pub all_linked : (n : ℕ) → n ≡ length parts.units.units.items → ((u : ℕ) → u < n → IsUnitLinked r u) → AreLinked r
   all_linked n all linked = record {
-    values = λ u id number name meaning place known h. (value_checked u (held_inside u known) (linked u (subst (λ (z : ℕ). u < z) (sym all) (held_inside u known))) id number name meaning place h).0;
-    read = λ u id number name meaning place known h. (value_checked u (held_inside u known) (linked u (subst (λ (z : ℕ). u < z) (sym all) (held_inside u known))) id number name meaning place h).1;
+    values = λ u id number name meaning place known h. value_checked u (held_inside u known) (linked u (subst (λ (z : ℕ). u < z) (sym all) (held_inside u known))) id number name meaning place h;
     types = λ u known. (linked u (subst (λ (z : ℕ). u < z) (sym all) (held_inside u known))).typed;
   }
 

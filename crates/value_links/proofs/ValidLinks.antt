@@ -1,19 +1,22 @@
 -- Values that mean something, and the sets of address ranges of a file that is read, have no fault.
-use Rattle.std.proofs.Common.{◌≡◌, ◌<◌, ◌∙◌, ◌++◌, inl, inr, true≢false, ℕ, List, [], ◌∷◌, length, get_or, sym, ap, subst, refl}
-use Rattle.std.specs.Prelude.{Option, Some, None, Bool, true, false, map}
+use Rattle.std.proofs.Common.{◌≡◌, ◌<◌, ◌∙◌, ◌++◌, inl, inr, ℕ, List, [], ◌∷◌, length, get_or, sym, ap, subst, refl}
+use Rattle.std.specs.Prelude.{Option, Some, None, false, map}
 use Rattle.std.specs.List.{AllZip}
 use Rattle.dw_base.specs.declared.fault.Kind.{Kind}
-use Rattle.dw_base.specs.declared.fault.Kind.TheVariants.{Target as NoTarget, Pointer, NoBase, Unbuilt}
+use Rattle.dw_base.specs.declared.fault.Kind.TheVariants.{Target as NoTarget, Pointer, NoBase}
 use Rattle.form_codec.specs.declared.value.Value.{Value}
 use Rattle.form_codec.specs.Forms.{Meaning}
-use Rattle.form_codec.specs.Values.{meant_in}
+use Rattle.form_codec.specs.Forms.Meaning.{Expression}
+use Rattle.form_codec.specs.Values.{meant_in, bytes_in}
 use Rattle.abbrev_tables.specs.declared.decl.Spec.{Spec}
 use Rattle.entry_arena.specs.declared.entry.Entry.{Entry}
+use Rattle.entry_arena.specs.Arena.{value_at}
 use Rattle.entry_arena.specs.Forests.{Described, attributes_of, described_by}
 use Rattle.entry_arena.specs.Trees.{ValuesBetween}
 use Rattle.entry_read.specs.declared.head.UnitHead.{UnitHead}
 use Rattle.entry_read.proofs.Tiling.{one_tile}
 use Rattle.entry_read.specs.Heads.{type_unit}
+use Rattle.entry_read.specs.Expressions.{IsExprAt}
 use Rattle.list_model.specs.Faults.{FaultTables as FaultTablesOf}
 use Rattle.list_model.proofs.Walking.{filled_whole}
 use Rattle.companions.specs.declared.set.ArangeSet.{ArangeSet}
@@ -21,18 +24,23 @@ use Rattle.companions.specs.Aranges.{SetsTile}
 use Rattle.companions.specs.Faults.{FaultSets}
 use Rattle.companions.proofs.Tiling.{sets_whole}
 use Rattle.dw_base.specs.declared.fault.Reach.{Reach}
+use Rattle.dw_base.specs.declared.fault.Span.{Span}
 use Rattle.std.proofs.lemmas.List.{get_or-map, length-map}
 use Rattle.value_links.specs.Sections.{debug_info, debug_abbrev, debug_aranges}
 use Rattle.value_links.specs.Reading.{UnitRead, Linkable, Reading, unit_heads, unit_starts, unit_at, declarations}
 use Rattle.value_links.specs.Whole.{IsReadToLinks, HasAddrBase, AreRootsRead, IsReading}
 use Rattle.value_links.specs.Values.{entry_of, values_of, HasValueAt}
+use Rattle.value_links.specs.Operations.{LinkedOperation, LinksExpression}
 use Rattle.value_links.specs.Linked.{Linked, Links, IsTypeEntry, IsFirstLow}
 use Rattle.value_links.specs.Resolved.{Resolves}
 use Rattle.value_links.specs.Debug.{EntryMeaning, described, UnitMeaning, Debug, MeansAttribute, MeansEntry, MeansType, MeansUnit, MeansDebug}
-use Rattle.value_links.specs.LinkFaults.{FaultValue, FaultType, FaultNumber, FaultInUnit}
+use Rattle.value_links.specs.LinkFaults.{FaultValue, FaultType, FaultNumber, FaultExprOf, FaultInUnit}
 use Rattle.value_links.specs.Faults.{FaultLinks, FaultAddresses, FaultAranges, FaultOfLinks}
-use Rattle.value_links.specs.Laws.{HasNoUnread, AreLinked}
+use Rattle.value_links.specs.Laws.{AreExpressionsWithin, AreLinked}
+use Rattle.value_links.proofs.HeldUnits.{unit_is, unit_owners}
+use Rattle.value_links.proofs.EntryValues.{value_stands}
 use Rattle.value_links.proofs.LinkLaws.{linked_faultless}
+use Rattle.value_links.proofs.ExpressionLaws.{linked_operations_faultless}
 use Rattle.value_links.proofs.ReadingOnce.{units_once, linkable_once}
 
 -- what stands beside the attribute of a column, after those of the columns before it
@@ -44,10 +52,6 @@ zip_attribute R section (k ∷ cs) c ds [] v ws from to ys valued zip = absurd v
 zip_attribute R section (k ∷ cs) c ds (x ∷ vs) v ws from to [] valued zip = absurd zip
 zip_attribute R section (k ∷ cs) c ds (x ∷ vs) v ws from to (y ∷ ys) (next, spelled, placed, valued) (first, rest) = zip_attribute R section cs c ds vs v ws next to ys valued rest
 
-abbrev is_unbuilt : Kind → Bool
-is_unbuilt Unbuilt = true
-is_unbuilt kind = false
-
 -- places of units by their heads
 pub heads_begin : (units : List UnitRead) → map (λ (h : UnitHead). h.at) (unit_heads units) ≡ unit_starts units
 heads_begin [] = refl
@@ -55,7 +59,7 @@ heads_begin (u ∷ units) = ap (λ z. u.head.at ∷ z) (heads_begin units)
 
 -- WHAT MEANS SOMETHING
 
-module _ (file : List ℕ) (r : Reading) (debug : Debug) (read : IsReading file r) (means : MeansDebug file r debug) (can : HasNoUnread r.links) where
+module _ (file : List ℕ) (r : Reading) (debug : Debug) (read : IsReading file r) (means : MeansDebug file r debug) where
   unit_means : (u : ℕ) → u < length r.links.units → (m : UnitMeaning) × MeansUnit r u m
   unit_means u inside =
       let none : UnitMeaning = record { unit_type = 0; signature = 0; type_entry = None; forest = [] } in
@@ -92,16 +96,28 @@ module _ (file : List ℕ) (r : Reading) (debug : Debug) (read : IsReading file 
       stands None other = absurd (other is_type)
 
   pub meanings_linked : AreLinked r.links
-  meanings_linked = record { values = value_links; read = can; types = type_stands }
+  meanings_linked = record { values = value_links; types = type_stands }
 
 -- WHAT IS LINKED
 
+operations_of : (r : Linkable) (u id name : ℕ) (bytes : List ℕ) (linked : Linked) → Links r u id name (Expression bytes) linked → (operations : List LinkedOperation) × LinksExpression r u bytes operations
+operations_of r u id name bytes linked (operations, means, e) = (operations, means)
+
 module _ (file : List ℕ) (r : Linkable) (read : IsReadToLinks file r) (linked : AreLinked r) (roots : AreRootsRead r) (sets : List ArangeSet) (tiled : SetsTile (debug_aranges file) (unit_starts r.units) sets) where
   value_faultless : (u id number name : ℕ) (meaning : Meaning) (kind : Kind) (place : ℕ) → u < length r.units → HasValueAt (unit_at r u) id number name meaning place → FaultValue r u id name meaning kind → ⊥
-  value_faultless u id number name meaning Unbuilt place inside h f = linked.read u id number name meaning place inside h f
   value_faultless u id number name meaning kind place inside h f =
       let (to, links) = linked.values u id number name meaning place inside h in
-      linked_faultless r u id name meaning to kind (λ (e : kind ≡ Unbuilt). true≢false (sym (ap is_unbuilt e))) links f
+      linked_faultless r u id name meaning to kind links f
+
+  -- the operations of an expression name what they may
+  pub operations_linked : (u number : ℕ) (span : Span) → u < length r.units → IsExprAt (unit_at r u).forest number span → (operations : List LinkedOperation) × LinksExpression r u (bytes_in (unit_at r u).forest.section span) operations
+  operations_linked u number span inside stands =
+      let unit = unit_at r u in
+      let is = unit_is (debug_info file) (debug_abbrev file) r.units read.units u inside in
+      let owned = unit_owners (debug_info file) (debug_abbrev file) r.units read.units u inside in
+      let (id, name, place, h) = value_stands (debug_info file) (debug_abbrev file) unit is owned number stands.inside in
+      let (to, links) = linked.values u id number name (meant_in unit.forest.section (value_at unit.forest.values number)) place inside h in
+      operations_of r u id name (bytes_in unit.forest.section span) to (subst (λ (v : Value). Links r u id name (meant_in unit.forest.section v) to) stands.is links)
 
   type_faultless : (u : ℕ) (kind : Kind) (place : ℕ) → u < length r.units → FaultType r u kind place → ⊥
   type_faultless u NoTarget place inside (is_type, none, here) = none (linked.types u inside is_type)
@@ -115,15 +131,21 @@ module _ (file : List ℕ) (r : Linkable) (read : IsReadToLinks file r) (linked 
   low_faultless u i place Pointer inside low (gives, none) = none (roots.bases u i place inside low)
   low_faultless u i place kind inside low f = f
 
-  unit_faultless : (reach : Reach) (u : ℕ) (kind : Kind) (place : ℕ) → u < length r.units → FaultInUnit r reach u kind place → ⊥
-  unit_faultless reach u kind place inside (inl value) = value_faultless u value.id value.number value.name value.meaning kind place inside value.stands value.fault
-  unit_faultless reach u kind place inside (inr (inl entry)) = type_faultless u kind place inside entry
-  unit_faultless reach u kind place inside (inr (inr (i, low, f))) = low_faultless u i place kind inside low f
+  expression_faultless : (reach : Reach) → AreExpressionsWithin r reach → (u : ℕ) (kind : Kind) (place : ℕ) → u < length r.units → FaultExprOf r reach u kind place → ⊥
+  expression_faultless reach within u kind place inside f =
+      let (operations, means) = operations_linked u f.number f.span inside f.stands in
+      linked_operations_faultless r u reach (bytes_in (unit_at r u).forest.section f.span) operations kind f.inner means (within u f.number f.span inside f.stands) f.fault
 
-  links_faultless : (reach : Reach) (kind : Kind) (place : ℕ) → FaultLinks file reach kind place → ⊥
-  links_faultless reach kind place f =
+  unit_faultless : (reach : Reach) → AreExpressionsWithin r reach → (u : ℕ) (kind : Kind) (place : ℕ) → u < length r.units → FaultInUnit r reach u kind place → ⊥
+  unit_faultless reach within u kind place inside (inl value) = value_faultless u value.id value.number value.name value.meaning kind place inside value.stands value.fault
+  unit_faultless reach within u kind place inside (inr (inl entry)) = type_faultless u kind place inside entry
+  unit_faultless reach within u kind place inside (inr (inr (inl (i, low, f)))) = low_faultless u i place kind inside low f
+  unit_faultless reach within u kind place inside (inr (inr (inr expression))) = expression_faultless reach within u kind place inside expression
+
+  links_faultless : (reach : Reach) → AreExpressionsWithin r reach → (kind : Kind) (place : ℕ) → FaultLinks file reach kind place → ⊥
+  links_faultless reach within kind place f =
       let same : f.r ≡ r = linkable_once file f.r r f.read read in
-      unit_faultless reach f.u kind place (subst (λ (z : Linkable). f.u < length z.units) same f.inside) (subst (λ (z : Linkable). FaultInUnit z reach f.u kind place) same f.fault)
+      unit_faultless reach within f.u kind place (subst (λ (z : Linkable). f.u < length z.units) same f.inside) (subst (λ (z : Linkable). FaultInUnit z reach f.u kind place) same f.fault)
 
   -- where an entry names an address table, tables fill the section
   addresses_faultless : (kind : Kind) (place : ℕ) → FaultAddresses file kind place → ⊥
@@ -140,7 +162,7 @@ module _ (file : List ℕ) (r : Linkable) (read : IsReadToLinks file r) (linked 
       sets_whole (debug_aranges file) (unit_starts r.units) sets tiled (kind, place, moved)
 
   -- the pass has no fault
-  pub links_whole : (reach : Reach) (kind : Kind) (place : ℕ) → FaultOfLinks file reach kind place → ⊥
-  links_whole reach kind place (inl links) = links_faultless reach kind links.0 links.2
-  links_whole reach kind place (inr (inl addresses)) = addresses_faultless kind addresses.0 addresses.2
-  links_whole reach kind place (inr (inr sets_fault)) = aranges_faultless kind sets_fault.0 sets_fault.2
+  pub links_whole : (reach : Reach) → AreExpressionsWithin r reach → (kind : Kind) (place : ℕ) → FaultOfLinks file reach kind place → ⊥
+  links_whole reach within kind place (inl links) = links_faultless reach within kind links.0 links.2
+  links_whole reach within kind place (inr (inl addresses)) = addresses_faultless kind addresses.0 addresses.2
+  links_whole reach within kind place (inr (inr sets_fault)) = aranges_faultless kind sets_fault.0 sets_fault.2

@@ -5,7 +5,7 @@ use Rattle.dw_base.specs.declared.fault.Kind.{Kind}
 use Rattle.dw_base.specs.declared.fault.Kind.TheVariants.{Limit, Pointer}
 use Rattle.dw_base.specs.declared.fault.Reach.{Reach}
 use Rattle.form_codec.specs.Forms.{Meaning}
-use Rattle.form_codec.specs.Forms.Meaning.{InUnit, InSection, SectionPlace, LocationList, RangeList}
+use Rattle.form_codec.specs.Forms.Meaning.{Expression, InUnit, InSection, SectionPlace, LocationList, RangeList}
 use Rattle.list_model.specs.declared.entry.ListKind.{ListKind}
 use Rattle.list_model.specs.declared.entry.ListKind.TheVariants.{Ranges, Locations}
 use Rattle.list_model.specs.Reading.{list_entry_limit}
@@ -18,7 +18,7 @@ use Rattle.value_links.specs.Attributes.OffsetClass.{LinePtr, RngList, LocList, 
 use Rattle.value_links.specs.Reading.{ListRead, Linkable, Reading, of_kind, part_at, list_at, context_at}
 use Rattle.value_links.specs.ListPlaces.{IsListPlace, IsSlot, SlotNames}
 use Rattle.value_links.specs.Linked.{Linked, OffsetLinks, Links}
-use Rattle.value_links.specs.Linked.Linked.{Itself, Refers, Program, ListAt, SlotAt, BaseOf, Kept}
+use Rattle.value_links.specs.Linked.Linked.{Itself, Operates, Refers, Program, ListAt, SlotAt, BaseOf, Kept}
 use Rattle.value_links.specs.Lists.{IsNamedIn, AreListsOf}
 use Rattle.value_links.specs.Whole.{IsReadToLinks, IsReading}
 use Rattle.list_model.specs.Items.{FaultIndexes}
@@ -69,6 +69,7 @@ slot_linked r u id name (InSection n) kind p i (unit, target, here, e) = absurd 
 slot_linked r u id name (SectionPlace n) kind p i links = absurd (offset_slot r u id (offset_class name) n (SlotAt kind p i) links refl)
 slot_linked r u id name (LocationList j) kind p i (q, (n, first, (q_in, at)), less, e) = absurd (omega (arith, q_in))
 slot_linked r u id name (RangeList j) kind p i (q, (n, first, (q_in, at)), less, e) = slot_is r kind p i q j e q_in less
+slot_linked r u id name (Expression bytes) kind p i (operations, expression, e) = absurd (no_slot (SlotAt kind p i) (Operates operations) e refl refl)
 slot_linked r u id name meaning kind p i e = absurd (no_slot (SlotAt kind p i) (Itself meaning) e refl refl)
 
 -- THE PASS

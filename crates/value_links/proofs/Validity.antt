@@ -18,7 +18,7 @@ use Rattle.value_links.specs.Whole.{IsReading}
 use Rattle.value_links.specs.Debug.{Debug, MeansDebug}
 use Rattle.value_links.specs.Faults.{FaultOfFile, FaultOfNames, FaultOfPrograms, FaultOfUnits, Pass, order_of, FaultOfPass}
 use Rattle.value_links.specs.Faults.Pass.{OfFile, OfNames, OfPrograms, OfUnits, OfLinks, OfLists}
-use Rattle.value_links.specs.Laws.{HasNoUnread, IsImageInOrder, AreProgramsInOrder, AreUnitsInOrder, AreLinksInOrder, FirstFaultsDecide, MeaningFilesAreValid}
+use Rattle.value_links.specs.Laws.{AreExpressionsWithin, IsImageInOrder, AreProgramsInOrder, AreUnitsInOrder, AreLinksInOrder, FirstFaultsDecide, MeaningFilesAreValid}
 use Rattle.value_links.proofs.ValidUnits.{info_faultless, tables_faultless}
 use Rattle.value_links.proofs.ValidLinks.{meanings_linked, links_whole}
 use Rattle.value_links.proofs.ValidLists.{lists_whole}
@@ -90,7 +90,7 @@ before_lists file reach r order OfFile kind place less f = before_links file rea
 before_lists file reach r order OfNames kind place less f = before_links file reach r order.before OfNames kind place (omega arith) f
 before_lists file reach r order OfPrograms kind place less f = before_links file reach r order.before OfPrograms kind place (omega arith) f
 before_lists file reach r order OfUnits kind place less f = before_links file reach r order.before OfUnits kind place (omega arith) f
-before_lists file reach r order OfLinks kind place less f = links_whole file r order.read order.linked order.roots order.sets.0 order.sets.1 reach kind place f
+before_lists file reach r order OfLinks kind place less f = links_whole file r order.read order.linked order.roots order.sets.0 order.sets.1 reach order.within kind place f
 before_lists file reach r order OfLists kind place less f = absurd (omega arith)
 
 pub first_faults : FirstFaultsDecide
@@ -103,10 +103,10 @@ first_faults = record {
   lists = λ file reach r kind place order f. record { pass = OfLists; fault = f; first = before_lists file reach r order };
 }
 
--- what means something and waits for nothing is in order up to its lists
-in_order : (file : List ℕ) (reach : Reach) (r : Reading) (debug : Debug) → AreUnitsInOrder file reach r.links → IsReading file r → MeansDebug file r debug → HasNoUnread r.links → AreLinksInOrder file reach r.links
-in_order file reach r debug order read means no_unread = record { before = order; read = read.links; linked = meanings_linked file r debug read means no_unread; roots = read.roots; sets = (r.sets, read.sets) }
+-- what means something, with its expressions within the limits, is in order up to its lists
+in_order : (file : List ℕ) (reach : Reach) (r : Reading) (debug : Debug) → AreUnitsInOrder file reach r.links → IsReading file r → MeansDebug file r debug → AreExpressionsWithin r.links reach → AreLinksInOrder file reach r.links
+in_order file reach r debug order read means within = record { before = order; read = read.links; linked = meanings_linked file r debug read means; within = within; roots = read.roots; sets = (r.sets, read.sets) }
 
 pub valid_meaning : MeaningFilesAreValid
-valid_meaning file reach r debug order read means no_unread few OfLists kind place f = lists_whole file reach r read few kind place f
-valid_meaning file reach r debug order read means no_unread few pass kind place f = before_lists file reach r.links (in_order file reach r debug order read means no_unread) pass kind place (omega arith) f
+valid_meaning file reach r debug order read means within few OfLists kind place f = lists_whole file reach r read few kind place f
+valid_meaning file reach r debug order read means within few pass kind place f = before_lists file reach r.links (in_order file reach r debug order read means within) pass kind place (omega arith) f

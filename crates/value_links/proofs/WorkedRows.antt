@@ -1,5 +1,5 @@
 -- Worked rows of the definitions.
-use Rattle.std.proofs.Common.{◌≡◌, ◌<◌, ◌+◌, ℕ, zero, suc, List, [], ◌∷◌, get_or, ap, refl, inr, arith}
+use Rattle.std.proofs.Common.{◌≡◌, ◌<◌, ◌+◌, ℕ, zero, suc, List, [], ◌∷◌, get_or, ap, refl, inl, inr, arith}
 use Rattle.std.specs.Prelude.{true, false, pos}
 use Rattle.dw_base.specs.declared.fault.Kind.TheVariants.{UnitHead as AHead}
 use Rattle.leb_codec.specs.Leb.{Uleb}
@@ -9,7 +9,7 @@ use Rattle.fixed_width.specs.InitialLengths.{unit_end, version}
 use Rattle.entry_read.specs.Heads.{HasHead}
 use Rattle.value_links.specs.Values.{HasValueAt}
 use Rattle.form_codec.specs.declared.value.Value.TheVariants.{LocalRef}
-use Rattle.form_codec.specs.Forms.Meaning.{InUnit, Expression}
+use Rattle.form_codec.specs.Forms.Meaning.{InUnit}
 use Rattle.entry_arena.specs.declared.entry.ChainEnd.{ChainEnd}
 use Rattle.entry_arena.specs.declared.entry.Target.TheVariants.{Entry as TheEntry, ChainEnd as TheEnd}
 use Rattle.value_links.specs.Attributes.{offset_class}
@@ -17,7 +17,9 @@ use Rattle.value_links.specs.Attributes.OffsetClass.{LinePtr, RngList, LocList, 
 use Rattle.value_links.specs.Reading.{UnitRead, Linkable}
 use Rattle.value_links.specs.Linked.{Links}
 use Rattle.value_links.specs.Linked.Linked.{Refers}
-use Rattle.value_links.specs.LinkFaults.{IsTargetless, IsUnread}
+use Rattle.value_links.specs.Operations.{OpTarget, Names}
+use Rattle.value_links.specs.Operations.OpTarget.{NoTarget, GenericType, AnEntry}
+use Rattle.value_links.specs.LinkFaults.{IsTargetless}
 
 -- the classes of attributes by their numbers; DW_AT_name has none
 stmt_list_is : offset_class 0x10 ≡ LinePtr
@@ -90,9 +92,29 @@ nothing_is (TheEntry (suc (suc id)), (inside, here)) = absurd (omega arith)
 nothing_is (TheEnd id, (zero, inside, here)) = absurd (differ (record { entry = 0; at = 37 }) (record { entry = id; at = 38 }) refl refl here)
 nothing_is (TheEnd id, (suc k, inside, here)) = absurd (omega arith)
 
--- two bytes of expressions: DW_OP_convert isn't read yet, DW_OP_lit0 is kept
-convert_is : IsUnread (Expression (0x30 ∷ 0xa8 ∷ []))
-convert_is = (0xa8, (1, omega arith, refl), (8, omega arith, refl))
+-- Operations in an expression of the unit: DW_OP_lit0 names nothing, DW_OP_convert with 0 the generic type, and DW_OP_call4 an entry,
+-- by its place in the unit.
+lit0_is : Names linkable 1 0x30 0 NoTarget
+lit0_is = refl
+
+convert_is : Names linkable 1 0xa8 0 GenericType
+convert_is = inl (refl, refl)
+
+call_is : Names linkable 1 0x99 13 (AnEntry 1 1)
+unfolding unit
+call_is = (1, (omega arith, refl), refl)
+
+-- DW_OP_call_ref names an entry by its place in .debug_info
+call_ref_is : Names linkable 0 0x9a 32 (AnEntry 1 1)
+unfolding unit
+call_ref_is = (1, 1, omega arith, (omega arith, refl), refl)
+
+-- the code 0 that ends the children of the root is no entry
+no_call : (target : OpTarget) → Names linkable 1 0x99 18 target → ⊥
+unfolding unit
+no_call to (zero, (inside, here), e) = absurd (omega arith)
+no_call to (suc zero, (inside, here), e) = absurd (omega arith)
+no_call to (suc (suc id), (inside, here), e) = absurd (omega arith)
 
 -- The same unit at the section's first byte, with its bytes and its table, and 13 in place of 12 in its reference, which so has
 -- no target. Its value stands at 14: the header has 12 bytes, and each code one.

@@ -26,7 +26,11 @@ use Rattle.line_machine.specs.Faults.{row_limit}
 use Rattle.line_write.specs.Faults.{LinesFault}
 use Rattle.line_write.specs.Programs.{Tile}
 use Rattle.line_write.specs.Readings.{AreRead}
+use Rattle.entry_read.specs.Units.{HeadAndForest}
+use Rattle.entry_read.specs.Expressions.{FaultExpressions}
 use Rattle.entry_read.proofs.Chained.{Chained}
+use Rattle.list_model.specs.declared.context.Context.{Context}
+use Rattle.list_model.specs.declared.tables.AddrTable.{AddrTable}
 use Rattle.list_model.specs.declared.entry.ListKind.TheVariants.{Ranges}
 use Rattle.list_model.specs.Addresses.{AreAllTables}
 use Rattle.list_model.specs.Faults.{FaultContributions}
@@ -36,28 +40,32 @@ use Rattle.companions.specs.declared.set.ArangeSet.{ArangeSet}
 use Rattle.companions.specs.Aranges.{AreRising, SetsTile}
 use Rattle.companions.specs.Faults.{FaultSets}
 use Rattle.value_links.specs.declared.lists.ListRead.{ListRead as HeldList}
+use Rattle.value_links.specs.declared.list_places.Contributions.{Contributions}
 use Rattle.value_links.specs.declared.parts.Parts.{Parts}
+use Rattle.value_links.specs.declared.units.Units.{Units}
 use Rattle.value_links.specs.Attributes.{rnglists_base}
 use Rattle.value_links.specs.Sections.{section_named, body_or_none, body_named, offset_named, debug_info, debug_abbrev, debug_line, debug_aranges, debug_addr, debug_rnglists, info_name, abbrev_name, line_name, aranges_name, addr_name, rnglists_name}
-use Rattle.value_links.specs.Reading.{ProgramRead, UnitRead, ListSection, ListRead, Linkable, Reading, line_heads, HasRows, AreProgramsIn, unit_heads, unit_starts}
-use Rattle.value_links.specs.Whole.{HasAddrBase, AreAddressesRead, AreFirstBases, IsReading}
+use Rattle.value_links.specs.Reading.{ProgramRead, UnitRead, ListSection, ListRead, Linkable, Reading, line_heads, HasRows, AreProgramsIn, unit_at, unit_heads, unit_starts}
+use Rattle.value_links.specs.Whole.{IsReadToLinks, HasAddrBase, AreAddressesRead, AreFirstBases, IsReading}
 use Rattle.value_links.specs.Lists.{AreListsOf}
+use Rattle.value_links.specs.LinkFaults.{FaultExprOf}
 use Rattle.value_links.specs.ListFaults.{FaultOfKind, entry_total}
 use Rattle.value_links.specs.Debug.{Debug, MeansDebug}
 use Rattle.value_links.specs.Faults.{FaultOfNames, is_list_section, FaultOfUnits, NamesFault}
-use Rattle.value_links.specs.Laws.{HaveFewRows, HasNoUnread, AreLinked, IsImageInOrder, AreProgramsInOrder, AreUnitsInOrder}
-use Rattle.value_links.specs.Parts.{AreUnitsHeld, section_held, HoldsParts, LinkFault, IsUnitsFault}
-use Rattle.value_links.specs.inside.Checks.{AreContextsHeld}
+use Rattle.value_links.specs.Laws.{HaveFewRows, AreBuilt, AreLinked, IsImageInOrder, AreProgramsInOrder, AreUnitsInOrder}
+use Rattle.value_links.specs.Parts.{HoldUnits, AreUnitsHeld, section_held, HoldsParts, LinkFault, IsUnitsFault}
+use Rattle.value_links.specs.inside.Checks.{AreContextsHeld, IsSomeExpressionFault}
 use Rattle.value_links.specs.inside.Passes.{starts_of, ArePartsRead, ArePartsInOrder, NamesLaterFault}
 use Rattle.value_links.specs.inside.ListPlaces.{AreContributions, AreBasesHeld}
 use Rattle.value_links.specs.inside.World.{IsHeldIn}
-use Rattle.value_links.specs.World.{World, head_and_forest, HoldLists, IsWorldOf}
+use Rattle.value_links.specs.World.{World, head_and_forest, HaveOperations, HoldLists, IsWorldOf}
 use Rattle.value_links.proofs.SectionLaws.{sections_are_found}
 use Rattle.value_links.proofs.Tiles.{programs_chained}
 use Rattle.value_links.proofs.ReadingOnce.{starts_rise}
 use Rattle.value_links.proofs.ValidLinks.{heads_begin}
 use Rattle.value_links.proofs.Validity.{first_faults, valid_meaning}
-use Rattle.value_links.proofs.HeldUnits.{few_units}
+use Rattle.value_links.proofs.HeldUnits.{few_units, held_count, held_is}
+use Rattle.value_links.proofs.ExprLinks.{expressions_within}
 use Rattle.value_links.proofs.Meaningful.{linked_means}
 use Rattle.value_links.proofs.ContextLaws.{contexts_read}
 use Rattle.value_links.proofs.HeldLists.{bases_read, lists_told}
@@ -208,58 +216,99 @@ pub ranges_refused : (file : List ℕ) (heads : List Head) (refusal : Refusal) �
 ranges_refused file heads (Refused fault) read f reach order = units_fault file reach heads fault read order (inr (inr f))
 ranges_refused file heads NoMemory read f reach order = tt
 
--- parts that were read, before the values are looked up
-pub record PartsRead (file : List ℕ) (parts : Parts) : Type 0 where
-  pub programs : AreRead (debug_line file) parts.programs.items
-  pub units : AreUnitsHeld (debug_info file) (debug_abbrev file) parts.units
-  pub contexts : AreContextsHeld (debug_addr file) parts.units parts.contexts.items
-  pub addresses : parts.addr.now ≡ debug_addr file
-  pub tables : AreAllTables (debug_addr file) parts.tables.items
-  pub section : parts.ranges.section.now ≡ debug_rnglists file
-  pub ranges : AreContributions parts.ranges
-  pub bases : AreBasesHeld (section_held parts.ranges) rnglists_base parts.units parts.bases.items
+-- WHAT IS READ BEFORE EXPRESSIONS
 
-pub parts_read_in : (file info abbrevs : List ℕ) (parts : Parts) → info ≡ debug_info file → abbrevs ≡ debug_abbrev file → parts.addr.now ≡ debug_addr file → AreRead (debug_line file) parts.programs.items → AreUnitsHeld info abbrevs parts.units → AreContextsHeld parts.addr.now parts.units parts.contexts.items → AreAllTables (debug_addr file) parts.tables.items → parts.ranges.section.now ≡ debug_rnglists file → AreContributions parts.ranges → AreBasesHeld (section_held parts.ranges) rnglists_base parts.units parts.bases.items → PartsRead file parts
-parts_read_in file info abbrevs parts i a d programs units contexts tables section ranges bases = record {
-  programs = programs;
-  units = subst (λ (z : List ℕ). AreUnitsHeld z (debug_abbrev file) parts.units) i (subst (λ (z : List ℕ). AreUnitsHeld info z parts.units) a units);
-  contexts = subst (λ (z : List ℕ). AreContextsHeld z parts.units parts.contexts.items) d contexts;
-  addresses = d;
-  tables = tables;
+-- parts that were read, before the operations of expressions
+pub record PartsRead (file : List ℕ) (programs : List Head) (units : Units) (contexts : List Context) (addresses : List ℕ) (tables : List AddrTable) (ranges : Contributions) (bases : List (Option ℕ)) : Type 0 where
+  pub programs_are : AreRead (debug_line file) programs
+  pub units_are : AreUnitsHeld (debug_info file) (debug_abbrev file) units
+  pub contexts_are : AreContextsHeld (debug_addr file) units contexts
+  pub addresses_are : addresses ≡ debug_addr file
+  pub tables_are : AreAllTables (debug_addr file) tables
+  pub section : ranges.section.now ≡ debug_rnglists file
+  pub ranges_are : AreContributions ranges
+  pub bases_are : AreBasesHeld (section_held ranges) rnglists_base units bases
+
+pub parts_read_in : (file info abbrevs : List ℕ) (programs : List Head) (units : Units) (contexts : List Context) (addresses : List ℕ) (tables : List AddrTable) (ranges : Contributions) (bases : List (Option ℕ)) → info ≡ debug_info file → abbrevs ≡ debug_abbrev file → addresses ≡ debug_addr file → AreRead (debug_line file) programs → AreUnitsHeld info abbrevs units → AreContextsHeld addresses units contexts → AreAllTables (debug_addr file) tables → ranges.section.now ≡ debug_rnglists file → AreContributions ranges → AreBasesHeld (section_held ranges) rnglists_base units bases → PartsRead file programs units contexts addresses tables ranges bases
+parts_read_in file info abbrevs programs units contexts addresses tables ranges bases i a d programs_are units_are contexts_are tables_are section ranges_are bases_are = record {
+  programs_are = programs_are;
+  units_are = subst (λ (z : List ℕ). AreUnitsHeld z (debug_abbrev file) units) i (subst (λ (z : List ℕ). AreUnitsHeld info z units) a units_are);
+  contexts_are = subst (λ (z : List ℕ). AreContextsHeld z units contexts) d contexts_are;
+  addresses_are = d;
+  tables_are = tables_are;
   section = section;
-  ranges = ranges;
-  bases = bases;
+  ranges_are = ranges_are;
+  bases_are = bases_are;
 }
 
 -- what values refer to, of which these are the parts
-pub parts_read : (file : List ℕ) (parts : Parts) → IsRead file Wide → PartsRead file parts → ArePartsRead file parts
-parts_read file parts image read =
-    let p = programs_read (debug_line file) parts.programs.items read.programs in
-    let few : length p.programs < 2 ^ 32 = few_programs file Wide p.programs (λ i inside. (image.sound.sections i inside).short) p.read in
-    let count : length parts.programs.items ≡ length p.programs = ap length p.held ∙ length-map p.programs (λ (x : ProgramRead). x.head) in
-    let r : Linkable = record { programs = p.programs; units = read.units.read; addresses = debug_addr file; contexts = parts.contexts.items; ranges = section_held parts.ranges } in
-    record {
-      r = r;
-      holds = record {
+record LinkableRead (file : List ℕ) (programs : List Head) (units : Units) (contexts : List Context) (ranges : Contributions) : Type 0 where
+  r : Linkable
+  read : IsReadToLinks file r
+  programs_are : programs ≡ line_heads r.programs
+  few_programs : length programs < 2 ^ 32
+  units_are : HoldUnits r.units units
+  contexts_are : contexts ≡ r.contexts
+  ranges_are : section_held ranges ≡ r.ranges
+  few : HaveFewRows r.programs
+  built : AreBuilt r.units
+
+module _ (file : List ℕ) (programs : List Head) (units : Units) (contexts : List Context) (addresses : List ℕ) (tables : List AddrTable) (ranges : Contributions) (bases : List (Option ℕ)) (image : IsRead file Wide) (read : PartsRead file programs units contexts addresses tables ranges bases) where
+  linkable_read : LinkableRead file programs units contexts ranges
+  linkable_read =
+      let p = programs_read (debug_line file) programs read.programs_are in
+      let few : length p.programs < 2 ^ 32 = few_programs file Wide p.programs (λ i inside. (image.sound.sections i inside).short) p.read in
+      let count : length programs ≡ length p.programs = ap length p.held ∙ length-map p.programs (λ (x : ProgramRead). x.head) in
+      record {
+        r = record { programs = p.programs; units = read.units_are.read; addresses = debug_addr file; contexts = contexts; ranges = section_held ranges };
         read = record {
           programs = p.read;
-          units = read.units.units;
+          units = read.units_are.units;
           addresses = refl;
-          contexts = contexts_read (debug_addr file) read.units.read parts.units parts.contexts.items read.units.holds read.contexts;
-          ranges = record { bytes_are = read.section; tiled = read.ranges.tiled };
+          contexts = contexts_read (debug_addr file) read.units_are.read units contexts read.units_are.holds read.contexts_are;
+          ranges = record { bytes_are = read.section; tiled = read.ranges_are.tiled };
         };
-        programs = p.held;
-        units = read.units.holds;
-        contexts = refl;
-        addresses = read.addresses;
-        tables = read.tables;
-        ranges = refl;
-        few_ranges = read.ranges.few;
-        bases = bases_read r parts.units parts.bases.items read.units.holds read.bases;
-        few = subst (λ (n : ℕ). n < 2 ^ 32) (sym count) few;
+        programs_are = p.held;
+        few_programs = subst (λ (n : ℕ). n < 2 ^ 32) (sym count) few;
+        units_are = read.units_are.holds;
+        contexts_are = refl;
+        ranges_are = refl;
+        few = p.few;
+        built = read.units_are.built;
+      }
+
+  -- a fault of an expression
+  pub expressions_refused : (reach : Reach) (refusal : Refusal) → IsRefusedFor (IsFaultOf (IsSomeExpressionFault units.units.items reach) (offset_named file info_name)) refusal → NamesLaterFault file reach refusal
+  expressions_refused reach (Refused fault) (inner, here, (u, inside, f)) order =
+      let l = linkable_read in
+      let known : u < length l.r.units = subst (λ (n : ℕ). u < n) (held_count l.r.units units.units.items l.units_are.units) inside in
+      let there : FaultExpressions (unit_at l.r u).forest reach fault.kind inner = subst (λ (z : HeadAndForest). FaultExpressions z.forest reach fault.kind inner) (held_is l.r.units units.units.items l.units_are.units u known) f in
+      let of_unit : FaultExprOf l.r reach u fault.kind inner = record { number = there.number; span = there.span; stands = there.stands; inner = there.inner; fault = inl there.fault; here = there.here } in
+      let before : AreUnitsInOrder file reach l.r = record { before = record { before = order; programs = l.read.programs; few = l.few }; units = l.read.units; built = l.built; ranges = l.read.ranges } in
+      first_faults.links file reach l.r fault.kind fault.place before (inl (inner, here, record { r = l.r; read = l.read; u = u; inside = known; fault = inr (inr (inr of_unit)) }))
+  expressions_refused reach NoMemory f order = tt
+
+-- parts that were read, with the operations of expressions
+pub parts_read : (file : List ℕ) (parts : Parts) → IsRead file Wide → PartsRead file parts.programs.items parts.units parts.contexts.items parts.addr.now parts.tables.items parts.ranges parts.bases.items → HaveOperations Wide parts.units.units.items parts.operations.items → ArePartsRead file parts
+parts_read file parts image read operations =
+    let l = linkable_read file parts.programs.items parts.units parts.contexts.items parts.addr.now parts.tables.items parts.ranges parts.bases.items image read in
+    record {
+      r = l.r;
+      holds = record {
+        read = l.read;
+        programs = l.programs_are;
+        units = l.units_are;
+        contexts = l.contexts_are;
+        addresses = read.addresses_are ∙ sym l.read.addresses;
+        tables = subst (λ (z : List ℕ). AreAllTables z parts.tables.items) (sym l.read.addresses) read.tables_are;
+        ranges = l.ranges_are;
+        few_ranges = read.ranges_are.few;
+        bases = bases_read l.r parts.units parts.bases.items l.units_are (subst (λ (z : ListSection). AreBasesHeld z rnglists_base parts.units parts.bases.items) l.ranges_are read.bases_are);
+        operations = operations;
+        few = l.few_programs;
       };
-      few = p.few;
-      built = read.units.built;
+      few = l.few;
+      built = l.built;
     }
 
 -- LINKS
@@ -287,7 +336,7 @@ module _ (file : List ℕ) (parts : Parts) (read : ArePartsRead file parts) wher
 
 -- a world by its parts
 abbrev pub world_by : List ℕ → Parts → List HeldList → List ArangeSet → World
-world_by image parts lists sets = record { image = image; programs = parts.programs.items; units = parts.units.units.items; tables = parts.units.tables.items; table_of = parts.units.table_of.items; contexts = parts.contexts.items; contributions = parts.ranges.parts.items; lists = lists; sets = sets }
+world_by image parts lists sets = record { image = image; programs = parts.programs.items; units = parts.units.units.items; operations = parts.operations.items; tables = parts.units.tables.items; table_of = parts.units.table_of.items; contexts = parts.contexts.items; contributions = parts.ranges.parts.items; lists = lists; sets = sets }
 
 starts_held : (units : List UnitRead) → starts_of (map head_and_forest units) ≡ unit_starts units
 starts_held [] = refl
@@ -326,15 +375,15 @@ module _ (file : List ℕ) (parts : Parts) (order : ArePartsInOrder file parts) 
     tiled_there : SetsTile (debug_aranges file) (unit_starts order.r.units) sets
     tiled_there = subst (λ (z : List ℕ). SetsTile (debug_aranges file) z sets) starts_are tiled
 
-    pub named_refused : (reach : Reach) (refusal : Refusal) → ((f : List ℕ) (r : Linkable) → HoldsParts f r parts → IsRefusedFor (IsFaultOf (FaultOfKind r reach Ranges) (offset_named file rnglists_name)) refusal) → NamesLaterFault file reach refusal
-    named_refused reach (Refused fault) refused image =
+    pub named_refused : (reach : Reach) (refusal : Refusal) → HaveOperations reach parts.units.units.items parts.operations.items → ((f : List ℕ) (r : Linkable) → HoldsParts f r parts → IsRefusedFor (IsFaultOf (FaultOfKind r reach Ranges) (offset_named file rnglists_name)) refusal) → NamesLaterFault file reach refusal
+    named_refused reach (Refused fault) operations refused image =
         let (inner, here, f) = refused file order.r order.holds in
-        first_faults.lists file reach order.r fault.kind fault.place (record { before = in_order reach image; read = order.holds.read; linked = order.linked; roots = order.roots; sets = (sets, tiled_there) }) (inl (inner, here, (order.r, order.holds.read, f)))
-    named_refused reach NoMemory refused image = tt
+        first_faults.lists file reach order.r fault.kind fault.place (record { before = in_order reach image; read = order.holds.read; linked = order.linked; within = expressions_within file order.r parts order.holds reach operations; roots = order.roots; sets = (sets, tiled_there) }) (inl (inner, here, (order.r, order.holds.read, f)))
+    named_refused reach NoMemory operations refused image = tt
 
     -- THE FILE
 
-    module _ (reach : Reach) (image : IsImageInOrder file reach) (held : List HeldList) (lists : (r : Linkable) → HoldsParts file r parts → (read : List ListRead) × AreListsOf r Ranges read × HoldLists r Ranges read held × (entry_total read ≤ list_entry_limit reach)) where
+    module _ (reach : Reach) (image : IsImageInOrder file reach) (operations : HaveOperations reach parts.units.units.items parts.operations.items) (held : List HeldList) (lists : (r : Linkable) → HoldsParts file r parts → (read : List ListRead) × AreListsOf r Ranges read × HoldLists r Ranges read held × (entry_total read ≤ list_entry_limit reach)) where
       named : (read : List ListRead) × AreListsOf order.r Ranges read × HoldLists order.r Ranges read held × (entry_total read ≤ list_entry_limit reach)
       named = lists order.r order.holds
 
@@ -344,7 +393,7 @@ module _ (file : List ℕ) (parts : Parts) (order : ArePartsInOrder file parts) 
       whole : IsReading file reading
       whole = record { links = order.holds.read; roots = order.roots; ranges = named.1; sets = tiled_there }
 
-      meaning : ((debug : Debug) × MeansDebug file reading debug) × HasNoUnread order.r
+      meaning : (debug : Debug) × MeansDebug file reading debug
       meaning = linked_means file reading whole (lists_told order.r Ranges named.0 held named.2) order.linked
 
       abbrev world_of : IsWorldOf file reach (world_by file parts held sets)
@@ -363,9 +412,10 @@ module _ (file : List ℕ) (parts : Parts) (order : ArePartsInOrder file parts) 
           lists = named.2;
           sets = refl;
         };
-        debug = meaning.0.0;
-        means = meaning.0.1;
-        valid = valid_meaning file reach reading meaning.0.0 (in_order reach image) whole meaning.0.1 meaning.1 named.3;
+        operations = operations;
+        debug = meaning.0;
+        means = meaning.1;
+        valid = valid_meaning file reach reading meaning.0 (in_order reach image) whole meaning.1 (expressions_within file order.r parts order.holds reach operations) named.3;
       }
 
       -- likewise where the image that was read is the file

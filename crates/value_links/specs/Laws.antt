@@ -2,15 +2,19 @@
 use Rattle.std.specs.Prelude.{◌≡◌, ◌≢◌, ◌≤◌, ◌<◌, ◌⊎◌, ℕ, List, length, true}
 use Rattle.std.specs.List.{All, sum_by}
 use Rattle.dw_base.specs.declared.fault.Kind.{Kind}
-use Rattle.dw_base.specs.declared.fault.Kind.TheVariants.{Unbuilt}
 use Rattle.dw_base.specs.declared.fault.Reach.{Reach}
 use Rattle.elf_sections.specs.Elf.{section_count}
 use Rattle.elf_sections.specs.Faults.{IsRead}
 use Rattle.line_machine.specs.Faults.{row_limit}
 use Rattle.line_write.specs.Faults.{total_limit}
+use Rattle.dw_base.specs.declared.fault.Span.{Span}
+use Rattle.spelled.specs.Spelled.{AreBytes}
+use Rattle.expr_ops.specs.Expressions.{Operation, IsExpression}
 use Rattle.form_codec.specs.Forms.{Meaning}
+use Rattle.form_codec.specs.Values.{bytes_in}
 use Rattle.abbrev_tables.specs.Tables.{Declared}
 use Rattle.entry_read.specs.Heads.{type_unit}
+use Rattle.entry_read.specs.Expressions.{IsExprAt}
 use Rattle.list_model.specs.declared.entry.ListKind.TheVariants.{Ranges}
 use Rattle.list_model.specs.Reading.{list_entry_limit}
 use Rattle.companions.specs.declared.set.ArangeSet.{ArangeSet}
@@ -21,12 +25,13 @@ use Rattle.value_links.specs.Whole.{ArePartsOf, IsReadToLinks, AreRootsRead, IsR
 use Rattle.value_links.specs.Lists.{AreTold}
 use Rattle.value_links.specs.ListFaults.{entry_total}
 use Rattle.value_links.specs.Values.{HasValueAt}
+use Rattle.value_links.specs.Operations.{LinkedOperation, LinksExpression}
 use Rattle.value_links.specs.Linked.{Linked, Links, IsLinked, IsTypeEntry}
 use Rattle.value_links.specs.Resolved.{Resolved, Resolves}
 use Rattle.value_links.specs.declared.link.Link.{Link}
 use Rattle.value_links.specs.Links.{HasLink}
 use Rattle.value_links.specs.Debug.{Debug, MeansDebug, Means}
-use Rattle.value_links.specs.LinkFaults.{IsUnread, FaultValue}
+use Rattle.value_links.specs.LinkFaults.{FaultValue, FaultOperations, FaultInUnit}
 use Rattle.value_links.specs.Faults.{is_list_section, HasShortReference, FaultOfFile, FaultOfNames, FaultOfPrograms, FaultOfUnits, FaultOfLinks, FaultOfLists, Faulty, IsValid}
 
 -- A file is read in one way.
@@ -64,15 +69,24 @@ LinkedMean =
 abbrev pub OneDebug : Type 0
 OneDebug = (file : List ℕ) (a b : Debug) → Means file a → Means file b → a ≡ b
 
--- Never both: a value that is linked has no fault but that it can't be written yet.
+-- Never both: a value that is linked has no fault.
 abbrev pub LinkedHaveNoFault : Type 0
 LinkedHaveNoFault =
-    (r : Linkable) (u id name : ℕ) (meaning : Meaning) (linked : Linked) (kind : Kind) → kind ≢ Unbuilt → Links r u id name meaning linked → FaultValue r u id name meaning kind → ⊥
+    (r : Linkable) (u id name : ℕ) (meaning : Meaning) (linked : Linked) (kind : Kind) → Links r u id name meaning linked → FaultValue r u id name meaning kind → ⊥
 
--- A value that isn't linked, since it names nothing that it may name, has a fault.
+-- The bytes are an expression within the limits of a reach.
+abbrev pub IsSomeExpression : Reach → List ℕ → Type 0
+IsSomeExpression reach bytes = (operations : List Operation) × IsExpression reach operations bytes
+
+-- An expression within the limits whose operations name what they may has no fault either.
+abbrev pub LinkedExpressionsHaveNoFault : Type 0
+LinkedExpressionsHaveNoFault =
+    (r : Linkable) (u : ℕ) (reach : Reach) (bytes : List ℕ) (linked : List LinkedOperation) (kind : Kind) (place : ℕ) → LinksExpression r u bytes linked → IsSomeExpression reach bytes → FaultOperations r u reach bytes kind place → ⊥
+
+-- The value of an attribute that isn't linked, since it names nothing that it may name, has a fault, or it is an expression that has one.
 abbrev pub LinkedOrFaulty : Type 0
 LinkedOrFaulty =
-    (r : Linkable) (u id name : ℕ) (meaning : Meaning) → ((linked : Linked) × Links r u id name meaning linked) ⊎ ((kind : Kind) × FaultValue r u id name meaning kind)
+    (r : Linkable) (u id number name : ℕ) (meaning : Meaning) (place : ℕ) (reach : Reach) → HasValueAt (unit_at r u) id number name meaning place → AreBytes (unit_at r u).forest.section → ((linked : Linked) × Links r u id name meaning linked) ⊎ ((kind : Kind) × (at : ℕ) × FaultInUnit r reach u kind at)
 
 -- A valid file that is read means something, where all is told of lists.
 abbrev pub ValidFilesMean : Type 0
@@ -95,14 +109,13 @@ IsBuilt d = ¬ HasShortReference d
 abbrev pub AreBuilt : List UnitRead → Type 0
 AreBuilt units = All (λ (u : UnitRead). All IsBuilt (declarations u)) units
 
--- no value of what is read waits for a later version of this program
-abbrev pub HasNoUnread : Linkable → Type 0
-HasNoUnread r = (u id number name : ℕ) (meaning : Meaning) (place : ℕ) → u < length r.units → HasValueAt (unit_at r u) id number name meaning place → FaultValue r u id name meaning Unbuilt → ⊥
+-- the expressions of what is read are within the limits of a reach
+abbrev pub AreExpressionsWithin : Linkable → Reach → Type 0
+AreExpressionsWithin r reach = (u number : ℕ) (span : Span) → u < length r.units → IsExprAt (unit_at r u).forest number span → IsSomeExpression reach (bytes_in (unit_at r u).forest.section span)
 
--- Each value is linked and waits for nothing, and each type unit has the entry of its type.
+-- Each value is linked, and each type unit has the entry of its type.
 pub record AreLinked (r : Linkable) : Type 0 where
   pub values : (u id number name : ℕ) (meaning : Meaning) (place : ℕ) → u < length r.units → HasValueAt (unit_at r u) id number name meaning place → (linked : Linked) × Links r u id name meaning linked
-  pub read : (u id number name : ℕ) (meaning : Meaning) (place : ℕ) → u < length r.units → HasValueAt (unit_at r u) id number name meaning place → ¬ IsUnread meaning
   pub types : (u : ℕ) → u < length r.units → (unit_at r u).head.kind ≡ type_unit → (id : ℕ) × IsTypeEntry r u id
 
 -- the lists that something names keep the limit of their entries
@@ -130,6 +143,7 @@ pub record AreLinksInOrder (file : List ℕ) (reach : Reach) (r : Linkable) : Ty
   pub before : AreUnitsInOrder file reach r
   pub read : IsReadToLinks file r
   pub linked : AreLinked r
+  pub within : AreExpressionsWithin r reach
   pub roots : AreRootsRead r
   pub sets : (sets : List ArangeSet) × SetsTile (debug_aranges file) (unit_starts r.units) sets
 
@@ -142,7 +156,7 @@ pub record FirstFaultsDecide : Type 0 where
   pub links : (file : List ℕ) (reach : Reach) (r : Linkable) (kind : Kind) (place : ℕ) → AreUnitsInOrder file reach r → FaultOfLinks file reach kind place → Faulty file reach kind place
   pub lists : (file : List ℕ) (reach : Reach) (r : Linkable) (kind : Kind) (place : ℕ) → AreLinksInOrder file reach r → FaultOfLists file reach kind place → Faulty file reach kind place
 
--- A file of which all is read, that means something, waits for nothing and keeps the limits is valid.
+-- A file of which all is read, that means something and keeps the limits is valid.
 abbrev pub MeaningFilesAreValid : Type 0
 MeaningFilesAreValid =
-    (file : List ℕ) (reach : Reach) (r : Reading) (debug : Debug) → AreUnitsInOrder file reach r.links → IsReading file r → MeansDebug file r debug → HasNoUnread r.links → HaveFewEntries r reach → IsValid file reach
+    (file : List ℕ) (reach : Reach) (r : Reading) (debug : Debug) → AreUnitsInOrder file reach r.links → IsReading file r → MeansDebug file r debug → AreExpressionsWithin r.links reach → HaveFewEntries r reach → IsValid file reach

@@ -3,6 +3,7 @@ pub mod Attributes
 pub mod Contexts
 pub mod Reading
 pub mod Values
+pub mod Operations
 pub mod ListPlaces
 pub mod Whole
 pub mod Linked

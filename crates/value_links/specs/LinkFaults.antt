@@ -1,20 +1,29 @@
 -- The faults that the fifth pass looks for: what values refer to, up to the places of lists, and the first bases of lists (DWARF 5
 -- sections 2.5, 3.1.1, 7.5.4 and 7.5.5).
-use Rattle.std.specs.Prelude.{◌≡◌, ◌⊎◌, ℕ, List, [], ◌∷◌}
-use Rattle.std.specs.List.{Contains}
-use Rattle.dw_base.specs.declared.constants.TheConstants.{DW_OP_CALL2, DW_OP_CALL4, DW_OP_CALL_REF, DW_OP_IMPLICIT_POINTER, DW_OP_CONST_TYPE, DW_OP_REGVAL_TYPE, DW_OP_DEREF_TYPE, DW_OP_XDEREF_TYPE, DW_OP_CONVERT, DW_OP_REINTERPRET, DW_OP_GNU_PARAMETER_REF, DW_OP_GNU_VARIABLE_VALUE}
+use Rattle.std.specs.Prelude.{◌≡◌, ◌<◌, ◌+◌, ◌⊎◌, ℕ, List, length}
 use Rattle.dw_base.specs.declared.fault.Kind.{Kind}
-use Rattle.dw_base.specs.declared.fault.Kind.TheVariants.{Target as NoTarget, Pointer, NoBase, Unbuilt}
+use Rattle.dw_base.specs.declared.fault.Kind.TheVariants.{Target as NoTarget, Pointer, NoBase}
 use Rattle.dw_base.specs.declared.fault.Reach.{Reach}
+use Rattle.dw_base.specs.declared.fault.Reach.TheVariants.{Wide}
+use Rattle.dw_base.specs.declared.fault.Span.{Span}
+use Rattle.expr_ops.specs.declared.op.Op.{Op}
+use Rattle.expr_ops.specs.Expressions.{IsExpression}
+use Rattle.expr_ops.specs.ExpressionFaults.{FaultExpression}
+use Rattle.expr_ops.specs.Ops.{all_meant, Chain}
+use Rattle.expr_ops.specs.Drafts.{op_at}
+use Rattle.expr_ops.specs.Names.{IsReferencePlace}
 use Rattle.form_codec.specs.Forms.{Meaning}
-use Rattle.form_codec.specs.Forms.Meaning.{InUnit, InSection, SectionPlace, LocationList, RangeList, Expression}
+use Rattle.form_codec.specs.Values.{bytes_in}
+use Rattle.form_codec.specs.Forms.Meaning.{InUnit, InSection, SectionPlace, LocationList, RangeList}
 use Rattle.entry_arena.specs.declared.entry.Target.{Target}
 use Rattle.entry_read.specs.Heads.{type_offset_at, type_unit}
+use Rattle.entry_read.specs.Expressions.{IsExprAt}
 use Rattle.list_model.specs.declared.entry.ListKind.{ListKind}
 use Rattle.list_model.specs.declared.entry.ListKind.TheVariants.{Ranges, Locations}
 use Rattle.value_links.specs.Attributes.{OffsetClass, offset_class, addr_base}
 use Rattle.value_links.specs.Attributes.OffsetClass.{LinePtr, RngList, LocList, RngListsPtr, LocListsPtr, AddrPtr, StrOffsetsPtr, MacPtr, Views, NoOffset}
 use Rattle.value_links.specs.Reading.{Linkable, unit_at, of_kind}
+use Rattle.value_links.specs.Operations.{OpTarget, Names}
 use Rattle.value_links.specs.ListPlaces.{IsOffsetsAt, base_of}
 use Rattle.value_links.specs.Linked.{Linked, IsLocalTarget, IsSectionTarget, IsTypeEntry, IsProgramAt, IsListAt, IndexLinks, IsAddressesAt, IsFirstLow, HasAddress}
 use Rattle.value_links.specs.Values.{HasValueAt, GivesBase}
@@ -56,22 +65,11 @@ IsBaseless r u (LocationList i) = ¬ GivesBase (unit_at r u) (base_of Locations)
 IsBaseless r u (RangeList i) = ¬ GivesBase (unit_at r u) (base_of Ranges)
 IsBaseless r u meaning = ⊥
 
--- The opcodes of the operations that name an entry (DWARF 5 section 7.7.1), and of two extensions that do. Operations aren't
--- read yet. So an expression in which one of these bytes stands anywhere, be it an operand, isn't rewritten.
-abbrev pub unread_opcodes : List ℕ
-unread_opcodes = DW_OP_CALL2 ∷ DW_OP_CALL4 ∷ DW_OP_CALL_REF ∷ DW_OP_IMPLICIT_POINTER ∷ DW_OP_CONST_TYPE ∷ DW_OP_REGVAL_TYPE ∷ DW_OP_DEREF_TYPE ∷ DW_OP_XDEREF_TYPE ∷ DW_OP_CONVERT ∷ DW_OP_REINTERPRET ∷ DW_OP_GNU_PARAMETER_REF ∷ DW_OP_GNU_VARIABLE_VALUE ∷ []
-
--- an expression has one of these bytes
-abbrev pub IsUnread : Meaning → Type 0
-IsUnread (Expression bytes) = (byte : ℕ) × Contains bytes byte × Contains unread_opcodes byte
-IsUnread meaning = ⊥
-
--- the fault of the value of an attribute with a name, in an entry `id` of the unit `u`, both by their numbers
+-- The fault of the value of an attribute with a name, other than an expression, in an entry `id` of the unit `u`, both by their numbers
 abbrev pub FaultValue : Linkable → ℕ → ℕ → ℕ → Meaning → Kind → Type 0
 FaultValue r u id name meaning NoTarget = IsTargetless r u meaning
 FaultValue r u id name meaning Pointer = IsDangling r u id name meaning
 FaultValue r u id name meaning NoBase = IsBaseless r u meaning
-FaultValue r u id name meaning Unbuilt = IsUnread meaning
 FaultValue r u id name meaning kind = ⊥
 
 -- A value of the unit with a number has a fault. The place is the value's first byte.
@@ -98,7 +96,33 @@ FaultNumber r u i kind = ⊥
 abbrev pub FaultLow : Linkable → ℕ → Kind → ℕ → Type 0
 FaultLow r u kind place = (i : ℕ) × IsFirstLow r u i place × FaultNumber r u i kind
 
--- Something in a unit refers to what isn't there, or isn't read yet. Each fault has a place of its own: that of a value, or of a
--- field. No limit is asked for here yet.
+-- EXPRESSIONS
+
+-- An operation of an expression names nothing that it may. The place is the first byte of its reference, counted from that of the
+-- expression.
+pub record FaultReference (r : Linkable) (u : ℕ) (bytes : List ℕ) (place : ℕ) : Type 0 where
+  pub ops : List Op
+  pub spelled : IsExpression Wide (all_meant bytes ops) bytes
+  pub places : Chain bytes 0 ops (length bytes)
+  pub k : ℕ
+  pub inside : k < length ops
+  pub stands : IsReferencePlace bytes (op_at ops k).code (op_at ops k).at place
+  pub astray : ¬ ((target : OpTarget) × Names r u (op_at ops k).code (op_at ops k).a target)
+
+-- what has these bytes is no expression within the limits, or one of its operations names nothing that it may
+abbrev pub FaultOperations : Linkable → ℕ → Reach → List ℕ → Kind → ℕ → Type 0
+FaultOperations r u reach bytes kind place = FaultExpression reach kind place bytes ⊎ ((kind ≡ NoTarget) × FaultReference r u bytes place)
+
+-- An expression of the unit with a number has a fault.
+pub record FaultExprOf (r : Linkable) (reach : Reach) (u : ℕ) (kind : Kind) (place : ℕ) : Type 0 where
+  pub number : ℕ
+  pub span : Span
+  pub stands : IsExprAt (unit_at r u).forest number span
+  pub inner : ℕ
+  pub fault : FaultOperations r u reach (bytes_in (unit_at r u).forest.section span) kind inner
+  pub here : place ≡ span.at + inner
+
+-- Something in a unit refers to what isn't there, or an expression isn't one. Each fault has a place of its own: that of a value, of
+-- a field, or of a part of an expression.
 abbrev pub FaultInUnit : Linkable → Reach → ℕ → Kind → ℕ → Type 0
-FaultInUnit r reach u kind place = FaultAttribute r u kind place ⊎ (FaultType r u kind place ⊎ FaultLow r u kind place)
+FaultInUnit r reach u kind place = FaultAttribute r u kind place ⊎ (FaultType r u kind place ⊎ (FaultLow r u kind place ⊎ FaultExprOf r reach u kind place))

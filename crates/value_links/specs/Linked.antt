@@ -2,7 +2,7 @@
 -- a list is read only once it is known which values name it.
 use Rattle.std.specs.Prelude.{◌≡◌, ◌<◌, ◌+◌, ◌∷◌, ◌++◌, ℕ, List, [], length, filter}
 use Rattle.form_codec.specs.Forms.{Meaning}
-use Rattle.form_codec.specs.Forms.Meaning.{AddressNumber, InUnit, InSection, SectionPlace, LocationList, RangeList}
+use Rattle.form_codec.specs.Forms.Meaning.{AddressNumber, Expression, InUnit, InSection, SectionPlace, LocationList, RangeList}
 use Rattle.entry_arena.specs.declared.entry.Target.{Target}
 use Rattle.entry_arena.specs.declared.entry.Target.TheVariants.{Entry as TheEntry, ChainEnd as TheEnd}
 use Rattle.entry_arena.specs.Arena.{Arena, IsEntryAt, IsChainEndAt}
@@ -16,13 +16,15 @@ use Rattle.value_links.specs.Contexts.{low_pc, is_low_pc, NamesTable}
 use Rattle.value_links.specs.ListPlaces.{IsListPlace, IsOffsetsAt, IsBaseOf}
 use Rattle.value_links.specs.Reading.{Linkable, program_at, unit_at, of_kind, part_at}
 use Rattle.value_links.specs.Values.{HasValueAt, root_of}
+use Rattle.value_links.specs.Operations.{LinkedOperation, LinksExpression}
 
--- What a value refers to: itself; an entry, or the end of the children of an entry, in the unit with a number; the number of a
+-- What a value refers to: itself; what the operations of an expression name; an entry, or the end of the children of an entry, in the unit with a number; the number of a
 -- line number program; the list of a kind that begins at a place; a slot of a contribution, which is to name a list; a
 -- contribution; or a section offset that is kept as the number that it is. Units, entries, programs, contributions and slots are
 -- numbered from 0 in their order.
 pub data Linked : Type 0 where
   Itself : Meaning → Linked
+  Operates : List LinkedOperation → Linked
   Refers : ℕ → Target → Linked
   Program : ℕ → Linked
   ListAt : ListKind → ℕ → Linked
@@ -91,6 +93,7 @@ Links r u id name (InSection n) linked = (unit : ℕ) × (target : Target) × Is
 Links r u id name (SectionPlace n) linked = OffsetLinks r u id (offset_class name) n linked
 Links r u id name (LocationList i) linked = IndexLinks r u Locations i linked
 Links r u id name (RangeList i) linked = IndexLinks r u Ranges i linked
+Links r u id name (Expression bytes) linked = (operations : List LinkedOperation) × LinksExpression r u bytes operations × (linked ≡ Operates operations)
 Links r u id name meaning linked = linked ≡ Itself meaning
 
 -- the value with a number among those of a unit's entries refers to this

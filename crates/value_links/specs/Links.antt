@@ -2,17 +2,23 @@
 use Rattle.std.specs.Prelude.{◌≡◌, ℕ, List, slice_index_or, Option, Some, None}
 use Rattle.form_codec.specs.Forms.{Meaning}
 use Rattle.entry_read.specs.Units.{HeadAndForest}
+use Rattle.expr_ops.specs.declared.op.Op.{Op}
 use Rattle.value_links.specs.declared.link.Link.{Link}
+use Rattle.value_links.specs.declared.operations.OpLink.{OpLink}
+use Rattle.value_links.specs.declared.operations.OpLink.TheVariants as op_link
+use Rattle.value_links.specs.Operations.{OpTarget, Names}
+use Rattle.value_links.specs.Operations.OpTarget.{NoTarget, GenericType, AnEntry}
 use Rattle.value_links.specs.declared.link.Link.TheVariants.{Plain, Place, Lines, List as AtList, Slot, Base, Kept as KeptPlace}
 use Rattle.value_links.specs.Reading.{Linkable, no_unit, of_kind}
 use Rattle.value_links.specs.ListPlaces.{SlotNames}
 use Rattle.value_links.specs.World.{head_and_forest}
 use Rattle.value_links.specs.Linked.{Linked, Links, IsLinked}
-use Rattle.value_links.specs.Linked.Linked.{Itself, Refers, Program, ListAt, SlotAt, BaseOf, Kept}
+use Rattle.value_links.specs.Linked.Linked.{Itself, Operates, Refers, Program, ListAt, SlotAt, BaseOf, Kept}
 
 -- the link tells what a value refers to
 abbrev pub IsLinkOf : Linked → Link → Type 0
 IsLinkOf (Itself meaning) link = link ≡ Plain
+IsLinkOf (Operates operations) link = link ≡ Plain
 IsLinkOf (Refers unit target) link = link ≡ Place unit target
 IsLinkOf (Program program) link = link ≡ Lines program
 IsLinkOf (ListAt kind place) link = link ≡ AtList kind place
@@ -46,3 +52,14 @@ IsFoundFor LinksTo None = (linked : Linked) → LinksTo linked → ⊥
 -- so of the value of an attribute with a name, in an entry `id` of a unit
 abbrev pub IsLinkFound : Linkable → ℕ → ℕ → ℕ → Meaning → Option Link → Type 0
 IsLinkFound r u id name meaning found = IsFoundFor (Links r u id name meaning) found
+
+-- the link tells what an operation names
+abbrev pub IsOpLinkOf : OpTarget → OpLink → Type 0
+IsOpLinkOf NoTarget link = link ≡ op_link.Plain
+IsOpLinkOf GenericType link = link ≡ op_link.Generic
+IsOpLinkOf (AnEntry unit id) link = link ≡ op_link.Entry unit id
+
+-- What is answered of an operation in an expression of a unit: what it names, or none exactly where it names nothing that it may.
+abbrev pub IsOpLinkFound : Linkable → ℕ → Op → Option OpLink → Type 0
+IsOpLinkFound r u op (Some link) = (target : OpTarget) × Names r u op.code op.a target × IsOpLinkOf target link
+IsOpLinkFound r u op None = (target : OpTarget) → Names r u op.code op.a target → ⊥

@@ -4,6 +4,7 @@ use Rattle.dw_base.specs.declared.fault.Kind.{Kind}
 use Rattle.dw_base.specs.declared.fault.Fault.{Fault}
 use Rattle.dw_base.specs.Refusals.{IsFaultOf}
 use Rattle.dw_base.specs.declared.fault.Reach.{Reach}
+use Rattle.dw_base.specs.declared.fault.Reach.TheVariants.{Wide}
 use Rattle.list_model.specs.declared.entry.ListKind.{ListKind}
 use Rattle.list_model.specs.declared.entry.ListKind.TheVariants.{Ranges}
 use Rattle.std.specs.List.{All}
@@ -20,9 +21,9 @@ use Rattle.value_links.specs.Lists.{AreTold}
 use Rattle.value_links.specs.Whole.{IsReadToLinks, IsReading}
 use Rattle.value_links.specs.LinkFaults.{FaultInUnit}
 use Rattle.value_links.specs.Faults.{InfoFault, FaultTables}
-use Rattle.value_links.specs.Laws.{AreBuilt, AreLinked, HasNoUnread}
+use Rattle.value_links.specs.Laws.{AreBuilt, AreLinked}
 use Rattle.value_links.specs.Debug.{Debug, MeansDebug}
-use Rattle.value_links.specs.World.{head_and_forest, AreTablesOf}
+use Rattle.value_links.specs.World.{head_and_forest, AreTablesOf, HaveOperations}
 
 -- These are units, with the tables that they name.
 pub record HoldUnits (read : List UnitRead) (held : Units) : Type 0 where
@@ -62,6 +63,7 @@ pub record HoldsLists (parts : Parts) : Type 0 where
   pub bases : length parts.bases.items ≡ length parts.units.units.items
   pub inside : All (λ (base : Option ℕ). IfSome base (λ p. p < length parts.ranges.parts.items)) parts.bases.items
   pub contexts : length parts.contexts.items ≡ length parts.units.units.items
+  pub operations : length parts.operations.items ≡ length parts.units.units.items
   pub stand : All (λ (context : Context). HasTable parts.addr.now context.table) parts.contexts.items
 
 -- These parts are what is read of the file, and numbers of 32 bits name the programs and the contributions.
@@ -75,13 +77,13 @@ pub record HoldsParts (file : List ℕ) (r : Linkable) (parts : Parts) : Type 0 
   pub ranges : section_held parts.ranges ≡ r.ranges
   pub few_ranges : length parts.ranges.parts.items < 2 ^ 32
   pub bases : HaveBases r Ranges parts.bases.items
+  pub operations : HaveOperations Wide parts.units.units.items parts.operations.items
   pub few : length parts.programs.items < 2 ^ 32
 
--- something in a unit refers to what isn't there, or isn't read yet
+-- something in a unit refers to what isn't there, or an expression isn't one
 abbrev pub LinkFault : Linkable → Reach → Kind → ℕ → Type 0
 LinkFault r reach kind place = (u : ℕ) × (u < length r.units) × FaultInUnit r reach u kind place
 
--- A file of which all is read and told, and all values are linked, means something, and none of its values waits for a later version
--- of this program.
+-- A file of which all is read and told, and all values are linked, means something.
 abbrev pub LinkedFilesMean : Type 0
-LinkedFilesMean = (file : List ℕ) (r : Reading) → IsReading file r → AreTold r.links Ranges r.range_lists → AreLinked r.links → ((debug : Debug) × MeansDebug file r debug) × HasNoUnread r.links
+LinkedFilesMean = (file : List ℕ) (r : Reading) → IsReading file r → AreTold r.links Ranges r.range_lists → AreLinked r.links → (debug : Debug) × MeansDebug file r debug

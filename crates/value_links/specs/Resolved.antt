@@ -9,7 +9,8 @@ use Rattle.list_model.specs.Items.{Bounds, Give, Fits}
 use Rattle.value_links.specs.Reading.{ListRead, Linkable, Reading, lists_of, of_kind, context_at}
 use Rattle.value_links.specs.ListPlaces.{SlotNames}
 use Rattle.value_links.specs.Linked.{Linked, Links}
-use Rattle.value_links.specs.Linked.Linked.{Itself as LinkItself, Refers as LinkRefers, Program as LinkProgram, ListAt, SlotAt, BaseOf, Kept as LinkKept}
+use Rattle.value_links.specs.Linked.Linked.{Itself as LinkItself, Operates as LinkOperates, Refers as LinkRefers, Program as LinkProgram, ListAt, SlotAt, BaseOf, Kept as LinkKept}
+use Rattle.value_links.specs.Operations.{LinkedOperation}
 use Rattle.value_links.specs.Lists.{IsOwner, IsFrozen}
 
 -- LISTS
@@ -46,12 +47,13 @@ pub record MeansList (r : Reading) (kind : ListKind) (at : ℕ) (meaning : ListM
 
 -- VALUES
 
--- A resolved value: the value itself, an expression by its bytes; an entry, or the end of the children of an entry, in the unit
+-- A resolved value: the value itself; the operations of an expression, with what they name; an entry, or the end of the children of an entry, in the unit
 -- with a number; the number of a line number program; a list; an index and the list that it names; the number of a contribution to
 -- the section of lists of a kind; or a section offset that is kept as the number that it is. Units, entries, programs and
 -- contributions are numbered from 0 in their order.
 pub data Resolved : Type 0 where
   Itself : Meaning → Resolved
+  Operates : List LinkedOperation → Resolved
   Refers : ℕ → Target → Resolved
   Program : ℕ → Resolved
   AList : ListMeaning → Resolved
@@ -62,6 +64,7 @@ pub data Resolved : Type 0 where
 -- what a value means that refers to this
 abbrev pub ResolvesLink : Reading → Linked → Resolved → Type 0
 ResolvesLink r (LinkItself meaning) value = value ≡ Itself meaning
+ResolvesLink r (LinkOperates operations) value = value ≡ Operates operations
 ResolvesLink r (LinkRefers unit target) value = value ≡ Refers unit target
 ResolvesLink r (LinkProgram p) value = value ≡ Program p
 ResolvesLink r (ListAt kind at) value = (meaning : ListMeaning) × MeansList r kind at meaning × (value ≡ AList meaning)

@@ -1,6 +1,13 @@
 -- What .debug_abbrev, .debug_info and .debug_rnglists hold of a file that is written anew for another, and that they hold nothing else.
 use Rattle.std.specs.Prelude.{◌≡◌, ◌<◌, ℕ, List, [], ◌∷◌, length, map, slice_index}
 use Rattle.std.specs.List.{All}
+use Rattle.dw_base.specs.declared.fault.Reach.TheVariants.{Wide}
+use Rattle.dw_base.specs.declared.fault.Span.{Span}
+use Rattle.expr_ops.specs.declared.op.Op.{Op}
+use Rattle.expr_ops.specs.Expressions.{IsExpression}
+use Rattle.expr_ops.specs.Ops.{all_meant}
+use Rattle.expr_ops.specs.Plain.{IsWrittenPlain}
+use Rattle.form_codec.specs.Values.{bytes_in}
 use Rattle.leb_codec.specs.Numbering.{IsUsed, IsNumbering, used_count}
 use Rattle.abbrev_tables.specs.declared.decl.Spec.{Spec}
 use Rattle.abbrev_tables.specs.Tables.{Declared}
@@ -9,6 +16,7 @@ use Rattle.abbrev_tables.specs.Written.{ShortestTable}
 use Rattle.entry_arena.specs.Arena.{entry_at}
 use Rattle.entry_arena.specs.Trees.{declared_at, bytes_between, listed_to}
 use Rattle.entry_read.specs.Units.{end_of, declarations_of, IsUnit}
+use Rattle.entry_read.specs.Expressions.{IsExprAt}
 use Rattle.entry_read.specs.Short.{StandsShort, EndsShort}
 use Rattle.value_links.specs.declared.units.NamedTable.{NamedTable}
 use Rattle.value_links.specs.Sections.{debug_abbrev}
@@ -73,12 +81,28 @@ pub record IsTidyUnit (unit : UnitRead) : Type 0 where
   pub ends : All (EndsShort unit.forest.section) unit.forest.ends
   pub filled : IsUnit unit.forest.section unit.head (declarations unit) (listed_to unit.forest (end_of unit.head))
 
+-- EXPRESSIONS
+
+-- The expression that is a value of the old unit has its old operations in the written one, with new references. No number in it has
+-- a byte too many, but a reference to a base type has five bytes and a call four, so that their sizes don't depend on the numbers.
+pub record IsTidyExpr (r s : Linkable) (u number : ℕ) (old : Span) : Type 0 where
+  pub new : Span
+  pub stands : IsExprAt (unit_at s u).forest number new
+  pub refs : List ℕ
+  pub ops : List Op
+  pub spelled : IsExpression Wide (all_meant (bytes_in (unit_at r u).forest.section old) ops) (bytes_in (unit_at r u).forest.section old)
+  pub written : IsWrittenPlain refs (bytes_in (unit_at r u).forest.section old) ops (bytes_in (unit_at s u).forest.section new)
+
+abbrev pub AreTidyExpressions : Linkable → Linkable → Type 0
+AreTidyExpressions r s = (u number : ℕ) (old : Span) → u < length r.units → IsExprAt (unit_at r u).forest number old → IsTidyExpr r s u number old
+
 -- THE FILE
 
--- the tables, the units and the contributions of range lists of the written file hold nothing else
+-- the tables, the units, their expressions and the contributions of range lists of the written file hold nothing else
 pub record AreTidy (section : List ℕ) (r s : Reading) : Type 0 where
   pub tables : AreTidyTables r.links s.links section
   pub units : All IsTidyUnit s.links.units
+  pub expressions : AreTidyExpressions r.links s.links
   pub ranges : AreTidyLists Ranges r s
 
 abbrev pub IsTidy : List ℕ → List ℕ → Type 0

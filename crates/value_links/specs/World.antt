@@ -2,7 +2,9 @@
 use Rattle.std.specs.Prelude.{◌≡◌, ◌<◌, ℕ, List, [], length, map, slice_index, slice_index_or, Option, Some}
 use Rattle.dw_base.specs.declared.fault.Reach.{Reach}
 use Rattle.line_machine.specs.declared.head.Head.{Head}
+use Rattle.entry_arena.specs.Operations.{HeldOps, no_operations}
 use Rattle.entry_read.specs.Units.{HeadAndForest}
+use Rattle.entry_read.specs.Expressions.{HasOperations}
 use Rattle.list_model.specs.declared.context.Context.{Context}
 use Rattle.list_model.specs.declared.contribution.Contribution.{Contribution}
 use Rattle.list_model.specs.declared.entry.ListKind.{ListKind}
@@ -20,19 +22,29 @@ use Rattle.value_links.specs.Whole.{IsReading}
 use Rattle.value_links.specs.Debug.{Debug, MeansDebug}
 use Rattle.value_links.specs.Faults.{IsValid}
 
--- the bytes of the file, the headers of its line number programs, its units, the abbreviation tables that these name, of each unit
--- the number of its table and the context of its lists, the contributions of range lists, the range lists that something names, and
+-- the bytes of the file, the headers of its line number programs, its units, the operations of the expressions of each, the
+-- abbreviation tables that units name, of each unit the number of its table and the context of its lists, the contributions of range lists, the range lists that something names, and
 -- the sets of address ranges
 pub record World : Type 0 where
   pub image : List ℕ
   pub programs : List Head
   pub units : List HeadAndForest
+  pub operations : List HeldOps
   pub tables : List NamedTable
   pub table_of : List ℕ
   pub contexts : List Context
   pub contributions : List Contribution
   pub lists : List HeldList
   pub sets : List ArangeSet
+
+-- the operations of the unit with a number; past the end there is none, and none stand for them
+abbrev pub operations_at : List HeldOps → ℕ → HeldOps
+operations_at held u = slice_index_or held u no_operations
+
+-- of each unit the operations of its expressions
+pub record HaveOperations (reach : Reach) (units : List HeadAndForest) (held : List HeldOps) : Type 0 where
+  pub count : length held ≡ length units
+  pub each : (u : ℕ) (d : HeadAndForest) → u < length units → HasOperations reach (slice_index_or units u d).forest (operations_at held u)
 
 abbrev pub head_and_forest : UnitRead → HeadAndForest
 head_and_forest unit = record { head = unit.head; forest = unit.forest }
@@ -98,6 +110,7 @@ pub record IsWorldOf (file : List ℕ) (reach : Reach) (world : World) : Type 0 
   pub r : Reading
   pub read : IsReading file r
   pub holds : Holds file world r
+  pub operations : HaveOperations reach world.units world.operations
   pub debug : Debug
   pub means : MeansDebug file r debug
   pub valid : IsValid file reach

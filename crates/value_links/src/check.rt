@@ -1,30 +1,30 @@
 // What all values of a file refer to.
 ghost use Rattle.std.specs.Prelude.{◌≡◌, ◌≤◌, ◌<◌, ◌+◌, ◌^◌, ◌↔◌, ℕ, List, OnOk, IfErr, IsTrue, true, length};
-ghost use Rattle.std.specs.List.{list_any};
 ghost use Rattle.dw_base.specs.Refusals.{IsFaultOf};
 ghost use Rattle.dw_base.specs.declared.fault.Reach.{Reach};
+ghost use Rattle.dw_base.specs.declared.fault.Reach.TheVariants.{Wide};
+ghost use Rattle.value_links.specs.World.{HaveOperations};
 ghost use Rattle.form_codec.specs.Values.{meant_in, LiesIn};
 ghost use Rattle.abbrev_tables.specs.Listings.{Listing, spec_at};
 ghost use Rattle.entry_arena.specs.Arena.{entry_at, value_at};
 ghost use Rattle.entry_arena.specs.Order.{IsInOrder};
 ghost use Rattle.entry_arena.specs.Trees.{declared_at};
 ghost use Rattle.entry_read.specs.Units.{declarations_of, IsTable};
-ghost use Rattle.value_links.specs.Attributes.{is_among};
 ghost use Rattle.value_links.specs.Reading.{Linkable, unit_at};
-ghost use Rattle.value_links.specs.LinkFaults.{unread_opcodes, IsUnread, FaultAttribute};
 ghost use Rattle.value_links.specs.Links.{held_at};
-ghost use Rattle.value_links.specs.inside.Checks.{AreSomeUnits, table_held, name_at, IsUnitWithTable, root_attributes, IsAttributeAt, IsBaseIn, IsBaseFound, HasBase, IsBaseCause, IsCause, NamesType, IsTyped, IsChecked, AreColumnsLinked, IsUnitLinked, InEach, IsUnitFault};
+ghost use Rattle.value_links.specs.inside.Checks.{AreSomeUnits, table_held, name_at, IsUnitWithTable, root_attributes, IsAttributeAt, IsBaseIn, IsBaseFound, HasBase, IsBaseCause, IsCause, NamesType, IsTyped, IsChecked, IsNoExpr, IsColumnLinked, AreColumnsLinked, IsUnitLinked, InEach, IsUnitFault};
 ghost use Rattle.value_links.specs.Whole.{AreFirstBases};
 ghost use Rattle.value_links.specs.Laws.{AreLinked};
 ghost use Rattle.value_links.specs.Parts.{AreUnitsHeld, HoldsLists, HoldsParts, LinkFault};
 
 use crate::link::{local_target, resolve, unit_of};
+use crate::operations::check_expression;
 use crate::parts::Parts;
 use crate::roots::check_first_base;
 use crate::units::Units;
 use abbrev_tables::Table;
 use dw_base::{Fault, Kind, constants};
-use entry_arena::Target;
+use entry_arena::{Forest, Target};
 use entry_read::{Unit, place_of_value};
 use form_codec::Value;
 
@@ -49,45 +49,6 @@ pub(crate) fn column_name(table: &Table, number: u32, column: u32) -> u64
     ensures { result ≡ (spec_at (declared_at (declarations_of table.now) number).columns column).name }
 {
     table.columns(number)[column as usize].name
-}
-
-// Whether an opcode is that of an operation that names an entry, which isn't read yet.
-fn is_unread_opcode(byte: u8) -> bool
-    ensures { result ≡ is_among unread_opcodes byte }
-{
-    match byte {
-        constants::DW_OP_CALL2
-        | constants::DW_OP_CALL4
-        | constants::DW_OP_CALL_REF
-        | constants::DW_OP_IMPLICIT_POINTER
-        | constants::DW_OP_CONST_TYPE
-        | constants::DW_OP_REGVAL_TYPE
-        | constants::DW_OP_DEREF_TYPE
-        | constants::DW_OP_XDEREF_TYPE
-        | constants::DW_OP_CONVERT
-        | constants::DW_OP_REINTERPRET
-        | constants::DW_OP_GNU_PARAMETER_REF
-        | constants::DW_OP_GNU_VARIABLE_VALUE => true,
-        _ => false,
-    }
-}
-
-// Whether such a byte stands among these.
-fn has_unread_opcode(bytes: &[u8]) -> bool
-    ensures { result ≡ list_any (is_among unread_opcodes) bytes.now }
-{
-    bytes.iter().any(|byte| is_unread_opcode(*byte))
-}
-
-// Whether a value is an expression that isn't read yet.
-fn is_unread(unit: &Unit<'_>, value: &Value) -> bool
-    requires { LiesIn (length unit.now.forest.section) value.now }
-    ensures { IsTrue result ↔ IsUnread (meant_in unit.now.forest.section value.now) }
-{
-    match *value {
-        Value::Expr(span) => has_unread_opcode(unit.forest().bytes(span)),
-        _ => false,
-    }
 }
 
 // How many attributes the root of a unit has.
@@ -180,21 +141,58 @@ fn cause_of(unit: &Unit<'_>, table: &Table, value: &Value) -> Kind
     }
 }
 
-// The fault of a value of the unit with a number, as that of an attribute with a name.
+// The fault of a value of the unit with a number, as that of an attribute with a name. The value is no expression.
 fn fault_of(parts: &Parts<'_>, number: u32, name: u64, value: &Value) -> Option<Kind>
     requires lists { HoldsLists parts.now }
     requires held { AreSomeUnits parts.now.units }
     requires number { number < length parts.now.units.units.items }
-    requires lies { LiesIn (length (held_at parts.now.units.units.items number).forest.section) value.now }
+    requires plain { IsNoExpr value.now }
     ensures { (id : ℕ) → InEach parts.now (λ r. IsChecked r number id name (meant_in (unit_at r number).forest.section value.now) result) }
 {
     let unit = unit_of(&parts.units, number);
-    if is_unread(unit, value) {
-        return Some(Kind::Unbuilt);
-    }
     match resolve(parts, number, name, value) {
         Some(_) => None,
         None => Some(cause_of(unit, table_of(&parts.units, number), value)),
+    }
+}
+
+// The number of the value of a column of an entry, counted over the values of all entries.
+fn value_number(forest: &Forest<'_>, id: u32, column: u32) -> u32
+    requires id { id < length forest.now.entries }
+    requires inside { (entry_at forest.now.entries id).first + column < length forest.now.values }
+    ensures { result ≡ (entry_at forest.now.entries id).first + column }
+{
+    // Numbers of 32 bits name the values.
+    let _count = forest.value_count();
+    forest.entry(id).first + column
+}
+
+// Checks the value of a column of the entry with number `id` of a unit. The place of a fault counts from the section's first byte.
+fn check_column(parts: &Parts<'_>, number: u32, id: u32, column: u32) -> Result<(), Fault>
+    requires lists { HoldsLists parts.now }
+    requires held { AreSomeUnits parts.now.units }
+    requires number { number < length parts.now.units.units.items }
+    requires id { id < length (held_at parts.now.units.units.items number).forest.entries }
+    requires column { column < (entry_at (held_at parts.now.units.units.items number).forest.entries id).count }
+    requires room { length (held_at parts.now.units.units.items number).forest.section < 2 ^ 64 }
+    requires operations { HaveOperations Wide parts.now.units.units.items parts.now.operations.items }
+    ensures linked { OnOk result (InEach parts.now (λ r. IsColumnLinked r number id column)) }
+    ensures fault { IfErr result (λ fault. InEach parts.now (IsUnitFault number fault)) }
+    ensures inside { IfErr result (λ fault. fault.place ≤ length (held_at parts.now.units.units.items number).forest.section) }
+{
+    let unit = unit_of(&parts.units, number);
+    let table = table_of(&parts.units, number);
+    let (name, value) = attribute_of(unit, table, id, column);
+    if let Value::Expr(span) = value {
+        let own = value_number(unit.forest(), id, column);
+        return check_expression(parts, number, own, span);
+    }
+    match fault_of(parts, number, name, &value) {
+        Some(kind) => {
+            let place = place_of_value(unit, table, id, column);
+            Err(Fault { kind, place })
+        }
+        None => Ok(()),
     }
 }
 
@@ -204,18 +202,15 @@ fn check_entry(parts: &Parts<'_>, number: u32, id: u32) -> Result<(), Fault>
     requires held { AreSomeUnits parts.now.units }
     requires number { number < length parts.now.units.units.items }
     requires id { id < length (held_at parts.now.units.units.items number).forest.entries }
+    requires room { length (held_at parts.now.units.units.items number).forest.section < 2 ^ 64 }
+    requires operations { HaveOperations Wide parts.now.units.units.items parts.now.operations.items }
     ensures linked { OnOk result (InEach parts.now (λ r. AreColumnsLinked r number id (entry_at (held_at parts.now.units.units.items number).forest.entries id).count)) }
-    ensures fault { IfErr result (λ fault. InEach parts.now (λ r. FaultAttribute r number fault.kind fault.place)) }
+    ensures fault { IfErr result (λ fault. InEach parts.now (IsUnitFault number fault)) }
     ensures inside { IfErr result (λ fault. fault.place ≤ length (held_at parts.now.units.units.items number).forest.section) }
 {
-    let unit = unit_of(&parts.units, number);
-    let table = table_of(&parts.units, number);
-    for column in 0..unit.forest().entry(id).count {
-        let (name, value) = attribute_of(unit, table, id, column);
-        if let Some(kind) = fault_of(parts, number, name, &value) {
-            let place = place_of_value(unit, table, id, column);
-            return Err(Fault { kind, place });
-        }
+    let entry = unit_of(&parts.units, number).forest().entry(id);
+    for column in 0..entry.count {
+        check_column(parts, number, id, column)?;
     }
     Ok(())
 }
@@ -247,6 +242,7 @@ fn check_unit(parts: &Parts<'_>, number: u32) -> Result<(), Fault>
     requires held { AreSomeUnits parts.now.units }
     requires number { number < length parts.now.units.units.items }
     requires room { length (held_at parts.now.units.units.items number).forest.section < 2 ^ 64 }
+    requires operations { HaveOperations Wide parts.now.units.units.items parts.now.operations.items }
     ensures linked { OnOk result (InEach parts.now (λ r. IsUnitLinked r number)) }
     ensures fault { IfErr result (λ fault. InEach parts.now (IsUnitFault number fault)) }
     ensures inside { IfErr result (λ fault. fault.place ≤ length (held_at parts.now.units.units.items number).forest.section) }
@@ -265,17 +261,20 @@ fn check_unit(parts: &Parts<'_>, number: u32) -> Result<(), Fault>
 }
 
 /// Whether each value of the units refers to what it may (DWARF 5 sections 7.5.4 and 7.5.5), each type unit names an entry, and each
-/// first base of lists that is the number of an address is one of the unit's address table (sections 3.1.1 and 7.27).
+/// first base of lists that is the number of an address is one of the unit's address table (sections 3.1.1 and 7.27). So it is asked
+/// of each operation of an expression too (section 2.5).
 /// `info` is the body of .debug_info, of which the units were read by the tables of `abbrevs`, and `origin` its file offset.
 ///
 /// A fault stands at the first byte of a value: Target where a reference has no target, Pointer where a section offset names
-/// nothing that its attribute's class allows, or an index counts from such a base, NoBase where an index has no base, and
-/// Unbuilt where an expression isn't read yet; at the DW_AT_low_pc that gives such a number NoBase where the root names no table, and
-/// Pointer where the table has no such address. Target stands at the field type_offset that names no entry.
+/// nothing that its attribute's class allows, an index counts from such a base, or it is past the slots of its base, and NoBase where
+/// an index has no base; at the DW_AT_low_pc that gives such a number NoBase where the root names no table, and Pointer where the
+/// table has no such address. Target stands at the field type_offset that names no entry, and at the reference of an operation that
+/// names no entry that it may.
 pub fn check_links(parts: &Parts<'_>, info: &[u8], abbrevs: &[u8], origin: u64) -> Result<(), Fault>
     requires lists { HoldsLists parts.now }
     requires held { AreUnitsHeld info.now abbrevs.now parts.now.units }
     requires room { origin + length info.now < 2 ^ 64 }
+    requires operations { HaveOperations Wide parts.now.units.units.items parts.now.operations.items }
     ensures linked { OnOk result ((file : List ℕ) (r : Linkable) → HoldsParts file r parts.now → AreLinked r) }
     ensures based { OnOk result ((file : List ℕ) (r : Linkable) → HoldsParts file r parts.now → AreFirstBases r) }
     ensures fault { IfErr result (λ fault. (file : List ℕ) (r : Linkable) (reach : Reach) → HoldsParts file r parts.now → IsFaultOf (LinkFault r reach) origin fault) }

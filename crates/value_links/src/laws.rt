@@ -1,7 +1,7 @@
 // Laws of the definitions.
 ghost use Rattle.value_links.specs.Sections.{FindsSections};
 ghost use Rattle.value_links.specs.Parts.{LinkedFilesMean};
-ghost use Rattle.value_links.specs.Laws.{OneLinkable, OneReading, OneLinked, OneLinkedValue, OneLink, OneMeaning, LinkedMean, OneDebug, LinkedHaveNoFault, LinkedOrFaulty, FirstFaultsDecide, MeaningFilesAreValid, ValidFilesMean};
+ghost use Rattle.value_links.specs.Laws.{OneLinkable, OneReading, OneLinked, OneLinkedValue, OneLink, OneMeaning, LinkedMean, OneDebug, LinkedHaveNoFault, LinkedExpressionsHaveNoFault, LinkedOrFaulty, FirstFaultsDecide, MeaningFilesAreValid, ValidFilesMean};
 
 /// A law: the section of a name is found exactly where one has it, and is the first that does.
 pub fn sections_found()
@@ -38,11 +38,12 @@ pub fn one_debug()
     ensures { OneDebug }
 {}
 
-/// Laws: the value of an attribute is linked or has a fault, and never both, but that it may be an expression that isn't
-/// rewritten yet.
+/// Laws: the value of an attribute is linked or has a fault, and never both. So is an expression within the limits, whose operations
+/// name what they may.
 pub fn linked_whole()
     ensures some { LinkedOrFaulty }
     ensures whole { LinkedHaveNoFault }
+    ensures expressions { LinkedExpressionsHaveNoFault }
 {}
 
 /// A law: a fault of a pass is one of the file, where the passes before it find all in order.
@@ -51,7 +52,7 @@ pub fn first_faults_decide()
 {}
 
 /// Laws: a valid file that is read means something. And a file that is in order, of which all is read, that means something
-/// and has no expression that isn't rewritten yet is valid. So no fault stands beside a meaning, and none is missing where
+/// and keeps the limits is valid. So no fault stands beside a meaning, and none is missing where
 /// there is no meaning.
 pub fn valid_files()
     ensures mean { ValidFilesMean }
@@ -59,7 +60,7 @@ pub fn valid_files()
 {}
 
 /// A law: a file of which all is read, each of whose values refers to what it may and each of whose type units names an entry,
-/// means something, and none of its values waits for a later version of this program.
+/// means something.
 pub fn linked_files_mean()
     ensures { LinkedFilesMean }
 {}

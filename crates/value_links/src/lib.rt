@@ -14,6 +14,7 @@ mod list_bases;
 mod list_places;
 mod lists;
 mod namings;
+mod operations;
 mod owners;
 mod parts;
 mod roots;
@@ -34,6 +35,7 @@ pub use laws::{
 pub use link::{Link, resolve};
 pub use list_places::Contributions;
 pub use lists::{ListRead, read_lists};
+pub use operations::{OpLink, resolve_op};
 pub use parts::Parts;
 pub use units::{NamedTable, Units, read_units};
 pub use world::World;

@@ -8,6 +8,7 @@ ghost use Rattle.value_links.specs.Attributes.OffsetClass.{LinePtr, RngList, Rng
 ghost use Rattle.value_links.specs.Linked.{OffsetLinks, IndexLinks};
 ghost use Rattle.value_links.specs.Links.{held_at, IsFoundFor, IsLinkFound};
 ghost use Rattle.value_links.specs.inside.Links.{program_among, IsLastFrom, IsTargetFound, IsSectionTargetFound, AreProgramsApart, AreUnitsApart};
+ghost use Rattle.value_links.specs.inside.Checks.{IsNoExpr};
 ghost use Rattle.value_links.specs.inside.ListPlaces.{AreContributions};
 ghost use Rattle.list_model.specs.declared.entry.ListKind.TheVariants.{Ranges};
 ghost use Rattle.std.specs.List.{All};
@@ -85,7 +86,7 @@ fn last_from(units: &[Unit<'_>], place: u64) -> Option<usize>
 }
 
 // What a reference that counts from the first byte of .debug_info refers to.
-fn section_target(units: &[Unit<'_>], place: u64) -> Option<Link>
+pub(crate) fn section_target(units: &[Unit<'_>], place: u64) -> Option<Link>
     ensures { AreUnitsApart units.now → IsSectionTargetFound units.now place result }
 {
     let number = last_from(units, place)?;
@@ -172,10 +173,11 @@ fn range_slot(parts: &Parts<'_>, unit: u32, index: u64) -> Option<Link>
 
 /// What a value refers to that stands in the unit with this number, counted from 0, as the value of an attribute of this name
 /// (DWARF 5 sections 7.5.4 and 7.5.5), or None exactly where it names nothing that it may name. An index of a range list refers to
-/// its slot, whatever the slot tells. It takes no memory.
+/// its slot, whatever the slot tells. The value is no expression: the operations of one name things themselves. It takes no memory.
 pub fn resolve(parts: &Parts<'_>, unit: u32, name: u64, value: &Value) -> Option<Link>
     requires unit { unit < length parts.now.units.units.items }
     requires lists { HoldsLists parts.now }
+    requires plain { IsNoExpr value.now }
     ensures { (file : List ℕ) (r : Linkable) (id : ℕ) → HoldsParts file r parts.now → IsLinkFound r unit id name (meant_in (unit_at r unit).forest.section value.now) result }
 {
     match *value {

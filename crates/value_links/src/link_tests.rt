@@ -1,14 +1,21 @@
 // What values refer to, by hand, and values that refer to nothing.
-ghost use Rattle.std.specs.Prelude.{◌<◌, ◌^◌, length, IfOk};
+ghost use Rattle.std.specs.Prelude.{◌≡◌, ◌<◌, ◌^◌, length, IfOk};
+ghost use Rattle.dw_base.specs.declared.fault.Reach.TheVariants.{Wide};
 ghost use Rattle.value_links.specs.declared.link_tests.TheConstants.{TABLE};
 ghost use Rattle.value_links.specs.Parts.{AreUnitsHeld, HoldsLists};
+ghost use Rattle.value_links.specs.World.{HaveOperations};
+ghost use Rattle.value_links.specs.inside.Checks.{IsNoExpr};
 ghost use Rattle.value_links.specs.inside.ListPlaces.{AreContributions};
 
 use crate::contexts::contexts_of;
 use crate::list_bases::bases_of;
-use crate::{Contributions, Link, Parts, check_links, read_units, resolve};
-use dw_base::{Fault, Kind, Span};
-use entry_arena::Target;
+use crate::operations::read_operations;
+use crate::{
+    Contributions, Link, OpLink, Parts, Units, check_links, read_units, resolve, resolve_op,
+};
+use dw_base::{Fault, Kind, Reach, Span};
+use entry_arena::{Operations, Target};
+use expr_ops::Op;
 use form_codec::{Value, Whole};
 use line_machine::Head;
 use list_model::{ListKind, addr_tables, contributions};
@@ -83,11 +90,25 @@ fn ranges(alloc: Global) -> Result<Contributions<'static>, Fail>
     })
 }
 
+// The operations of the expressions of units.
+fn operations_of(alloc: Global, units: &Units<'_>, info: &[u8]) -> Result<Vec<Operations>, Fail>
+    requires held { AreUnitsHeld info.now TABLE units.now }
+    requires room { length info.now < 2 ^ 32 }
+    ensures count { IfOk result (λ held. length held.items ≡ length units.now.units.items) }
+    ensures each { IfOk result (λ held. HaveOperations Wide units.now.units.items held.items) }
+{
+    match read_operations(alloc, units, info, ORIGIN, Reach::Wide) {
+        Ok(held) => Ok(held),
+        Err(_) => Err("no expression")?,
+    }
+}
+
 // The parts of a file with these bytes of .debug_info.
 fn read<'a>(alloc: Global, info: &'a [u8]) -> Result<Parts<'a>, Fail>
     requires { length info.now < 2 ^ 32 }
     ensures lists { IfOk result HoldsLists }
     ensures units { IfOk result (λ parts. AreUnitsHeld info.entry.now TABLE parts.units) }
+    ensures operations { IfOk result (λ parts. HaveOperations Wide parts.units.units.items parts.operations.items) }
 {
     let units = read_units(alloc, info, &TABLE, ORIGIN, 1000)
         .ok()
@@ -101,6 +122,7 @@ fn read<'a>(alloc: Global, info: &'a [u8]) -> Result<Parts<'a>, Fail>
         .ok_or("no memory")?;
     let ranges = ranges(alloc)?;
     let bases = bases_of(alloc, &ranges, &units).ok().ok_or("no memory")?;
+    let operations = operations_of(alloc, &units, info)?;
     Ok(Parts {
         programs: programs(alloc)?,
         units,
@@ -108,6 +130,7 @@ fn read<'a>(alloc: Global, info: &'a [u8]) -> Result<Parts<'a>, Fail>
         addr: &ADDRESSES,
         tables,
         ranges,
+        operations,
         bases,
     })
 }
@@ -132,14 +155,39 @@ fn base(part: u32) -> Link {
     Link::Base(ListKind::Ranges, part)
 }
 
-// What a value of the unit with a number refers to, where there is such a unit.
+// What a value of the unit with a number refers to, where there is such a unit. No value is an expression.
 fn link_of(parts: &Parts<'_>, unit: u32, name: u64, value: &Value) -> Result<Option<Link>, Fail>
     requires { HoldsLists parts.now }
 {
+    if let Value::Expr(_) = *value {
+        Err("an expression")?;
+    }
     if (unit as usize) < parts.units.units.len() {
         Ok(resolve(parts, unit, name, value))
     } else {
         Err("fewer units")?
+    }
+}
+
+// What an operation of the unit with a number names, where there is such a unit.
+fn op_link_of(parts: &Parts<'_>, unit: u32, op: &Op) -> Result<Option<OpLink>, Fail> {
+    if (unit as usize) < parts.units.units.len() {
+        Ok(resolve_op(parts, unit, op))
+    } else {
+        Err("fewer units")?
+    }
+}
+
+// An operation with a reference, which stands in no expression.
+fn op(code: u8, a: u64) -> Op {
+    Op {
+        at: 0,
+        code,
+        a,
+        s: 0,
+        jump: 0,
+        bytes: Span { at: 0, len: 0 },
+        inner: 0,
     }
 }
 
@@ -197,6 +245,42 @@ fn links_to_lists(rt: HostRuntime) -> Result<(), Fail> {
     Ok(())
 }
 
+// The unit, the opcode and the reference of an operation, and what it names.
+#[test]
+fn links_of_operations(rt: HostRuntime) -> Result<(), Fail> {
+    let alloc = rt.alloc();
+    let parts = read(alloc, &UNITS)?;
+    let rows = [
+        // DW_OP_lit0 has no reference
+        (0, 0x30, 12, Some(OpLink::Plain)),
+        // DW_OP_call4: entries of the unit, the code 0 that ends its children, and a place of its header
+        (0, 0x99, 12, Some(OpLink::Entry(0, 0))),
+        (1, 0x99, 13, Some(OpLink::Entry(1, 1))),
+        (0, 0x99, 18, None),
+        (0, 0x99, 31, None),
+        (0, 0x99, 0, None),
+        // DW_OP_convert, DW_OP_reinterpret and DW_OP_const_type: only the first two name the generic type
+        (0, 0xa8, 0, Some(OpLink::Generic)),
+        (1, 0xa9, 0, Some(OpLink::Generic)),
+        (0, 0xa4, 0, None),
+        (1, 0xa8, 12, Some(OpLink::Entry(1, 0))),
+        (0, 0xa8, 14, None),
+        // DW_OP_call_ref, DW_OP_implicit_pointer and DW_OP_GNU_variable_value: entries of all units
+        (0, 0x9a, 50, Some(OpLink::Entry(2, 0))),
+        (0, 0xa0, 32, Some(OpLink::Entry(1, 1))),
+        (1, 0xa0, 37, None),
+        (1, 0xa0, 19, None),
+        (2, 0xfd, 13, Some(OpLink::Entry(0, 1))),
+        // DW_OP_GNU_parameter_ref
+        (0, 0xfa, 13, Some(OpLink::Entry(0, 1))),
+        (2, 0xfa, 13, None),
+    ];
+    for (unit, code, a, link) in rows.iter() {
+        assert_eq!(rt; op_link_of(&parts, *unit, &op(*code, *a))?, *link);
+    }
+    Ok(())
+}
+
 // The fault of the values of units, or none.
 fn fault_of(alloc: Global, info: &[u8]) -> Result<Option<Fault>, Fail>
     requires { length info.now < 2 ^ 32 }
@@ -241,9 +325,11 @@ fn linked_units(rt: HostRuntime) -> Result<(), Fail> {
     assert_eq!(rt; fault_of(alloc, &UNITS)?, None);
     // the type is the root
     assert_eq!(rt; fault_of(alloc, &type_unit(24))?, None);
-    let rows: [&[u8]; 4] = [
-        // DW_OP_lit0
+    let rows: [&[u8]; 6] = [
+        // DW_OP_lit0; DW_OP_convert to the generic type; and DW_OP_call4, which names the entry itself
         &[1, 4, 1, 0x30, 0],
+        &[1, 4, 2, 0xa8, 0, 0],
+        &[1, 4, 5, 0x99, 13, 0, 0, 0, 0],
         // the second program
         &[7, 30, 0, 0, 0],
         // the address with the number 0 as the first base
@@ -261,13 +347,16 @@ fn linked_units(rt: HostRuntime) -> Result<(), Fail> {
 #[test]
 fn faulty_links(rt: HostRuntime) -> Result<(), Fail> {
     let alloc = rt.alloc();
-    let rows: [(&[u8], Fault); 6] = [
+    let rows: [(&[u8], Fault); 8] = [
         // a reference to the byte behind the entry's code
         (&[1, 2, 14, 0, 0, 0, 0], fault(Kind::Target, 14)),
         // a reference to the header of a unit
         (&[1, 3, 0, 0, 0, 0, 0], fault(Kind::Target, 14)),
-        // DW_OP_convert
-        (&[1, 4, 1, 0xa8, 0], fault(Kind::Unbuilt, 14)),
+        // DW_OP_convert to no entry; DW_OP_lit0, and DW_OP_const_type to the generic type; and DW_OP_regval_type, whose register has
+        // two bytes, to the code 0 that ends the children of the root
+        (&[1, 4, 2, 0xa8, 14, 0], fault(Kind::Target, 16)),
+        (&[1, 4, 4, 0x30, 0xa4, 0, 0, 0], fault(Kind::Target, 17)),
+        (&[1, 4, 4, 0xa5, 0x80, 1, 19, 0], fault(Kind::Target, 18)),
         // the number of a location list whose root gives no base, and a base itself
         (&[1, 5, 0, 0], fault(Kind::NoBase, 14)),
         (&[6, 12, 0, 0, 0, 5, 0, 0], fault(Kind::Pointer, 13)),

@@ -1,6 +1,7 @@
 // What is read of a file before its values are looked up.
 use crate::list_places::Contributions;
 use crate::units::Units;
+use entry_arena::Operations;
 use line_machine::Head;
 use list_model::{AddrTable, Context};
 
@@ -19,6 +20,8 @@ pub struct Parts<'a> {
     pub tables: Vec<AddrTable>,
     /// The section of range lists.
     pub ranges: Contributions<'a>,
+    /// Of each unit the operations of its expressions.
+    pub operations: Vec<Operations>,
     /// Of each unit the number of the contribution that its root names for the indexes of range lists.
     pub bases: Vec<Option<u32>>,
 }

@@ -24,11 +24,12 @@ ghost use Rattle.value_links.specs.Faults.{NamesFault};
 ghost use Rattle.value_links.specs.Laws.{IsImageInOrder};
 ghost use Rattle.value_links.specs.declared.link.Link.{Link as AnyLink};
 ghost use Rattle.value_links.specs.declared.lists.ListRead.{ListRead as AnyList};
-ghost use Rattle.value_links.specs.Links.{held_at, HasLink, IsLinkFound, IsFollowed};
+ghost use Rattle.value_links.specs.Links.{held_at, HasLink, IsLinkFound, IsFollowed, IsOpLinkFound};
 ghost use Rattle.value_links.specs.Parts.{HoldsParts};
 ghost use Rattle.value_links.specs.inside.ListPlaces.{AreContributions};
 ghost use Rattle.value_links.specs.inside.Passes.{starts_of, ArePartsRead, ArePartsInOrder, NamesLaterFault};
-ghost use Rattle.value_links.specs.World.{World, HoldLists, Holds, contributions_held, lists_held, table_at, IsWorldOf};
+ghost use Rattle.value_links.specs.World.{World, HoldLists, Holds, contributions_held, lists_held, table_at, IsWorldOf, HaveOperations};
+ghost use Rattle.value_links.specs.inside.Checks.{IsNoExpr};
 ghost use Rattle.value_links.specs.inside.World.{own_table, AreListsApart};
 
 use crate::check::check_links;
@@ -37,6 +38,7 @@ use crate::link::{Link, resolve};
 use crate::list_bases::bases_of;
 use crate::list_places::{Contributions, told_by};
 use crate::lists::{ListRead, read_lists};
+use crate::operations::{OpLink, read_operations, resolve_op};
 use crate::owners::{attribute_name, owner_of};
 use crate::parts::Parts;
 use crate::roots::names_addresses;
@@ -46,8 +48,9 @@ use abbrev_tables::Table;
 use companions::{ArangeSet, read_aranges};
 use dw_base::{Fault, Kind, NoMemory, Reach, Refusal};
 use elf_sections::Image;
-use entry_arena::Forest;
+use entry_arena::{Forest, Operations};
 use entry_read::Unit;
+use expr_ops::{Op, narrow_is_wide};
 use form_codec::Value;
 use line_machine::Head;
 use line_write::read_lines;
@@ -125,13 +128,15 @@ fn read_ranges_section<'a>(
     })
 }
 
-// What the values of a file refer to. `programs` are its line number programs, and `tables` its address tables.
+// What the values of a file refer to. `programs` are its line number programs, and `tables` its address tables. Expressions come last,
+// since their faults are those of a later pass.
 fn read_parts<'a>(
     alloc: Global,
     file: &'a [u8],
     image: &Image<'a>,
     programs: Vec<Head>,
     tables: Vec<AddrTable>,
+    reach: Reach,
 ) -> Result<Parts<'a>, Refusal>
     requires image { image.now ≡ file.now }
     requires read { IsRead file.now Wide }
@@ -139,7 +144,8 @@ fn read_parts<'a>(
     requires tables { AreAllTables (debug_addr file.now) tables.items }
     ensures parts { IfOk result (λ parts. ArePartsRead file.entry.now parts) }
     ensures tables { IfOk result (λ parts. parts.tables.items ≡ tables.items) }
-    ensures refused { IfErr result (λ refusal. (reach : Reach) → NamesLaterFault file.entry.now reach refusal) }
+    ensures operations { IfOk result (λ parts. HaveOperations reach parts.units.units.items parts.operations.items) }
+    ensures refused { IfErr result (λ refusal. NamesLaterFault file.entry.now reach refusal) }
 {
     let info = debug_section(file, image, b".debug_info".as_slice());
     let abbrev = debug_section(file, image, b".debug_abbrev".as_slice());
@@ -148,6 +154,9 @@ fn read_parts<'a>(
     let ranges = read_ranges_section(alloc, file, image)?;
     let contexts = contexts_of(alloc, addr.bytes, &tables, &units)?;
     let bases = bases_of(alloc, &ranges, &units)?;
+    // What keeps the narrow limits keeps the wide ones.
+    narrow_is_wide();
+    let operations = read_operations(alloc, &units, info.bytes, info.origin, reach)?;
     Ok(Parts {
         programs,
         units,
@@ -155,6 +164,7 @@ fn read_parts<'a>(
         addr: addr.bytes,
         tables,
         ranges,
+        operations,
         bases,
     })
 }
@@ -221,6 +231,7 @@ fn read_named_lists<'a>(
     requires image { image.now ≡ file.now }
     requires read { IsRead file.now Wide }
     requires parts { (reach : Reach) × IsImageInOrder file.now reach × ArePartsInOrder file.now parts.now }
+    requires operations { HaveOperations reach parts.now.units.units.items parts.now.operations.items }
     requires sets { SetsTile (debug_aranges file.now) (starts_of parts.now.units.units.items) sets.now.items }
     ensures lists { IfOk result (λ lists. (r : Linkable) → HoldsParts file.now r parts.now → (read : List AnyRead) × AreListsOf r Ranges read × HoldLists r Ranges read lists.items × (entry_total read ≤ most_entries reach)) }
     ensures refused { IfErr result (λ refusal. NamesLaterFault file.now reach refusal) }
@@ -233,9 +244,9 @@ fn read_named_lists<'a>(
     read_lists(alloc, parts, info.bytes, abbrev.bytes, ranges.origin, reach)
 }
 
-/// A valid file with what is read of it: its image, the headers of its line number programs, its units with the abbreviation
-/// tables that they name and the contexts of their lists, its range lists, and its sets of address ranges. It borrows the bytes of
-/// the file.
+/// A valid file with what is read of it: its image, the headers of its line number programs, its units with the operations of their
+/// expressions, the abbreviation tables that they name and the contexts of their lists, its range lists, and its sets of address
+/// ranges. It borrows the bytes of the file.
 #[derive(Drop)]
 pub struct World<'a> {
     image: Image<'a>,
@@ -250,9 +261,9 @@ impl<'a> Model for World<'a> {
 
     ghost Value = { World };
 
-    ghost view = { λ w. record { image = w.image; programs = w.parts.programs.items; units = w.parts.units.units.items; tables = w.parts.units.tables.items; table_of = w.parts.units.table_of.items; contexts = w.parts.contexts.items; contributions = w.parts.ranges.parts.items; lists = w.lists.items; sets = w.sets.items } };
+    ghost view = { λ w. record { image = w.image; programs = w.parts.programs.items; units = w.parts.units.units.items; operations = w.parts.operations.items; tables = w.parts.units.tables.items; table_of = w.parts.units.table_of.items; contexts = w.parts.contexts.items; contributions = w.parts.ranges.parts.items; lists = w.lists.items; sets = w.sets.items } };
 
-    ghost invariant = { λ w. IsHeldIn w.image w.parts (record { image = w.image; programs = w.parts.programs.items; units = w.parts.units.units.items; tables = w.parts.units.tables.items; table_of = w.parts.units.table_of.items; contexts = w.parts.contexts.items; contributions = w.parts.ranges.parts.items; lists = w.lists.items; sets = w.sets.items }) };
+    ghost invariant = { λ w. IsHeldIn w.image w.parts (record { image = w.image; programs = w.parts.programs.items; units = w.parts.units.units.items; operations = w.parts.operations.items; tables = w.parts.units.tables.items; table_of = w.parts.units.table_of.items; contexts = w.parts.contexts.items; contributions = w.parts.ranges.parts.items; lists = w.lists.items; sets = w.sets.items }) };
 }
 
 impl<'a> World<'a> {
@@ -267,7 +278,7 @@ impl<'a> World<'a> {
         let image = read_image(alloc, file, reach)?;
         let programs = read_programs(alloc, file, &image)?;
         let AddrTables { tables, fault } = read_addresses(alloc, file, &image)?;
-        let parts = read_parts(alloc, file, &image, programs, tables)?;
+        let parts = read_parts(alloc, file, &image, programs, tables, reach)?;
         check_parts(file, &image, &parts, fault)?;
         let sets = read_sets(alloc, file, &image, &parts)?;
         let lists = read_named_lists(alloc, file, &image, &parts, &sets, reach)?;
@@ -305,6 +316,13 @@ impl<'a> World<'a> {
         ensures { result.now.items ≡ self.now.units }
     {
         &self.parts.units.units
+    }
+
+    /// Of each unit the operations of its expressions, by the numbers of their values (DWARF 5 sections 2.5 and 7.5.5).
+    pub fn operations(&self) -> &Vec<Operations>
+        ensures { result.now.items ≡ self.now.operations }
+    {
+        &self.parts.operations
     }
 
     /// The abbreviation tables that units name, each once, by rising place.
@@ -381,12 +399,23 @@ impl<'a> World<'a> {
 
     /// What a value refers to that stands in the unit with this number, counted from 0, as the value of an attribute of this
     /// name (DWARF 5 sections 7.5.4 and 7.5.5), or None exactly where it names nothing that it may name. An index of a list refers
-    /// to its slot; `link` says which list the slot names. It takes no memory.
+    /// to its slot; `link` says which list the slot names. The value is no expression, whose operations name things themselves
+    /// (`resolve_op`). It takes no memory.
     pub fn resolve(&self, unit: u32, name: u64, value: &Value) -> Option<Link>
-        requires { unit < length self.now.units }
+        requires unit { unit < length self.now.units }
+        requires plain { IsNoExpr value.now }
         ensures { (file : List ℕ) (r : Reading) (id : ℕ) → Holds file self.now r → IsLinkFound r.links unit id name (meant_in (unit_at r.links unit).forest.section value.now) result }
     {
         resolve(&self.parts, unit, name, value)
+    }
+
+    /// What an operation names that stands in an expression of the unit with this number, counted from 0 (DWARF 5 sections 2.5.1.1,
+    /// 2.5.1.3, 2.5.1.5 and 2.6.1.1), or None exactly where it names nothing that it may. It takes no memory.
+    pub fn resolve_op(&self, unit: u32, op: &Op) -> Option<OpLink>
+        requires { unit < length self.now.units }
+        ensures { (file : List ℕ) (r : Reading) → Holds file self.now r → IsOpLinkFound r.links unit op.now result }
+    {
+        resolve_op(&self.parts, unit, op)
     }
 
     // The entries of the unit with a number, each of whose values is one of an entry. What is held is of a valid file.
@@ -416,17 +445,21 @@ impl<'a> World<'a> {
 
     /// What the value with a number refers to, counted from 0 over the values of all entries of the unit with a number, which is
     /// counted from 0 too (DWARF 5 sections 7.5.4 and 7.5.5). Each value of a valid file means something, so that there is no
-    /// error. An index of a list refers to the list that its slot names. The entry that has the value is searched for. It takes no
-    /// memory.
+    /// error. An index of a list refers to the list that its slot names. An expression has no link but those of its operations
+    /// (`resolve_op`). The entry that has the value is searched for. It takes no memory.
     pub fn link(&self, unit: u32, value: u32) -> Link
         requires unit { unit < length self.now.units }
         requires value { value < length (held_at self.now.units unit).forest.values }
         ensures { (file : List ℕ) (r : Reading) → Holds file self.now r → HasLink r.links unit value result }
     {
         let forest = self.entries_of(unit);
+        let held = forest.value(value);
+        if let Value::Expr(_) = held {
+            return Link::Plain;
+        }
         let id = owner_of(forest, value);
         let name = attribute_name(forest, self.table(unit), id, value);
-        match self.resolve(unit, name, &forest.value(value)) {
+        match self.resolve(unit, name, &held) {
             Some(link) => self.followed(link),
             // Each value means something.
             None => unreachable!(),

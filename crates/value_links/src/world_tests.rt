@@ -3,7 +3,7 @@ ghost use Rattle.std.specs.Prelude.{◌<◌, length};
 ghost use Rattle.list_model.specs.declared.entry.ListKind.TheVariants.{Ranges};
 ghost use Rattle.value_links.specs.World.{lists_held};
 
-use crate::{Link, World};
+use crate::{Link, OpLink, World};
 use dw_base::{Fault, Kind, Reach, Refusal};
 use entry_arena::Target;
 use form_codec::Value;
@@ -150,6 +150,102 @@ fn links_by_number(rt: HostRuntime) -> Result<(), Fail> {
         } else {
             Err("fewer values")?;
         }
+    }
+    Ok(())
+}
+
+// Abbreviations behind the file: 1 is a root with children, 2 has DW_AT_location in the form exprloc, and 3 is a base type.
+const EXPR_TABLE: [u8; 18] = [
+    1, 0x11, 1, 0, 0, 2, 0x34, 0, 2, 0x18, 0, 0, 3, 0x24, 0, 0, 0, 0,
+];
+
+// A unit behind them. Its root stands at 12, the base type at 13, and a variable at 14, whose expression begins at 16: DW_OP_call4,
+// DW_OP_convert to the base type and to the generic type, DW_OP_implicit_pointer and DW_OP_GNU_parameter_ref.
+const EXPR_UNIT: [u8; 37] = [
+    0x21, 0, 0, 0, 5, 0, 1, 8, 0, 0, 0, 0, 1, 3, 2, 20, 0x99, 14, 0, 0, 0, 0xa8, 13, 0xa8, 0, 0xa0,
+    13, 0, 0, 0, 0, 0xfa, 13, 0, 0, 0, 0,
+];
+
+// Where the unit stands in the file with these.
+const EXPR_UNIT_AT: usize = 658;
+
+// The file with these, where its headers have their places and sizes, and with other bytes at some places.
+fn with_expression(alloc: Global, changes: &[(usize, u8)]) -> Result<Vec<u8>, AllocError> {
+    let places = [
+        (344, 0x80),
+        (345, 2),
+        (352, 18),
+        (408, 0x92),
+        (409, 2),
+        (416, 37),
+    ];
+    let mut file = extended(alloc, &places, &[&EXPR_TABLE, &EXPR_UNIT])?;
+    for (at, byte) in changes {
+        for old in file.iter_mut().skip(*at).take(1) {
+            *old = *byte;
+        }
+    }
+    Ok(file)
+}
+
+// Of each operation of the expression its place, its opcode, its reference, and what it names.
+#[test]
+fn operations_are_held(rt: HostRuntime) -> Result<(), Fail> {
+    let alloc = rt.alloc();
+    let file = with_expression(alloc, &[])?;
+    let world = World::read(alloc, &file, Reach::Narrow)
+        .ok()
+        .ok_or("refused")?;
+    let rows = [
+        (0, 0x99, 14, Some(OpLink::Entry(0, 2))),
+        (5, 0xa8, 13, Some(OpLink::Entry(0, 1))),
+        (7, 0xa8, 0, Some(OpLink::Generic)),
+        (9, 0xa0, 13, Some(OpLink::Entry(0, 1))),
+        (15, 0xfa, 13, Some(OpLink::Entry(0, 1))),
+    ];
+    if world.units().len() == 1 && world.units()[0].forest().value_count() == 1 {
+        assert!(rt; world.link(0, 0) == Link::Plain);
+        for operations in world.operations().iter() {
+            let ops = operations.of_value(0);
+            assert_eq!(rt; ops.len(), rows.len());
+            for (op, row) in ops.iter().zip(rows.iter()) {
+                assert_eq!(rt; (op.at, op.code, op.a, world.resolve_op(0, op)), *row);
+            }
+        }
+    } else {
+        Err("another count of values")?;
+    }
+    Ok(())
+}
+
+// Faults of the expression: an opcode that isn't known, an operand that is cut off, and references that name nothing.
+#[test]
+fn refused_expressions(rt: HostRuntime) -> Result<(), Fail> {
+    let alloc = rt.alloc();
+    let code = (EXPR_UNIT_AT + 21, 1);
+    let long_operand = (EXPR_UNIT_AT + 31, 0x0e);
+    let place = (EXPR_UNIT_AT + 26, 11);
+    let rows: [(&[(usize, u8)], Kind, u64); 7] = [
+        (&[code], Kind::Op, 679),
+        (&[long_operand], Kind::Short, 690),
+        (&[(EXPR_UNIT_AT + 17, 15)], Kind::Target, 675),
+        (&[(EXPR_UNIT_AT + 22, 15)], Kind::Target, 680),
+        (&[place], Kind::Target, 684),
+        // the code 0 that ends the children of the root
+        (&[(EXPR_UNIT_AT + 32, 36)], Kind::Target, 690),
+        // what isn't an expression names nothing
+        (&[place, code], Kind::Op, 679),
+    ];
+    for (changes, kind, place) in rows.iter() {
+        let file = with_expression(alloc, changes)?;
+        let fault = fault_of(alloc, &file)?;
+        assert!(rt;
+            fault
+                == Some(Fault {
+                    kind: *kind,
+                    place: *place
+                })
+        );
     }
     Ok(())
 }

@@ -4,7 +4,9 @@ use Rattle.unit_write.specs.declared.places.Places.{Places}
 use Rattle.value_links.specs.Reading.{Linkable, Reading, program_at}
 use Rattle.value_links.specs.Whole.{IsReading}
 use Rattle.value_links.specs.Debug.{UnitMeaning, MeanUnits}
-use Rattle.value_links.specs.Laws.{HasNoUnread}
+use Rattle.dw_base.specs.declared.fault.Reach.TheVariants.{Wide}
+use Rattle.value_links.specs.Laws.{AreExpressionsWithin}
+use Rattle.value_links.specs.Tidy.{AreTidyExpressions}
 use Rattle.value_links.specs.World.{World, Holds}
 use Rattle.rewriter.specs.declared.tables.NewTable.{NewTable}
 use Rattle.rewriter.specs.declared.new_places.NewPlaces.{NewPlaces}
@@ -33,7 +35,12 @@ abbrev pub LinksFollow : Type 0
 LinksFollow =
     (file : List ℕ) (world : World) (tables : List NewTable) (places : List Places) (new_places : NewPlaces) (info abbrevs : List ℕ) (r s : Reading) (units : List UnitMeaning) → AreReadAnew file world tables places new_places info abbrevs r s → MeanUnits r units → MeanUnits s units
 
--- And no value waits for a later version where none did.
-abbrev pub NoneIsUnread : Type 0
-NoneIsUnread =
-    (file : List ℕ) (world : World) (tables : List NewTable) (places : List Places) (new_places : NewPlaces) (info abbrevs : List ℕ) (r s : Reading) → AreReadAnew file world tables places new_places info abbrevs r s → HasNoUnread r.links → HasNoUnread s.links
+-- And each expression is one within the wide limits.
+abbrev pub ExpressionsAreWide : Type 0
+ExpressionsAreWide =
+    (file : List ℕ) (world : World) (tables : List NewTable) (places : List Places) (new_places : NewPlaces) (info abbrevs : List ℕ) (r s : Reading) → AreReadAnew file world tables places new_places info abbrevs r s → AreExpressionsWithin s.links Wide
+
+-- The expressions are those of the old operations with new references.
+abbrev pub ExpressionsAreTidy : Type 0
+ExpressionsAreTidy =
+    (file : List ℕ) (world : World) (tables : List NewTable) (places : List Places) (new_places : NewPlaces) (info abbrevs : List ℕ) (r s : Reading) → AreReadAnew file world tables places new_places info abbrevs r s → AreTidyExpressions r.links s.links

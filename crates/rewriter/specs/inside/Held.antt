@@ -4,6 +4,11 @@ use Rattle.std.specs.List.{All}
 use Rattle.form_codec.specs.declared.value.Value.{Value}
 use Rattle.form_codec.specs.declared.value.Value.TheVariants as value
 use Rattle.form_codec.specs.Values.{meant_in}
+use Rattle.expr_ops.specs.declared.op.Op.{Op}
+use Rattle.expr_ops.specs.declared.names.Named.{Named}
+use Rattle.expr_ops.specs.declared.names.Named.TheVariants.{SectionEntry}
+use Rattle.expr_ops.specs.Drafts.{op_at}
+use Rattle.expr_ops.specs.Names.{named_by}
 use Rattle.abbrev_tables.specs.Tables.{Declared}
 use Rattle.abbrev_tables.specs.Listings.{Listing, decl_at, spec_at}
 use Rattle.entry_arena.specs.declared.entry.Entry.{Entry}
@@ -14,7 +19,7 @@ use Rattle.entry_read.specs.Units.{HeadAndForest}
 use Rattle.unit_write.specs.declared.places.Places.{Places}
 use Rattle.unit_write.specs.declared.write.NewNumbers.{NewNumbers}
 use Rattle.unit_write.specs.Placing.{IsRenumbered}
-use Rattle.unit_write.specs.Moved.{IsWrittenAnew}
+use Rattle.unit_write.specs.Moved.{IsWrittenAnew, new_values}
 use Rattle.list_model.specs.declared.contribution.Contribution.{Contribution}
 use Rattle.list_model.specs.declared.entry.ListKind.TheVariants.{Ranges}
 use Rattle.list_model.specs.Contributions.{offsets_at}
@@ -26,13 +31,14 @@ use Rattle.value_links.specs.declared.link.Link.{Link}
 use Rattle.value_links.specs.Linked.{Linked, Links}
 use Rattle.value_links.specs.Linked.Linked.{ListAt}
 use Rattle.value_links.specs.Links.{IsLinkFound}
-use Rattle.value_links.specs.World.{World, table_at, Holds}
+use Rattle.value_links.specs.Operations.{OpTarget, Names}
+use Rattle.value_links.specs.World.{World, table_at, operations_at, Holds}
 use Rattle.rewriter.specs.declared.tables.NewTable.{NewTable}
 use Rattle.rewriter.specs.declared.new_places.ListPlaces.{ListPlaces}
 use Rattle.rewriter.specs.declared.new_places.NewPlaces.{NewPlaces}
 use Rattle.rewriter.specs.inside.Tables.{new_table_at}
 use Rattle.rewriter.specs.inside.Placed.{PlacesAnew, places_anew, places_at, unit_in, IsPlacedBy, PlacesFollow}
-use Rattle.rewriter.specs.inside.Numbers.{MovesEntry, IsNewNumber, AreNewNumbers}
+use Rattle.rewriter.specs.inside.Numbers.{MovesEntry, IsNewNumber, IsNewReference, AreNewNumbers}
 
 -- the unit with a number has a table, which is also written anew
 pub record HasTable (world : World) (tables : List NewTable) (u : ℕ) : Type 0 where
@@ -148,6 +154,32 @@ pub record UnitMeans (world : World) (u : ℕ) : Type 0 where
   pub values : HaveAllValues (unit_in world.units u).forest
   pub entries : (id : ℕ) → id < length (unit_in world.units u).forest.entries → EntryMeans world u id
 
+-- An entry that is named in an expression of the unit `u` has a place, which isn't before what its reference counts from.
+pub record IsEntryPlaced (places : List Places) (u : ℕ) (named : Named) (other id : ℕ) : Type 0 where
+  pub own : u < length places
+  pub unit : other < length places
+  pub entry : id < length (places_at places other).entries
+  pub after : named ≢ SectionEntry → (places_at places u).start ≤ slice_index (places_at places other).entries id
+
+-- the number counts from the first byte of .debug_info, or of the unit `u`, to the new place of an entry
+abbrev pub IsCounted : List Places → ℕ → Named → ℕ → ℕ → ℕ → Type 0
+IsCounted places u SectionEntry other id new = slice_index (places_at places other).entries id ≡ new
+IsCounted places u named other id new = slice_index (places_at places other).entries id ≡ (places_at places u).start + new
+
+-- the new number of the reference of an operation in an expression of the unit `u`, where it names something that it may
+abbrev pub IsReferenceOf : World → List Places → ℕ → Op → ℕ → Type 0
+IsReferenceOf world places u op new =
+    (file : List ℕ) (r : Reading) (target : OpTarget) → Holds file world r → Names r.links u op.code op.a target → IsNewReference r.links places u (named_by op.code) op.code op.a new
+
+-- those of the first operations of a unit
+pub record AreOperationsUpTo (world : World) (places : List Places) (u : ℕ) (numbers : List ℕ) (count : ℕ) : Type 0 where
+  pub size : length numbers ≡ count
+  pub fit : (k : ℕ) → k < length numbers → slice_index numbers k < 2 ^ 32
+  pub each : (k : ℕ) → k < count → IsReferenceOf world places u (op_at (operations_at world.operations u).ops k) (slice_index numbers k)
+
+abbrev pub AreOperationsNumbered : World → List Places → ℕ → List ℕ → Type 0
+AreOperationsNumbered world places u numbers = AreOperationsUpTo world places u numbers (length (operations_at world.operations u).ops)
+
 -- the new numbers of the values of the first entries
 pub record AreNumberedUpTo (world : World) (places : List Places) (new_places : NewPlaces) (u : ℕ) (held : List ℕ) (count : ℕ) : Type 0 where
   pub size : (count < length (unit_in world.units u).forest.entries → length held ≡ (entry_in world u count).first) × (count ≡ length (unit_in world.units u).forest.entries → length held ≡ length (unit_in world.units u).forest.values)
@@ -173,7 +205,7 @@ pub record IsTypeMoved (unit : HeadAndForest) (places : PlacesAnew) (new : ℕ) 
 pub record IsUnitBehind (world : World) (tables : List NewTable) (places : List Places) (new_places : NewPlaces) (u : ℕ) (section : List ℕ) : Type 0 where
   pub numbers : NewNumbers
   pub numbered : (file : List ℕ) (r : Reading) → Holds file world r → AreNewNumbers world r.links tables places new_places u numbers
-  pub written : (ds : List Declared) → IsRenumbered (table_for world u) (new_table_at tables (slice_index world.table_of u)).columns (new_table_at tables (slice_index world.table_of u)).numbers ds → IsWrittenAnew (unit_in world.units u) (table_for world u) (new_table_at tables (slice_index world.table_of u)).columns (new_table_at tables (slice_index world.table_of u)).numbers ds numbers.table numbers.type_offset numbers.held.items (places_at places u).start section
+  pub written : (ds : List Declared) → IsRenumbered (table_for world u) (new_table_at tables (slice_index world.table_of u)).columns (new_table_at tables (slice_index world.table_of u)).numbers ds → IsWrittenAnew (unit_in world.units u) (table_for world u) (new_table_at tables (slice_index world.table_of u)).columns (new_table_at tables (slice_index world.table_of u)).numbers ds numbers.table numbers.type_offset (new_values numbers) (places_at places u).start section
 
 -- The first units stand anew in a section, each at its place.
 pub record StandAnew (world : World) (tables : List NewTable) (places : List Places) (new_places : NewPlaces) (section : List ℕ) (count : ℕ) : Type 0 where

@@ -1,8 +1,19 @@
--- The new numbers of a unit's references and section offsets: each is that of the new place of what the old one names.
-use Rattle.std.specs.Prelude.{◌≡◌, ◌≢◌, ◌<◌, ◌+◌, ◌^◌, ◌⊎◌, ℕ, List, length, slice_index}
+-- The new numbers of a unit's references and section offsets: each is that of the new place of what the old one names. And the new bytes
+-- of its expressions, with the new numbers of their references.
+use Rattle.std.specs.Prelude.{◌≡◌, ◌≢◌, ◌≤◌, ◌<◌, ◌+◌, ◌^◌, ◌⊎◌, ℕ, List, length, slice_index, true, false}
 use Rattle.std.specs.List.{All}
 use Rattle.form_codec.specs.Forms.{Meaning}
-use Rattle.form_codec.specs.Forms.Meaning.{InUnit, InSection, SectionPlace}
+use Rattle.form_codec.specs.Forms.Meaning.{Expression, InUnit, InSection, SectionPlace}
+use Rattle.dw_base.specs.declared.fault.Reach.TheVariants.{Wide}
+use Rattle.expr_ops.specs.declared.op.Op.{Op}
+use Rattle.expr_ops.specs.declared.names.Named.{Named}
+use Rattle.expr_ops.specs.declared.names.Named.TheVariants.{Nothing, BaseType, UnitEntry, SectionEntry}
+use Rattle.expr_ops.specs.Expressions.{IsExpression}
+use Rattle.expr_ops.specs.Ops.{all_meant}
+use Rattle.expr_ops.specs.Drafts.{is_generic, op_at}
+use Rattle.expr_ops.specs.Names.{named_by}
+use Rattle.expr_ops.specs.Plain.{IsWrittenPlain}
+use Rattle.unit_write.specs.NewExpressions.{made_of, refs_among}
 use Rattle.entry_arena.specs.Arena.{Arena, entry_at, chain_end_at}
 use Rattle.entry_read.specs.Heads.{type_unit}
 use Rattle.unit_write.specs.declared.places.Places.{Places}
@@ -13,7 +24,7 @@ use Rattle.value_links.specs.World.{World}
 use Rattle.rewriter.specs.declared.tables.NewTable.{NewTable}
 use Rattle.rewriter.specs.declared.new_places.NewPlaces.{NewPlaces}
 use Rattle.rewriter.specs.inside.Tables.{new_table_at}
-use Rattle.rewriter.specs.inside.Placed.{PlacesAnew, places_at}
+use Rattle.rewriter.specs.inside.Placed.{PlacesAnew, places_at, AreEndsIn}
 use Rattle.rewriter.specs.inside.NewPlaces.{IsOffsetAnew}
 
 -- an entry that stands at an old place stands at a new one
@@ -41,12 +52,39 @@ IsNewNumber r places new_places u id name (InSection n) new = (unit : ℕ) × (u
 IsNewNumber r places new_places u id name (SectionPlace n) new = IsOffsetAnew r new_places u id name n new
 IsNewNumber r places new_places u id name meaning new = Unit {0}
 
+-- The new number of the reference of an operation in an expression of the unit `u`: it counts as the old one does, from the first byte
+-- of the unit or of .debug_info. The generic type stays 0.
+abbrev pub IsNewReference : Linkable → List Places → ℕ → Named → ℕ → ℕ → ℕ → Type 0
+IsNewReference r places u Nothing code n new = Unit {0}
+IsNewReference r places u BaseType code n new = ((is_generic code n ≡ true) × (new ≡ 0)) ⊎ ((is_generic code n ≡ false) × MovesEntry (unit_at r u).forest (places_at places u) ((unit_at r u).head.at + n) ((places_at places u).start + new))
+IsNewReference r places u UnitEntry code n new = MovesEntry (unit_at r u).forest (places_at places u) ((unit_at r u).head.at + n) ((places_at places u).start + new)
+IsNewReference r places u SectionEntry code n new = (unit : ℕ) × (unit < length r.units) × MovesEntry (unit_at r unit).forest (places_at places unit) n new
+
+-- The new numbers of the operations of a unit, one for each.
+pub record AreNewReferences (r : Linkable) (places : List Places) (u : ℕ) (ops : List Op) (numbers : List ℕ) : Type 0 where
+  pub count : length numbers ≡ length ops
+  pub fit : All (λ (number : ℕ). number < 2 ^ 32) numbers
+  pub each : (k : ℕ) → k < length ops → IsNewReference r places u (named_by (op_at ops k).code) (op_at ops k).code (op_at ops k).a (slice_index numbers k)
+
+-- an expression of the unit `u` is written with its operations, each reference at the new place of what it names
+pub record IsNewExpression (r : Linkable) (places : List Places) (u : ℕ) (bytes made : List ℕ) : Type 0 where
+  pub ops : List Op
+  pub spelled : IsExpression Wide (all_meant bytes ops) bytes
+  pub numbers : List ℕ
+  pub numbered : AreNewReferences r places u ops numbers
+  pub written : IsWrittenPlain (refs_among ops numbers) bytes ops made
+
+-- what is written for a value: a new number, or the bytes of an expression
+abbrev pub IsNewValue : Linkable → List Places → NewPlaces → ℕ → ℕ → ℕ → Meaning → ℕ → List ℕ → Type 0
+IsNewValue r places new_places u id name (Expression bytes) new made = IsNewExpression r places u bytes made
+IsNewValue r places new_places u id name meaning new made = IsNewNumber r places new_places u id name meaning new
+
 -- the new type_offset of a type unit, and 0 for another unit
 pub record IsNewType (r : Linkable) (places : PlacesAnew) (u new : ℕ) : Type 0 where
   pub entry : (unit_at r u).head.kind ≡ type_unit → MovesEntry (unit_at r u).forest places ((unit_at r u).head.at + (unit_at r u).head.type_at) (places.start + new)
   pub none : (unit_at r u).head.kind ≢ type_unit → new ≡ 0
 
--- the new numbers of the unit with a number, each of which fits 32 bits
+-- the new numbers and expressions of the unit with a number; each number fits 32 bits
 pub record AreNewNumbers (world : World) (r : Linkable) (tables : List NewTable) (places : List Places) (new_places : NewPlaces) (u : ℕ) (new : NewNumbers) : Type 0 where
   pub ends : new.end ≡ (places_at places u).end
   pub table_at : new.table ≡ (new_table_at tables (slice_index world.table_of u)).at
@@ -54,4 +92,6 @@ pub record AreNewNumbers (world : World) (r : Linkable) (tables : List NewTable)
   pub type_fits : new.type_offset < 2 ^ 32
   pub count : length new.held.items ≡ length (unit_at r u).forest.values
   pub fit : All (λ (number : ℕ). number < 2 ^ 32) new.held.items
-  pub each : (id number name : ℕ) (meaning : Meaning) (place : ℕ) → HasValueAt (unit_at r u) id number name meaning place → IsNewNumber r places new_places u id name meaning (slice_index new.held.items number)
+  pub ends_are : AreEndsIn world u new.ends.items
+  pub filled : (k : ℕ) → k < length (unit_at r u).forest.values → slice_index new.ends.items k ≤ length new.expressions.items
+  pub each : (id number name : ℕ) (meaning : Meaning) (place : ℕ) → HasValueAt (unit_at r u) id number name meaning place → IsNewValue r places new_places u id name meaning (slice_index new.held.items number) (made_of new.ends.items new.expressions.items number)

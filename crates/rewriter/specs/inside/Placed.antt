@@ -3,8 +3,9 @@ use Rattle.std.specs.Prelude.{◌≡◌, ◌<◌, ℕ, List, [], ◌∷◌, leng
 use Rattle.fixed_width.specs.InitialLengths.{least_reserved}
 use Rattle.entry_read.specs.Units.{HeadAndForest}
 use Rattle.unit_write.specs.declared.places.Places.{Places}
+use Rattle.unit_write.specs.NewExpressions.{lens_of, ArePlainEnds}
 use Rattle.unit_write.specs.Moved.{IsWritable, IsPlacedAt}
-use Rattle.value_links.specs.World.{World, table_at}
+use Rattle.value_links.specs.World.{World, table_at, operations_at}
 use Rattle.rewriter.specs.declared.tables.NewTable.{NewTable}
 use Rattle.rewriter.specs.inside.Tables.{new_table_at}
 
@@ -25,10 +26,15 @@ places_at places u = slice_index_or (map places_anew places) u (record { start =
 abbrev pub unit_in : List HeadAndForest → ℕ → HeadAndForest
 unit_in units u = slice_index_or units u (record { head = record { at = 0; len = 0; kind = 0; table = 0; extra = 0; type_at = 0 }; forest = record { section = []; entries = []; values = []; ends = [] } })
 
--- the unit stands at these places, by the new columns and numbers of its table
-abbrev pub IsPlacedBy : World → List NewTable → ℕ → PlacesAnew → Type 0
-IsPlacedBy world tables u places =
-    IsPlacedAt (unit_in world.units u) (table_at world.tables (slice_index world.table_of u)).table (new_table_at tables (slice_index world.table_of u)).columns (new_table_at tables (slice_index world.table_of u)).numbers places.start places.entries places.ends places.end
+-- where the new bytes of the expressions of the unit with a number end
+abbrev pub AreEndsIn : World → ℕ → List ℕ → Type 0
+AreEndsIn world u ends = ArePlainEnds (unit_in world.units u).forest (operations_at world.operations u) ends
+
+-- the unit stands at these places, by the new columns and numbers of its table and the new bytes of its expressions
+pub record IsPlacedBy (world : World) (tables : List NewTable) (u : ℕ) (places : PlacesAnew) : Type 0 where
+  pub expressions : List ℕ
+  pub plain : AreEndsIn world u expressions
+  pub placed : IsPlacedAt (unit_in world.units u) (table_at world.tables (slice_index world.table_of u)).table (new_table_at tables (slice_index world.table_of u)).columns (new_table_at tables (slice_index world.table_of u)).numbers (lens_of expressions) places.start places.entries places.ends places.end
 
 -- units stand one after the other, from a place up to another
 abbrev pub PlacesFollow : List Places → ℕ → ℕ → Type 0
@@ -45,4 +51,4 @@ pub record ArePlacesOf (world : World) (tables : List NewTable) (places : List P
 -- each unit of the world can be written by the new columns and numbers of its table
 abbrev pub AreWritable : World → List NewTable → Type 0
 AreWritable world tables =
-    (u : ℕ) → u < length world.units → IsWritable (unit_in world.units u) (table_at world.tables (slice_index world.table_of u)).table (new_table_at tables (slice_index world.table_of u)).columns (new_table_at tables (slice_index world.table_of u)).numbers
+    (u : ℕ) (expressions : List ℕ) → u < length world.units → AreEndsIn world u expressions → IsWritable (unit_in world.units u) (table_at world.tables (slice_index world.table_of u)).table (new_table_at tables (slice_index world.table_of u)).columns (new_table_at tables (slice_index world.table_of u)).numbers (lens_of expressions)

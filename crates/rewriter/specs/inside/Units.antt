@@ -10,7 +10,7 @@ use Rattle.unit_write.specs.declared.places.Places.{Places}
 use Rattle.unit_write.specs.declared.write.NewNumbers.{NewNumbers}
 use Rattle.unit_write.specs.Placing.{IsRenumbered}
 use Rattle.entry_read.specs.Short.{StandsShort, EndsShort}
-use Rattle.unit_write.specs.Moved.{IsMovedEntry, IsMovedEnd, AreMovedValues}
+use Rattle.unit_write.specs.Moved.{IsMovedEntry, IsMovedEnd, AreMovedValues, new_values}
 use Rattle.value_links.specs.Reading.{UnitRead, Linkable, declarations, unit_among, unit_at, AreUnitsIn}
 use Rattle.value_links.specs.Laws.{AreBuilt}
 use Rattle.value_links.specs.World.{World}
@@ -34,7 +34,7 @@ pub record IsUnitMoved (world : World) (r : Linkable) (tables : List NewTable) (
   pub table_at : new.head.table ≡ (new_table_at tables (slice_index world.table_of u)).at
   pub renumbered : IsRenumbered (unit_at r u).table (new_table_at tables (slice_index world.table_of u)).columns (new_table_at tables (slice_index world.table_of u)).numbers (declarations new)
   pub entries : AllZip (IsMovedEntry (new_table_at tables (slice_index world.table_of u)).numbers) (unit_at r u).forest.entries new.forest.entries
-  pub values : AreMovedValues (unit_at r u).forest numbers.held.items new.forest.section (listed_to new.forest 0)
+  pub values : AreMovedValues (unit_at r u).forest (new_values numbers) new.forest.section (listed_to new.forest 0)
   pub chain_ends : AllZip IsMovedEnd (unit_at r u).forest.ends new.forest.ends
   pub short : (id : ℕ) → id < length new.forest.entries → StandsShort new.forest.section (declarations new) new.forest.values (entry_at new.forest.entries id)
   pub ends_short : All (EndsShort new.forest.section) new.forest.ends

@@ -10,12 +10,12 @@ use Rattle.unit_write.specs.declared.items.Next.TheVariants.{Entry as TheEntry, 
 use Rattle.unit_write.specs.Values.{HaveSize}
 
 -- the values of some section, written in these columns from a place on, end below the lengths that are reserved
-pub record HaveRoom (columns : List Spec) (values : List Value) (at : ℕ) : Type 0 where
+pub record HaveRoom (columns : List Spec) (values : List Value) (lens : List ℕ) (at : ℕ) : Type 0 where
   pub section : List ℕ
   pub few : length section < 2 ^ 63
   pub valued : All (IsValueIn section) values
   pub size : ℕ
-  pub sized : HaveSize section columns values size
+  pub sized : HaveSize section columns values lens size
   pub below : at + size < least_reserved
 
 -- so does what stands next in a unit

@@ -1,13 +1,16 @@
 -- What the private parts of the writer give; nothing here is a definition of the format.
-use Rattle.std.specs.Prelude.{◌≡◌, ℕ, suc, List, [], ◌∷◌, ◌++◌, length, take, drop, slice_index, Bool, true, false, nat_eq, if◌then◌else◌}
-use Rattle.leb_codec.specs.Leb.{Uleb, PaddedUnsigned, least_unsigned_len}
+use Rattle.std.specs.Prelude.{◌≡◌, ◌≤◌, ◌<◌, ◌^◌, ℕ, suc, List, [], ◌∷◌, ◌++◌, length, slice_index, Bool, true, false, nat_eq, if◌then◌else◌}
+use Rattle.std.specs.List.{All}
+use Rattle.leb_codec.specs.Leb.{Uleb, ShortestUnsigned, PaddedUnsigned, least_unsigned_len}
 use Rattle.form_codec.specs.declared.form.Role.{Role}
 use Rattle.form_codec.specs.declared.form.Role.TheVariants.{LocalRef, SectionRef, Offset}
+use Rattle.form_codec.specs.declared.form.Content.TheVariants as content
 use Rattle.form_codec.specs.declared.form.Shape.{Shape}
 use Rattle.form_codec.specs.declared.form.Width.TheVariants.{Two, Four, Eight}
-use Rattle.form_codec.specs.declared.form.Shape.TheVariants.{Number, Uleb as ByUleb}
+use Rattle.form_codec.specs.declared.form.Shape.TheVariants.{Number, Uleb as ByUleb, UlebCounted}
 use Rattle.form_codec.specs.declared.value.Value.{Value}
-use Rattle.form_codec.specs.Forms.{size_of}
+use Rattle.form_codec.specs.Forms.{Meaning, size_of}
+use Rattle.form_codec.specs.Forms.Meaning.{Expression}
 use Rattle.form_codec.specs.Values.{meant_in}
 use Rattle.form_codec.specs.Written.{low_bytes}
 use Rattle.abbrev_tables.specs.declared.decl.Spec.{Spec}
@@ -16,7 +19,9 @@ use Rattle.entry_arena.specs.Arena.{Arena, entry_at}
 use Rattle.entry_arena.specs.Walks.{Item}
 use Rattle.entry_arena.specs.Walks.Item.{AnEntry, AnEnd}
 use Rattle.entry_read.specs.Short.{IsWritten}
-use Rattle.unit_write.specs.Values.{with_number}
+use Rattle.unit_write.specs.Values.{renewed}
+use Rattle.unit_write.specs.NewExpressions.{begin_of, made_of}
+use Rattle.unit_write.specs.Moved.{NewValues}
 use Rattle.entry_read.specs.Heads.{type_unit, skeleton_unit}
 use Rattle.unit_write.specs.declared.items.Next.{Next}
 use Rattle.unit_write.specs.declared.items.Next.TheVariants.{Entry as TheEntry, End as TheEnd}
@@ -45,23 +50,45 @@ abbrev pub PutsNumber : Shape → ℕ → List ℕ → Type 0
 PutsNumber (Number width role) number bytes = bytes ≡ low_bytes width number
 PutsNumber shape number bytes = PaddedUnsigned 5 number bytes
 
--- the values are written one after the other, each in its column and with a number of its own
-abbrev pub PutsValues : List ℕ → List Spec → List Value → List ℕ → List ℕ → Type 0
-PutsValues section [] [] [] bytes = bytes ≡ []
-PutsValues section (c ∷ cs) (v ∷ vs) (n ∷ ns) bytes = (first : List ℕ) × (rest : List ℕ) × IsWritten c (with_number n (meant_in section v)) first × PutsValues section cs vs ns rest × (bytes ≡ first ++ rest)
-PutsValues _ _ _ _ _ = ⊥
+-- an expression
+abbrev pub is_expr : Meaning → Bool
+is_expr (Expression bytes) = true
+is_expr meaning = false
 
--- the numbers that are held for the values of an entry
-abbrev pub numbers_in : Arena → List ℕ → ℕ → List ℕ
-numbers_in f held id = take (entry_at f.entries id).count (drop (entry_at f.entries id).first held)
+-- what bytes of a shape spell is one
+abbrev pub shape_expr : Shape → Bool
+shape_expr (UlebCounted content.Expression) = true
+shape_expr shape = false
+
+-- the bytes of an expression with a count before them
+abbrev pub PutsCounted : List ℕ → List ℕ → Type 0
+PutsCounted made bytes = (head : List ℕ) × ShortestUnsigned (length made) head × (bytes ≡ head ++ made)
+
+-- there is a number for each of so many values, and new bytes, which only an expression has
+pub record AreNew (new : NewValues) (count : ℕ) : Type 0 where
+  pub numbers : length new.held ≡ count
+  pub narrow : All (λ (number : ℕ). number < 2 ^ 32) new.held
+  pub each : length new.ends ≡ count
+  pub rising : (k : ℕ) → k < count → begin_of new.ends k ≤ slice_index new.ends k
+  pub inside : (k : ℕ) → k < count → slice_index new.ends k ≤ length new.expressions
+
+-- what is written of the value with a number
+abbrev pub renewed_at : NewValues → ℕ → Meaning → Meaning
+renewed_at new k meaning = renewed (slice_index new.held k) (made_of new.ends new.expressions k) meaning
+
+-- the values from the one with a number on are written one after the other, each in its column
+abbrev pub PutsValues : List ℕ → NewValues → ℕ → List Spec → List Value → List ℕ → Type 0
+PutsValues section new k [] [] bytes = bytes ≡ []
+PutsValues section new k (c ∷ cs) (v ∷ vs) bytes = (first : List ℕ) × (rest : List ℕ) × IsWritten c (renewed_at new k (meant_in section v)) first × PutsValues section new (suc k) cs vs rest × (bytes ≡ first ++ rest)
+PutsValues _ _ _ _ _ _ = ⊥
 
 -- an entry is written: the new code of its declaration, and its values in the new columns
-pub record PutsEntry (table : Listing) (columns : List Spec) (numbers held : List ℕ) (f : Arena) (id : ℕ) (bytes : List ℕ) : Type 0 where
+pub record PutsEntry (table : Listing) (columns : List Spec) (numbers : List ℕ) (new : NewValues) (f : Arena) (id : ℕ) (bytes : List ℕ) : Type 0 where
   pub code : List ℕ
   pub rest : List ℕ
   pub coded : Uleb (slice_index numbers (entry_at f.entries id).decl) code
   pub shortest : length code ≡ least_unsigned_len (slice_index numbers (entry_at f.entries id).decl)
-  pub valued : PutsValues f.section (columns_of table columns (entry_at f.entries id).decl) (values_in f id) (numbers_in f held id) rest
+  pub valued : PutsValues f.section new (entry_at f.entries id).first (columns_of table columns (entry_at f.entries id).decl) (values_in f id) rest
   pub whole : bytes ≡ code ++ rest
 
 -- the items of a walk are written one after the other, of which the first entry has the number `id`

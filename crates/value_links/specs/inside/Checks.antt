@@ -8,7 +8,11 @@ use Rattle.form_codec.specs.declared.value.Value.{Value}
 use Rattle.form_codec.specs.declared.value.Value.TheVariants as value
 use Rattle.form_codec.specs.Forms.{Meaning}
 use Rattle.form_codec.specs.Forms.Meaning.{SectionPlace}
-use Rattle.form_codec.specs.Values.{meant_in}
+use Rattle.form_codec.specs.Values.{meant_in, bytes_in}
+use Rattle.dw_base.specs.declared.fault.Span.{Span}
+use Rattle.expr_ops.specs.declared.op.Op.{Op}
+use Rattle.entry_read.specs.Expressions.{IsExprAt, FaultExpressions}
+use Rattle.value_links.specs.Operations.{OpTarget, Names, LinkedOperation, LinksExpression}
 use Rattle.abbrev_tables.specs.Tables.{Declared}
 use Rattle.abbrev_tables.specs.Listings.{Listing, spec_at}
 use Rattle.entry_arena.specs.declared.entry.Entry.{Entry}
@@ -27,7 +31,7 @@ use Rattle.value_links.specs.Values.{entry_of, declaration_of, IsFirstBase}
 use Rattle.value_links.specs.World.{table_at}
 use Rattle.value_links.specs.Links.{held_at}
 use Rattle.value_links.specs.Linked.{Linked, Links, IsTypeEntry, IsFirstLow, HasAddress}
-use Rattle.value_links.specs.LinkFaults.{IsUnread, FaultValue, FaultInUnit}
+use Rattle.value_links.specs.LinkFaults.{FaultValue, FaultInUnit}
 use Rattle.value_links.specs.Parts.{AreUnitsHeld, HoldsParts}
 
 -- WHAT IS HELD
@@ -125,12 +129,26 @@ IsTyped unit false = (unit.head.kind ≡ type_unit) × (¬ NamesType unit)
 
 -- WHAT IS CHECKED
 
--- a value is linked and waits for nothing, or has a fault
+-- a value is linked, or has a fault, which isn't that of an expression
 abbrev pub IsChecked : Linkable → ℕ → ℕ → ℕ → Meaning → Option Kind → Type 0
-IsChecked r u id name meaning None = ((linked : Linked) × Links r u id name meaning linked) × (¬ IsUnread meaning)
+IsChecked r u id name meaning None = (linked : Linked) × Links r u id name meaning linked
 IsChecked r u id name meaning (Some kind) = FaultValue r u id name meaning kind
 
--- the value of a column of an entry is linked and waits for nothing
+-- an expression has no link of its own: its operations have
+abbrev pub IsNoExpr : Value → Type 0
+IsNoExpr (value.Expr span) = ⊥
+IsNoExpr v = Unit {0}
+
+-- an operation names nothing that it may, or something
+abbrev pub IsAstray : Linkable → ℕ → Op → Bool → Type 0
+IsAstray r u op true = (target : OpTarget) → Names r u op.code op.a target → ⊥
+IsAstray r u op false = (target : OpTarget) × Names r u op.code op.a target
+
+-- the operations of an expression that is the value with a number name what they may
+abbrev pub IsExprLinked : Linkable → ℕ → ℕ → Type 0
+IsExprLinked r u number = (span : Span) → IsExprAt (unit_at r u).forest number span → (linked : List LinkedOperation) × LinksExpression r u (bytes_in (unit_at r u).forest.section span) linked
+
+-- the value of a column of an entry is linked
 abbrev pub IsColumnLinked : Linkable → ℕ → ℕ → ℕ → Type 0
 IsColumnLinked r u id column = IsChecked r u id (spec_at (declaration_of (unit_at r u) id).columns column).name (meant_in (unit_at r u).forest.section (value_at (unit_at r u).forest.values ((entry_of (unit_at r u) id).first + column))) None
 
@@ -155,3 +173,7 @@ InEach parts P = (file : List ℕ) (r : Linkable) → HoldsParts file r parts �
 -- the fault is one of a unit, whatever the limits
 abbrev pub IsUnitFault : ℕ → Fault → Linkable → Type 0
 IsUnitFault u fault r = (reach : Reach) → FaultInUnit r reach u fault.kind fault.place
+
+-- an expression of one of the units has a fault
+abbrev pub IsSomeExpressionFault : List HeadAndForest → Reach → Kind → ℕ → Type 0
+IsSomeExpressionFault units reach kind place = (u : ℕ) × (u < length units) × FaultExpressions (held_at units u).forest reach kind place

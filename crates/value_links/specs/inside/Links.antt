@@ -3,14 +3,18 @@
 use Rattle.std.specs.Prelude.{◌≤◌, ◌<◌, ◌+◌, ◌^◌, ℕ, List, [], length, slice_index_or, Option, Some, None}
 use Rattle.line_machine.specs.declared.head.Head.{Head}
 use Rattle.entry_arena.specs.declared.entry.Target.{Target}
+use Rattle.entry_arena.specs.declared.entry.Target.TheVariants.{Entry as TheEntry, ChainEnd as TheEnd}
 use Rattle.entry_arena.specs.Arena.{Arena}
 use Rattle.entry_arena.specs.Order.{IsInOrder}
 use Rattle.entry_read.specs.Units.{HeadAndForest}
 use Rattle.value_links.specs.declared.link.Link.{Link}
 use Rattle.value_links.specs.declared.link.Link.TheVariants.{Place}
 use Rattle.value_links.specs.Reading.{no_program}
+use Rattle.value_links.specs.declared.operations.OpLink.{OpLink}
+use Rattle.value_links.specs.declared.operations.OpLink.TheVariants.{Entry as AnEntry}
 use Rattle.value_links.specs.Linked.{IsTargetAt}
-use Rattle.value_links.specs.Links.{held_at}
+use Rattle.value_links.specs.Operations.{OpTarget}
+use Rattle.value_links.specs.Links.{held_at, IsOpLinkOf}
 
 -- WHAT IS HELD
 
@@ -52,3 +56,13 @@ abbrev pub IsSectionTargetFound : List HeadAndForest → ℕ → Option Link →
 IsSectionTargetFound units place (Some (Place unit target)) = (unit < length units) × IsTargetAt (held_at units unit).forest target place
 IsSectionTargetFound units place (Some link) = ⊥
 IsSectionTargetFound units place None = (unit : ℕ) (target : Target) → unit < length units → IsTargetAt (held_at units unit).forest target place → ⊥
+
+-- an entry of a unit, as what an operation names; the end of a chain is none
+abbrev pub entry_link : ℕ → Target → Option OpLink
+entry_link unit (TheEntry id) = Some (AnEntry unit id)
+entry_link unit (TheEnd id) = None
+
+-- What is answered of what names at most one thing: the link that tells this, or none exactly where nothing is named.
+abbrev pub IsNamedThing : (OpTarget → Type 0) → Option OpLink → Type 0
+IsNamedThing IsNamed (Some link) = (target : OpTarget) × IsNamed target × IsOpLinkOf target link
+IsNamedThing IsNamed None = (target : OpTarget) → IsNamed target → ⊥

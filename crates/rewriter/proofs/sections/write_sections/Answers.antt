@@ -6,14 +6,14 @@ use Rattle.rewriter.proofs.sections.write_sections.Goals as goal
 
 pub place_units-requires-clause-writable : goal.place_units-requires-clause-writable
 place_units-requires-clause-writable c =
-    writable c.values_have_sizes.ensures.numbers c.values_have_sizes.ensures.others c.listings.ensures.stand c.args.world.now c.requires.world c.in_ok-tables.tables.bytes.items c.in_ok-tables.tables.tables.items c.in_ok-tables.ensures.written
+    writable c.values_have_sizes.ensures.numbers c.values_have_sizes.ensures.expressions c.values_have_sizes.ensures.others c.listings.ensures.stand c.args.world.now c.requires.world c.in_ok-tables.tables.bytes.items c.in_ok-tables.tables.tables.items c.in_ok-tables.ensures.written
 
 pub write_units-requires-clause-narrow : goal.write_units-requires-clause-narrow
 write_units-requires-clause-narrow c = let fits = c.in_ok-tables.ensures.fits in omega (arith, fits)
 
 pub write_units-requires-clause-writable : goal.write_units-requires-clause-writable
 write_units-requires-clause-writable c =
-    writable c.values_have_sizes.ensures.numbers c.values_have_sizes.ensures.others c.listings.ensures.stand c.args.world.now c.requires.world c.in_ok-tables.tables.bytes.items c.in_ok-tables.tables.tables.items c.in_ok-tables.ensures.written
+    writable c.values_have_sizes.ensures.numbers c.values_have_sizes.ensures.expressions c.values_have_sizes.ensures.others c.listings.ensures.stand c.args.world.now c.requires.world c.in_ok-tables.tables.bytes.items c.in_ok-tables.tables.tables.items c.in_ok-tables.ensures.written
 
 pub write_units-requires-clause-new_places : goal.write_units-requires-clause-new_places
 write_units-requires-clause-new_places c =

@@ -1,4 +1,4 @@
-use Rattle.std.proofs.Common.{rules, ◌≡◌, ◌<◌, ◌^◌, ℕ, List, length, get_or, take, drop, ◌∙◌, sym, ap, refl, subst}
+use Rattle.std.proofs.Common.{rules, ◌≡◌, ◌≤◌, ◌<◌, ◌+◌, ◌^◌, ℕ, List, length, get_or, drop, ◌∙◌, sym, ap, refl, subst, arith}
 use Rattle.std.specs.List.{All}
 use Rattle.std.proofs.lemmas.Result.{on_ok_weaker, on_err_weaker}
 use Rattle.std.proofs.lemmas.List.Elements.{All-take, All-drop}
@@ -11,9 +11,11 @@ use Rattle.entry_arena.specs.declared.entry.Entry.{Entry}
 use Rattle.entry_arena.specs.Arena.{Arena, entry_at}
 use Rattle.entry_read.proofs.PlaceLaws.{units_lie}
 use Rattle.entry_read.specs.Units.{declarations_of}
-use Rattle.unit_write.specs.Placing.{columns_of, values_in}
-use Rattle.unit_write.specs.Moved.{IsRoomy}
-use Rattle.unit_write.specs.inside.Puts.{PutsValues, numbers_in}
+use Rattle.unit_write.specs.NewExpressions.{lens_of}
+use Rattle.unit_write.specs.Placing.{columns_of, values_in, among_values}
+use Rattle.unit_write.specs.Moved.{IsRoomy, new_values}
+use Rattle.unit_write.specs.inside.Puts.{PutsValues}
+use Rattle.unit_write.proofs.Anew.{count_in}
 use Rattle.unit_write.proofs.PutLaws.{extends_more, values_lie, size_as, entry_put}
 use Rattle.unit_write.proofs.write.put_entry.Goals as goal
 
@@ -24,9 +26,9 @@ put_values-requires-clause-sized c =
     let entry : c.entry-entry.result ≡ entry_at f.entries c.args.id = c.entry-entry.ensures ∙ ap (λ (g : Arena). entry_at g.entries c.args.id) forest in
     let section : c.section.result.now ≡ f.section = c.section.ensures ∙ ap (λ (g : Arena). g.section) forest in
     let columns : c.new_columns.result.now ≡ columns_of c.args.decls.now c.args.specs.now (entry_at f.entries c.args.id).decl = c.new_columns.ensures ∙ ap (λ (e : Entry). columns_of c.args.decls.now c.args.specs.now e.decl) entry in
-    let values : c.values_of.result.now ≡ values_in f c.args.id = c.values_of.ensures ∙ ap (λ (g : Arena). values_in g c.args.id) forest in
+    let values : c.values_of.result.now ≡ values_in f c.args.id = c.values_of.ensures.values ∙ ap (λ (g : Arena). values_in g c.args.id) forest in
     let size = c.requires.writable.sized c.args.id c.requires.inside in
-    (size.1.0, size_as c.section.result.now f.section c.new_columns.result.now (columns_of c.args.decls.now c.args.specs.now (entry_at f.entries c.args.id).decl) c.values_of.result.now (values_in f c.args.id) size.1.0 section columns values size.1.1)
+    (among_values f (lens_of c.args.new.now.ends.items) c.args.id, size.1.0, size_as c.section.result.now f.section c.new_columns.result.now (columns_of c.args.decls.now c.args.specs.now (entry_at f.entries c.args.id).decl) c.values_of.result.now (values_in f c.args.id) (among_values f (lens_of c.args.new.now.ends.items) c.args.id) size.1.0 section columns values size.1.1)
 
 pub put_values-requires-clause-inside : goal.put_values-requires-clause-inside
 put_values-requires-clause-inside c =
@@ -35,7 +37,7 @@ put_values-requires-clause-inside c =
     let forest : c.forest-forest.result.now ≡ f = c.forest-forest.ensures in
     let e = entry_at f.entries c.args.id in
     let section : c.section.result.now ≡ f.section = c.section.ensures ∙ ap (λ (g : Arena). g.section) forest in
-    let values : c.values_of.result.now ≡ values_in f c.args.id = c.values_of.ensures ∙ ap (λ (g : Arena). values_in g c.args.id) forest in
+    let values : c.values_of.result.now ≡ values_in f c.args.id = c.values_of.ensures.values ∙ ap (λ (g : Arena). values_in g c.args.id) forest in
     let lie = units_lie f.section unit.head (declarations_of c.args.decls.now) f refl c.requires.writable.held in
     let all : All (LiesIn (length f.section)) (values_in f c.args.id) = All-take (LiesIn (length f.section)) e.count (drop e.first f.values) (All-drop (LiesIn (length f.section)) e.first f.values (values_lie f lie.order)) in
     let there = subst (λ (z : List Value). All (LiesIn (length f.section)) z) (sym values) all in
@@ -46,29 +48,37 @@ put_values-requires-clause-roomy c =
     let all : All IsRoomy (columns_of c.args.decls.now c.args.specs.now c.entry-entry.result.decl) = All-take IsRoomy _ _ (All-drop IsRoomy _ c.args.specs.now c.requires.writable.roomy) in
     subst (λ (z : List Spec). All IsRoomy z) (sym c.new_columns.ensures) all
 
-pub put_values-requires-clause-narrow : goal.put_values-requires-clause-narrow
-put_values-requires-clause-narrow c =
-    let P = λ (n : ℕ). n < 2 ^ 32 in
-    subst (λ (z : List ℕ). All (λ (n : ℕ). n < 2 ^ 32) z) (sym c.part.ensures) (All-take (λ (n : ℕ). n < 2 ^ 32) _ _ (All-drop (λ (n : ℕ). n < 2 ^ 32) _ c.args.held.now c.requires.held.1))
+pub put_values-requires-clause-new : goal.put_values-requires-clause-new
+put_values-requires-clause-new c =
+    let f = c.args.unit.now.forest in
+    let forest : c.forest-forest.result.now ≡ f = c.forest-forest.ensures in
+    let e = entry_at f.entries c.args.id in
+    let entry : c.entry-entry.result ≡ e = c.entry-entry.ensures ∙ ap (λ (g : Arena). entry_at g.entries c.args.id) forest in
+    let first : c.entry-entry.result.first ≡ e.first = ap (λ (z : Entry). z.first) entry in
+    let values : c.values_of.result.now ≡ values_in f c.args.id = c.values_of.ensures.values ∙ ap (λ (g : Arena). values_in g c.args.id) forest in
+    let lie = units_lie f.section c.args.unit.now.head (declarations_of c.args.decls.now) f refl c.requires.writable.held in
+    let inside : e.first + e.count ≤ length f.values = lie.order.valued.inside c.args.id c.requires.inside in
+    let count : length c.values_of.result.now ≡ e.count = ap length values ∙ count_in f c.args.id inside in
+    (length f.values, c.requires.new, omega arith)
 
 pub returns-clause-ok : goal.returns-clause-ok
 returns-clause-ok c =
     let table = c.args.decls.now in
     let columns = c.args.specs.now in
     let numbers : List ℕ = c.args.numbers.now in
-    let held : List ℕ = c.args.held.now in
+    let anew = new_values c.args.new.now in
     let f = c.args.unit.now.forest in
     let id : ℕ = c.args.id in
     let forest : c.forest-forest.result.now ≡ f = c.forest-forest.ensures in
     let entry : c.entry-entry.result ≡ entry_at f.entries id = c.entry-entry.ensures ∙ ap (λ (g : Arena). entry_at g.entries id) forest in
     let section : c.section.result.now ≡ f.section = c.section.ensures ∙ ap (λ (g : Arena). g.section) forest in
     let cs : c.new_columns.result.now ≡ columns_of table columns (entry_at f.entries id).decl = c.new_columns.ensures ∙ ap (λ (e : Entry). columns_of table columns e.decl) entry in
-    let vs : c.values_of.result.now ≡ values_in f id = c.values_of.ensures ∙ ap (λ (g : Arena). values_in g id) forest in
-    let ns : c.part.result.now ≡ numbers_in f held id = c.part.ensures ∙ ap (λ (e : Entry). take e.count (drop e.first held)) entry in
+    let vs : c.values_of.result.now ≡ values_in f id = c.values_of.ensures.values ∙ ap (λ (g : Arena). values_in g id) forest in
+    let first : c.entry-entry.result.first ≡ (entry_at f.entries id).first = ap (λ (e : Entry). e.first) entry in
     let n : c.from.result ≡ get_or numbers c.entry-entry.result.decl 0 = search rules in
     let number : c.from.result ≡ get_or numbers (entry_at f.entries id).decl 0 = n ∙ ap (λ (e : Entry). get_or numbers e.decl 0) entry in
     let fits : c.from.result < 2 ^ 64 = search rules in
-    on_ok_weaker c.put_values.result (λ (put : Appends (PutsValues c.section.result.now c.new_columns.result.now c.values_of.result.now) c.part.result.now c.put_u.new.out.items c.put_values.new.out.items). entry_put table columns numbers held f id c.from.result c.section.result.now c.new_columns.result.now c.values_of.result.now c.part.result.now c.args.out.now.items c.put_u.new.out.items c.put_values.new.out.items number section cs vs ns fits c.in_ok-put_u.ensures.ok put) c.put_values.ensures.ok
+    on_ok_weaker c.put_values.result (λ (put : Appends (PutsValues c.section.result.now anew c.entry-entry.result.first c.new_columns.result.now) c.values_of.result.now c.put_u.new.out.items c.put_values.new.out.items). entry_put table columns numbers anew f id c.from.result c.section.result.now c.entry-entry.result.first c.new_columns.result.now c.values_of.result.now c.args.out.now.items c.put_u.new.out.items c.put_values.new.out.items number section first cs vs fits c.in_ok-put_u.ensures.ok put) c.put_values.ensures.ok
 
 pub returns-clause-err : goal.returns-clause-err
 returns-clause-err c =

@@ -1,4 +1,4 @@
-use Rattle.std.proofs.Common.{rules, ◌≡◌, ◌≢◌, ◌<◌, ◌^◌, ℕ, List, length, ◌∙◌, ap, subst}
+use Rattle.std.proofs.Common.{rules, ◌≡◌, ◌≢◌, ◌<◌, ℕ, List, length, ◌∙◌, ap, subst}
 use Rattle.std.specs.List.{All}
 use Rattle.spelled.specs.Spelled.{AreBytes}
 use Rattle.abbrev_tables.specs.declared.decl.Spec.{Spec}
@@ -20,6 +20,5 @@ returns c = λ is.
     let roomy = subst (λ (z : List Spec). All IsRoomy z) c.deref.ensures.value (c.are_roomy.ensures c.if-not-are_roomy.false) in
     let used = subst (λ (z : List ℕ). All (λ (n : ℕ). n ≢ 0) z) c.deref-2.ensures.value (c.are_used.ensures c.if-not-are_used.false) in
     let small = subst AreBytes section c.bytes_are_small.ensures.small in
-    let few = subst (λ (z : List ℕ). length z < 2 ^ 63) section c.bytes_are_small.ensures.few in
     let each = subst (λ (z : List Spec). (id : ℕ) → id < length unit.forest.entries → ((entry_at unit.forest.entries id).decl < length table.decls) × AreSizedIn (columns_of table z (entry_at unit.forest.entries id).decl) (values_in unit.forest id)) c.deref-3.ensures.value (c.entries_are_sized.ensures is) in
-    sized_writable unit table specs numbers c.requires.head c.requires.held numbered renewed roomy used small few each
+    sized_writable unit table specs numbers c.args.ends.now.items c.requires.ends c.requires.head c.requires.held numbered renewed roomy used small c.requires.room each

@@ -68,4 +68,4 @@ returns-clause-linked c = on_ok c.check_first_base.result (λ based. (λ (file :
     unit_linked file r c.args.parts.now holds c.args.number c.requires.number c.loop-id.id (omega (arith, all, c.loop-id-test.false, c.loop-id.auto.id-end)) (c.loop-id.invariant file r holds) typed (based file r holds))) c.check_first_base.ensures.found
 
 pub returns-clause-fault : goal.returns-clause-fault
-returns-clause-fault c = IfErr-weaker c.check_first_base.result (λ (fault : Fault). InEach c.args.parts.now (λ (r : Linkable). FaultLow r c.args.number fault.kind fault.place)) (λ (fault : Fault). InEach c.args.parts.now (IsUnitFault c.args.number fault)) (λ fault low file r holds reach. inr (inr (low file r holds))) c.check_first_base.ensures.fault
+returns-clause-fault c = IfErr-weaker c.check_first_base.result (λ (fault : Fault). InEach c.args.parts.now (λ (r : Linkable). FaultLow r c.args.number fault.kind fault.place)) (λ (fault : Fault). InEach c.args.parts.now (IsUnitFault c.args.number fault)) (λ fault low file r holds reach. inr (inr (inl (low file r holds)))) c.check_first_base.ensures.fault

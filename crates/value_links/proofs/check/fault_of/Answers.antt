@@ -1,17 +1,14 @@
-use Rattle.std.proofs.Common.{◌≡◌, ◌∙◌, ℕ, List, sym, true≢false}
-use Rattle.std.specs.Prelude.{false}
+use Rattle.std.proofs.Common.{ℕ, List}
 use Rattle.value_links.specs.Reading.{Linkable}
 use Rattle.value_links.specs.Parts.{HoldsParts}
-use Rattle.value_links.proofs.PartValues.{not_unread, cause_there}
+use Rattle.value_links.proofs.PartValues.{cause_there}
 use Rattle.value_links.proofs.check.fault_of.Goals as goal
 
 pub returns-in-Some : goal.returns-in-Some
 returns-in-Some c = λ (id : ℕ) (file : List ℕ) (r : Linkable) (holds : HoldsParts file r c.args.parts.now).
-    let no : c.is_unread.result ≡ false = c.if-is_unread.false in
-    let built = not_unread file r c.args.parts.now holds c.args.number c.requires.number c.unit_of-unit.result.now c.args.value.now c.unit_of-unit.ensures (λ unread. true≢false (sym (c.is_unread.ensures.1 unread) ∙ no)) in
     let found = c.in-Some.ensures file r id holds in
-    ((found.0, found.1), built)
+    (found.0, found.1)
 
 pub returns-in-None : goal.returns-in-None
 returns-in-None c = λ (id : ℕ) (file : List ℕ) (r : Linkable) (holds : HoldsParts file r c.args.parts.now).
-    cause_there file r c.args.parts.now holds c.args.number c.requires.number id c.args.name c.unit_of-unit.result.now c.table_of.result.now c.args.value.now c.cause_of.result c.unit_of-unit.ensures c.table_of.ensures.table (c.in-None.ensures file r id holds) c.cause_of.ensures
+    cause_there file r c.args.parts.now holds c.args.number c.requires.number id c.args.name c.unit_of-unit.result.now c.table_of.result.now c.args.value.now c.cause_of.result c.unit_of-unit.ensures c.table_of.ensures.table c.requires.plain (c.in-None.ensures file r id holds) c.cause_of.ensures

@@ -12,6 +12,7 @@ use Rattle.value_links.specs.Linked.Linked.{Itself}
 use Rattle.value_links.specs.Parts.{HoldsParts}
 use Rattle.value_links.specs.Links.{IsLinkFound}
 use Rattle.value_links.specs.inside.Links.{IsSectionTargetFound, AreUnitsApart}
+use Rattle.value_links.specs.inside.Checks.{IsNoExpr}
 use Rattle.value_links.proofs.LinkedValues.{parts_apart, section_link, local_answer, local_link, no_local_link}
 use Rattle.value_links.proofs.link.resolve.Goals as goal
 
@@ -54,13 +55,14 @@ returns-in-RangeIndex c = λ (file : List ℕ) (r : Linkable) (id : ℕ) (holds 
     subst (λ (z : Value). IsLinkFound r c.args.unit id c.args.name (meant_in section z) c.range_slot.result) (sym c.in-RangeIndex.is) (c.range_slot.ensures file r holds)
 
 -- any other value is what it says
-itself : (r : Linkable) (u id name : ℕ) (section : List ℕ) (v : Value) → ((n : ℕ) → v ≢ value.LocalRef n) → ((n : ℕ) → v ≢ value.SectionRef n) → ((n : ℕ) → v ≢ value.Offset n) → ((i : ℕ) → v ≢ value.LocIndex i) → ((i : ℕ) → v ≢ value.RangeIndex i) → IsLinkFound r u id name (meant_in section v) (Some Plain)
-itself r u id name section (value.LocalRef n) other _ _ _ _ = absurd (other n refl)
-itself r u id name section (value.SectionRef n) _ other _ _ _ = absurd (other n refl)
-itself r u id name section (value.Offset n) _ _ other _ _ = absurd (other n refl)
-itself r u id name section (value.LocIndex i) _ _ _ other _ = absurd (other i refl)
-itself r u id name section (value.RangeIndex i) _ _ _ _ other = absurd (other i refl)
-itself r u id name section v _ _ _ _ _ = (Itself (meant_in section v), refl, refl)
+itself : (r : Linkable) (u id name : ℕ) (section : List ℕ) (v : Value) → IsNoExpr v → ((n : ℕ) → v ≢ value.LocalRef n) → ((n : ℕ) → v ≢ value.SectionRef n) → ((n : ℕ) → v ≢ value.Offset n) → ((i : ℕ) → v ≢ value.LocIndex i) → ((i : ℕ) → v ≢ value.RangeIndex i) → IsLinkFound r u id name (meant_in section v) (Some Plain)
+itself r u id name section (value.Expr span) plain _ _ _ _ _ = absurd plain
+itself r u id name section (value.LocalRef n) _ other _ _ _ _ = absurd (other n refl)
+itself r u id name section (value.SectionRef n) _ _ other _ _ _ = absurd (other n refl)
+itself r u id name section (value.Offset n) _ _ _ other _ _ = absurd (other n refl)
+itself r u id name section (value.LocIndex i) _ _ _ _ other _ = absurd (other i refl)
+itself r u id name section (value.RangeIndex i) _ _ _ _ _ other = absurd (other i refl)
+itself r u id name section v _ _ _ _ _ _ = (Itself (meant_in section v), refl, refl)
 
 pub returns-in_default : goal.returns-in_default
-returns-in_default c = λ file r id holds. itself r c.args.unit id c.args.name (unit_at r c.args.unit).forest.section c.args.value.now c.in_default.not-LocalRef c.in_default.not-SectionRef c.in_default.not-Offset c.in_default.not-LocIndex c.in_default.not-RangeIndex
+returns-in_default c = λ file r id holds. itself r c.args.unit id c.args.name (unit_at r c.args.unit).forest.section c.args.value.now c.requires.plain c.in_default.not-LocalRef c.in_default.not-SectionRef c.in_default.not-Offset c.in_default.not-LocIndex c.in_default.not-RangeIndex

@@ -14,6 +14,9 @@ use Rattle.value_links.proofs.world.check_parts.Goals as goal
 pub check_links-requires-clause-lists : goal.check_links-requires-clause-lists
 check_links-requires-clause-lists c = let read = c.requires.parts in lists_held c.args.file.now read.r c.args.parts.now read.holds
 
+pub check_links-requires-clause-operations : goal.check_links-requires-clause-operations
+check_links-requires-clause-operations c = c.requires.parts.holds.operations
+
 pub check_links-requires-clause-held : goal.check_links-requires-clause-held
 check_links-requires-clause-held c =
     let file : List ℕ = c.args.file.now in

@@ -46,4 +46,4 @@ returns-clause-refused c =
     let parts = c.args.parts.now in
     let ranges = c.debug_section-ranges in
     let origin : ranges.result.origin ≡ offset_named file rnglists_name = origin_is file c.as_slice-3.result.now rnglists_name ranges.result.origin c.as_slice-3.ensures ranges.ensures.origin in
-    IfErr-weaker c.read_lists.result (λ refusal. (f : List ℕ) (r : Linkable) → HoldsParts f r parts → IsRefusedFor (IsFaultOf (FaultOfKind r c.args.reach Ranges) ranges.result.origin) refusal) (λ refusal. NamesLaterFault file c.args.reach refusal) (λ refusal refused. named_refused file parts c.requires.parts.2 c.args.sets.now.items c.requires.sets c.args.reach refusal (λ f r holds. subst (λ (o : ℕ). IsRefusedFor (IsFaultOf (FaultOfKind r c.args.reach Ranges) o) refusal) origin (refused f r holds))) c.read_lists.ensures.fault
+    IfErr-weaker c.read_lists.result (λ refusal. (f : List ℕ) (r : Linkable) → HoldsParts f r parts → IsRefusedFor (IsFaultOf (FaultOfKind r c.args.reach Ranges) ranges.result.origin) refusal) (λ refusal. NamesLaterFault file c.args.reach refusal) (λ refusal refused. named_refused file parts c.requires.parts.2 c.args.sets.now.items c.requires.sets c.args.reach refusal c.requires.operations (λ f r holds. subst (λ (o : ℕ). IsRefusedFor (IsFaultOf (FaultOfKind r c.args.reach Ranges) o) refusal) origin (refused f r holds))) c.read_lists.ensures.fault

@@ -1,0 +1,210 @@
+-- The new numbers of a unit and its new expressions, from the new numbers of its values and of its operations.
+use Rattle.std.proofs.Common.{◌≡◌, ◌≤◌, ◌<◌, ◌+◌, ◌-◌, ◌^◌, ℕ, List, [], length, drop, slice_index, get_or, ◌∙◌, sym, ap, refl, subst, arith, inl, inr}
+use Rattle.std.specs.List.{AllZip}
+use Rattle.std.proofs.lemmas.List.{get_or-take, get_or-drop, length-take, length-drop, length-map}
+use Rattle.std.proofs.lemmas.List.Elements.{All-take, All-drop, All-from_get_or}
+use Rattle.std.proofs.Math.ListN.{get_or-map}
+use Rattle.dw_base.specs.declared.fault.Reach.{Reach}
+use Rattle.dw_base.specs.declared.fault.Reach.TheVariants.{Narrow, Wide}
+use Rattle.dw_base.specs.declared.fault.Span.{Span}
+use Rattle.expr_ops.specs.declared.op.Op.{Op}
+use Rattle.expr_ops.specs.declared.names.Named.{Named}
+use Rattle.expr_ops.specs.declared.names.Named.TheVariants.{Nothing, BaseType, UnitEntry, SectionEntry}
+use Rattle.expr_ops.specs.Drafts.{op_at}
+use Rattle.expr_ops.specs.Expressions.{Operation, IsExpression}
+use Rattle.expr_ops.specs.Names.{named_by}
+use Rattle.expr_ops.specs.Ops.{meant, all_meant}
+use Rattle.expr_ops.proofs.Levels.{expression_once}
+use Rattle.expr_ops.proofs.Reaches.{narrow_wide}
+use Rattle.form_codec.specs.declared.value.Value.{Value}
+use Rattle.form_codec.specs.declared.value.Value.TheVariants as value
+use Rattle.form_codec.specs.Forms.{Meaning}
+use Rattle.form_codec.specs.Forms.Meaning.{Expression}
+use Rattle.form_codec.specs.Values.{bytes_in, meant_in}
+use Rattle.entry_arena.specs.Arena.{IsEntryAt, entry_at, value_at}
+use Rattle.entry_arena.specs.Operations.{HeldOps, range_of, for_value, ops_of}
+use Rattle.entry_read.specs.Expressions.{IsExprAt}
+use Rattle.entry_read.specs.Units.{HeadAndForest}
+use Rattle.unit_write.specs.declared.places.Places.{Places}
+use Rattle.unit_write.specs.declared.write.NewNumbers.{NewNumbers}
+use Rattle.unit_write.specs.NewExpressions.{made_of, AreWrittenPlain}
+use Rattle.value_links.specs.Sections.{debug_info, debug_abbrev}
+use Rattle.value_links.specs.Reading.{Linkable, Reading, unit_at}
+use Rattle.value_links.specs.Values.{HasValueAt}
+use Rattle.value_links.specs.Operations.{OpTarget, LinkedOperation, NamesUnitEntry, LinksReference, LinksOperation, LinksExpression, Names}
+use Rattle.value_links.specs.Operations.OpTarget.{AnEntry}
+use Rattle.value_links.specs.World.{World, operations_at, head_and_forest, Holds, IsWorldOf}
+use Rattle.rewriter.specs.declared.tables.NewTable.{NewTable}
+use Rattle.rewriter.specs.declared.new_places.NewPlaces.{NewPlaces}
+use Rattle.rewriter.specs.inside.Tables.{new_table_at}
+use Rattle.rewriter.specs.inside.Placed.{PlacesAnew, places_anew, places_at, unit_in, AreEndsIn}
+use Rattle.rewriter.specs.inside.Numbers.{IsNewNumber, AreNewReferences, IsNewExpression, IsNewValue, AreNewNumbers}
+use Rattle.rewriter.specs.inside.Held.{MeansSomething, table_for, entry_in, name_in, value_in, AreNumbered, IsReferenceOf, AreOperationsNumbered, IsTypeMoved}
+use Rattle.rewriter.proofs.Standing.{held_unit, held_count}
+use Rattle.rewriter.proofs.Meant.{owners, all_zip_at, unit_means}
+use Rattle.rewriter.proofs.Final.{NumbersIn, value_among, attribute_numbered, type_moved, table_known, unit_reads}
+
+-- WHAT OPERATIONS NAME
+
+-- what a reference names in what is read of a world, it names in all that is read of it
+module _ (r s : Linkable) (count : length s.units ≡ length r.units) (same : (u : ℕ) → head_and_forest (unit_at s u) ≡ head_and_forest (unit_at r u)) where
+  entry_still : (u n : ℕ) (target : OpTarget) → NamesUnitEntry s u n target → NamesUnitEntry r u n target
+  entry_still u n target here = subst (λ (h : HeadAndForest). (id : ℕ) × IsEntryAt h.forest id (h.head.at + n) × (target ≡ AnEntry u id)) (same u) here
+
+  reference_still : (u : ℕ) (named : Named) (code n : ℕ) (target : OpTarget) → LinksReference s u named code n target → LinksReference r u named code n target
+  reference_still u Nothing code n found e = e
+  reference_still u BaseType code n found (inl generic) = inl generic
+  reference_still u BaseType code n found (inr (other, here)) = inr (other, entry_still u n found here)
+  reference_still u UnitEntry code n found here = entry_still u n found here
+  reference_still u SectionEntry code n found (unit, id, inside, at, e) =
+      (unit, id, subst (λ (z : ℕ). unit < z) count inside, subst (λ (h : HeadAndForest). IsEntryAt h.forest id n) (same unit) at, e)
+
+-- the operations of an expression that is linked
+module _ (r : Linkable) (u : ℕ) (bytes : List ℕ) (ops : List Op) (spelled : IsExpression Wide (all_meant bytes ops) bytes) where
+  operation_named : (linked : List LinkedOperation) → LinksExpression r u bytes linked → (k : ℕ) → k < length ops → (target : OpTarget) × Names r u (op_at ops k).code (op_at ops k).a target
+  operation_named linked (operations, read, zip) k inside =
+      let same : operations ≡ all_meant bytes ops = expression_once Wide operations (all_meant bytes ops) bytes read spelled in
+      let all : AllZip (LinksOperation r u) (all_meant bytes ops) linked = subst (λ (os : List Operation). AllZip (LinksOperation r u) os linked) same zip in
+      let size : length (all_meant bytes ops) ≡ length ops = length-map ops (meant bytes) in
+      let at = all_zip_at (LinksOperation r u) (all_meant bytes ops) linked k (meant bytes (op_at [] 0)) all (omega (arith, size, inside)) in
+      let here : get_or (all_meant bytes ops) k (meant bytes (op_at [] 0)) ≡ meant bytes (op_at ops k) = get_or-map (meant bytes) ops k (op_at [] 0) in
+      (at.0.target, subst (λ (o : Operation). Names r u o.code o.a at.0.target) here at.1.target)
+
+-- so those of one that means something
+module _ (file : List ℕ) (world : World) (r : Reading) (u : ℕ) (holds : Holds file world r) where
+  means_named : (name : ℕ) (span : Span) (ops : List Op) → MeansSomething world u name (value.Expr span) → IsExpression Wide (all_meant (bytes_in (unit_at r.links u).forest.section span) ops) (bytes_in (unit_at r.links u).forest.section span) → (k : ℕ) → k < length ops → (target : OpTarget) × Names r.links u (op_at ops k).code (op_at ops k).a target
+  means_named name span ops m spelled k inside =
+      let heads : (v : ℕ) → head_and_forest (unit_at m.r.links v) ≡ head_and_forest (unit_at r.links v) = λ v. sym (held_unit m.file world m.r v m.holds) ∙ held_unit file world r v holds in
+      let counts : length m.r.links.units ≡ length r.links.units = sym (held_count m.file world m.r m.holds) ∙ held_count file world r holds in
+      let there : IsExpression Wide (all_meant (bytes_in (unit_at m.r.links u).forest.section span) ops) (bytes_in (unit_at m.r.links u).forest.section span) = subst (λ (h : HeadAndForest). IsExpression Wide (all_meant (bytes_in h.forest.section span) ops) (bytes_in h.forest.section span)) (sym (heads u)) spelled in
+      let named = operation_named m.r.links u (bytes_in (unit_at m.r.links u).forest.section span) ops there m.links.0 m.links.1 k inside in
+      (named.0, reference_still r.links m.r.links counts heads u (named_by (op_at ops k).code) (op_at ops k).code (op_at ops k).a named.0 named.1)
+
+-- NEW REFERENCES
+
+-- the part of a list that belongs to the operations of a value
+module _ (held : HeldOps) (numbers : List ℕ) (count : length numbers ≡ length held.ops) (v : ℕ) where
+  part_size : length (for_value held numbers v) ≡ length (ops_of held v)
+  part_size =
+      omega (arith, count, length-take (range_of held v).count (drop (range_of held v).first numbers), length-take (range_of held v).count (drop (range_of held v).first held.ops), length-drop (range_of held v).first numbers, length-drop (range_of held v).first held.ops)
+
+  module _ (k : ℕ) (inside : k < length (ops_of held v)) where
+    part_below : k < (range_of held v).count
+    part_below = omega (arith, inside, length-take (range_of held v).count (drop (range_of held v).first held.ops))
+
+    part_inside : (range_of held v).first + k < length held.ops
+    part_inside = omega (arith, inside, length-take (range_of held v).count (drop (range_of held v).first held.ops), length-drop (range_of held v).first held.ops)
+
+    part_op : op_at held.ops ((range_of held v).first + k) ≡ op_at (ops_of held v) k
+    part_op = sym (get_or-take (range_of held v).count (drop (range_of held v).first held.ops) k (op_at [] 0) part_below ∙ get_or-drop (range_of held v).first held.ops k (op_at [] 0))
+
+    part_number : slice_index numbers ((range_of held v).first + k) ≡ slice_index (for_value held numbers v) k
+    part_number = sym (get_or-take (range_of held v).count (drop (range_of held v).first numbers) k 0 part_below ∙ get_or-drop (range_of held v).first numbers k 0)
+
+module _ (file : List ℕ) (world : World) (r : Reading) (places : List Places) (u : ℕ) (holds : Holds file world r) (numbers : List ℕ) (numbered : AreOperationsNumbered world places u numbers) where
+  abbrev held : HeldOps
+  held = operations_at world.operations u
+
+  -- the operations of a value that name what they may have their new references
+  references_of : (v : ℕ) → ((k : ℕ) → k < length (ops_of (operations_at world.operations u) v) → (target : OpTarget) × Names r.links u (op_at (ops_of (operations_at world.operations u) v) k).code (op_at (ops_of (operations_at world.operations u) v) k).a target) → AreNewReferences r.links places u (ops_of (operations_at world.operations u) v) (for_value (operations_at world.operations u) numbers v)
+  references_of v named = record {
+    count = part_size held numbers numbered.size v;
+    fit = All-take (λ (n : ℕ). n < 2 ^ 32) (range_of held v).count (drop (range_of held v).first numbers) (All-drop (λ (n : ℕ). n < 2 ^ 32) (range_of held v).first numbers (All-from_get_or (λ (n : ℕ). n < 2 ^ 32) numbers 0 numbered.fit));
+    each = λ k inside.
+        let here : IsReferenceOf world places u (op_at held.ops ((range_of held v).first + k)) (slice_index numbers ((range_of held v).first + k)) = numbered.each ((range_of held v).first + k) (part_inside held numbers numbered.size v k inside) in
+        let own : IsReferenceOf world places u (op_at (ops_of held v) k) (slice_index (for_value held numbers v) k) = subst (λ (n : ℕ). IsReferenceOf world places u (op_at (ops_of held v) k) n) (part_number held numbers numbered.size v k inside) (subst (λ (o : Op). IsReferenceOf world places u o (slice_index numbers ((range_of held v).first + k))) (part_op held numbers numbered.size v k inside) here) in
+        let (target, names) = named k inside in
+        own file r target holds names;
+  }
+
+-- NEW EXPRESSIONS
+
+-- a number in a range is the first one and so many more
+number_within : (n first count : ℕ) → first ≤ n → n < first + count → (j : ℕ) × (first + j ≡ n) × (j < count)
+number_within n first count from to = (n - first, omega (arith, from), omega (arith, from, to))
+
+-- an expression is the value of an attribute that means something
+module _ (world : World) (u : ℕ) (is : IsWorldOf world.image Narrow world) (known : u < length world.units) (number : ℕ) (span : Span) (stands : IsExprAt (unit_in world.units u).forest number span) where
+  expression_means : (name : ℕ) × MeansSomething world u name (value.Expr span)
+  expression_means =
+      let same : unit_in world.units u ≡ head_and_forest (unit_at is.r.links u) = held_unit world.image world is.r u is.holds in
+      let read = unit_reads world.image world is.r u Narrow is is.holds known in
+      let here : IsExprAt (unit_at is.r.links u).forest number span = subst (λ (h : HeadAndForest). IsExprAt h.forest number span) same stands in
+      let (id, inside, from, to) = (owners (debug_info world.image) (debug_abbrev world.image) (unit_at is.r.links u) read).owned number here.inside in
+      let there : id < length (unit_in world.units u).forest.entries = subst (λ (h : HeadAndForest). id < length h.forest.entries) (sym same) inside in
+      let first : (entry_in world u id).first ≤ number = subst (λ (h : HeadAndForest). (entry_at h.forest.entries id).first ≤ number) (sym same) from in
+      let last : number < (entry_in world u id).first + (entry_in world u id).count = subst (λ (h : HeadAndForest). number < (entry_at h.forest.entries id).first + (entry_at h.forest.entries id).count) (sym same) to in
+      let (j, at, below) = number_within number (entry_in world u id).first (entry_in world u id).count first last in
+      let value_is : value_in world u id j ≡ value.Expr span = ap (value_at (unit_in world.units u).forest.values) at ∙ stands.is in
+      (name_in world u id j, subst (MeansSomething world u (name_in world u id j)) value_is (((unit_means world u Narrow is known).entries id there).means j below))
+
+module _ (file : List ℕ) (world : World) (r : Reading) (places : List Places) (u : ℕ) (own : HeadAndForest) (operations : HeldOps) (is : IsWorldOf world.image Narrow world) (holds : Holds file world r) (known : u < length world.units) (own_is : own ≡ unit_in world.units u) (operations_are : operations ≡ operations_at world.operations u) (numbers ends expressions : List ℕ) (numbered : AreOperationsNumbered world places u numbers) (written : AreWrittenPlain own.forest operations ends numbers expressions) where
+  own_written : AreWrittenPlain (unit_in world.units u).forest (operations_at world.operations u) ends numbers expressions
+  own_written =
+      subst (λ (h : HeadAndForest). AreWrittenPlain h.forest (operations_at world.operations u) ends numbers expressions) own_is (subst (λ (o : HeldOps). AreWrittenPlain own.forest o ends numbers expressions) operations_are written)
+
+  -- the bytes of each value are there
+  pub expressions_filled : (k : ℕ) → k < length (unit_in world.units u).forest.values → slice_index ends k ≤ length expressions
+  expressions_filled = own_written.all
+
+  -- each expression has its new bytes
+  pub expressions_made : (number : ℕ) (span : Span) → IsExprAt (unit_in world.units u).forest number span → IsNewExpression r.links places u (bytes_in (unit_in world.units u).forest.section span) (made_of ends expressions number)
+  expressions_made number span stands =
+      let means = expression_means world u is known number span stands in
+      let same : (unit_in world.units u).forest.section ≡ (unit_at r.links u).forest.section = ap (λ (h : HeadAndForest). h.forest.section) (held_unit file world r u holds) in
+      let narrow : IsExpression Narrow (all_meant (bytes_in (unit_in world.units u).forest.section span) (ops_of (operations_at world.operations u) number)) (bytes_in (unit_in world.units u).forest.section span) = (is.operations.each u (unit_in [] 0) known).spelled number span stands in
+      let wide : IsExpression Wide (all_meant (bytes_in (unit_in world.units u).forest.section span) (ops_of (operations_at world.operations u) number)) (bytes_in (unit_in world.units u).forest.section span) = narrow_wide _ _ narrow in
+      let read : IsExpression Wide (all_meant (bytes_in (unit_at r.links u).forest.section span) (ops_of (operations_at world.operations u) number)) (bytes_in (unit_at r.links u).forest.section span) = subst (λ (s : List ℕ). IsExpression Wide (all_meant (bytes_in s span) (ops_of (operations_at world.operations u) number)) (bytes_in s span)) same wide in
+      record {
+        ops = ops_of (operations_at world.operations u) number;
+        spelled = wide;
+        numbers = for_value (operations_at world.operations u) numbers number;
+        numbered = references_of file world r places u holds numbers numbered number (means_named file world r u holds means.0 span (ops_of (operations_at world.operations u) number) means.1 read);
+        written = own_written.each number span stands;
+      }
+
+-- ALL OF A UNIT
+
+-- a value that means an expression is one
+expression_span : (section : List ℕ) (v : Value) (bytes : List ℕ) → Expression bytes ≡ meant_in section v → (span : Span) × (v ≡ value.Expr span) × (bytes_in section span ≡ bytes)
+expression_span section (value.Expr span) bytes e = (span, refl, cc (e))
+expression_span section v bytes e = absurd (cc (e))
+
+-- a value has its new number, or its new bytes
+value_renewed : (r : Linkable) (places : List Places) (new_places : NewPlaces) (u id name : ℕ) (meaning : Meaning) (new : ℕ) (made : List ℕ) → IsNewNumber r places new_places u id name meaning new → ((bytes : List ℕ) → meaning ≡ Expression bytes → IsNewExpression r places u bytes made) → IsNewValue r places new_places u id name meaning new made
+value_renewed r places new_places u id name (Expression bytes) new made number expression = expression bytes refl
+value_renewed r places new_places u id name meaning new made number expression = number
+
+-- the new bytes of the expressions of a unit, as it is held
+abbrev MadeIn : Reading → List Places → ℕ → List ℕ → List ℕ → HeadAndForest → Type 0
+MadeIn r places u ends expressions h =
+    (number : ℕ) (span : Span) → IsExprAt h.forest number span → IsNewExpression r.links places u (bytes_in h.forest.section span) (made_of ends expressions number)
+
+module _ (file : List ℕ) (world : World) (r : Reading) (tables : List NewTable) (places : List Places) (new_places : NewPlaces) (u : ℕ) (reach : Reach) (own : HeadAndForest) (mine : Places) (new : NewNumbers) (is : IsWorldOf world.image reach world) (holds : Holds file world r) (known : u < length world.units) where
+  numbers_there : AreNumbered world places new_places u new.held.items → NumbersIn r places new_places u new.held.items (head_and_forest (unit_at r.links u)) (unit_at r.links u).table
+  numbers_there held =
+      let size : length world.units ≡ length r.links.units = held_count file world r holds in
+      let first : NumbersIn r places new_places u new.held.items (unit_in world.units u) (table_for world u) = λ id j a b. held.each id j a b file r id holds in
+      subst (NumbersIn r places new_places u new.held.items (head_and_forest (unit_at r.links u))) (table_known file world r u holds (omega (arith, size, known))) (subst (λ (h : HeadAndForest). NumbersIn r places new_places u new.held.items h (table_for world u)) (held_unit file world r u holds) first)
+
+  made_there : MadeIn r places u new.ends.items new.expressions.items (unit_in world.units u) → (id number name : ℕ) (bytes : List ℕ) (place : ℕ) → HasValueAt (unit_at r.links u) id number name (Expression bytes) place → IsNewExpression r.links places u bytes (made_of new.ends.items new.expressions.items number)
+  made_there made id number name bytes place h =
+      let all : MadeIn r places u new.ends.items new.expressions.items (head_and_forest (unit_at r.links u)) = subst (MadeIn r places u new.ends.items new.expressions.items) (held_unit file world r u holds) made in
+      let (inside, here) = value_among (debug_info world.image) (debug_abbrev world.image) (unit_at r.links u) (unit_reads file world r u reach is holds known) id number name (Expression bytes) place h in
+      let (span, is_span, same) = expression_span (unit_at r.links u).forest.section h.value bytes h.meant in
+      subst (λ (z : List ℕ). IsNewExpression r.links places u z (made_of new.ends.items new.expressions.items number)) same (all number span (record { inside = inside; is = here ∙ is_span }))
+
+  pub are_new_numbers : own ≡ unit_in world.units u → places_anew mine ≡ places_at places u → new.end ≡ mine.end → new.table ≡ (new_table_at tables (slice_index world.table_of u)).at → IsTypeMoved own (places_anew mine) new.type_offset → AreNumbered world places new_places u new.held.items → AreEndsIn world u new.ends.items → ((k : ℕ) → k < length (unit_in world.units u).forest.values → slice_index new.ends.items k ≤ length new.expressions.items) → ((number : ℕ) (span : Span) → IsExprAt (unit_in world.units u).forest number span → IsNewExpression r.links places u (bytes_in (unit_in world.units u).forest.section span) (made_of new.ends.items new.expressions.items number)) → AreNewNumbers world r.links tables places new_places u new
+  are_new_numbers own_is mine_is end table_is type held ends filled made = record {
+    ends = end ∙ ap (λ (p : PlacesAnew). p.end) mine_is;
+    table_at = table_is;
+    type_at = type_moved file world r places u own mine new.type_offset holds own_is mine_is type;
+    type_fits = type.fits;
+    count = held.size.1 refl ∙ ap (λ (h : HeadAndForest). length h.forest.values) (held_unit file world r u holds);
+    fit = All-from_get_or (λ (number : ℕ). number < 2 ^ 32) new.held.items 0 (λ k within. held.fit k within);
+    ends_are = ends;
+    filled = subst (λ (h : HeadAndForest). (k : ℕ) → k < length h.forest.values → slice_index new.ends.items k ≤ length new.expressions.items) (held_unit file world r u holds) filled;
+    each = λ id number name meaning place h.
+        value_renewed r.links places new_places u id name meaning (slice_index new.held.items number) (made_of new.ends.items new.expressions.items number) (attribute_numbered r places new_places u new.held.items (debug_info world.image) (debug_abbrev world.image) (unit_reads file world r u reach is holds known) (numbers_there held) id number name meaning place h) (λ bytes same.
+        made_there made id number name bytes place (subst (λ (m : Meaning). HasValueAt (unit_at r.links u) id number name m place) same h));
+  }

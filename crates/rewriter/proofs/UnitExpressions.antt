@@ -1,0 +1,37 @@
+-- What the writer of expressions asks of a unit that is held.
+use Rattle.std.proofs.Common.{◌≡◌, ◌≤◌, ◌<◌, ◌*◌, ◌^◌, ◌∙◌, ℕ, List, [], length, slice_index, get_or, sym, ap, refl, subst, arith}
+use Rattle.std.proofs.lemmas.List.{get_or_read}
+use Rattle.dw_base.specs.declared.fault.Reach.TheVariants.{Narrow}
+use Rattle.entry_arena.specs.Operations.{HeldOps}
+use Rattle.entry_read.specs.Expressions.{HasOperations}
+use Rattle.entry_read.specs.Units.{HeadAndForest}
+use Rattle.unit_write.specs.NewExpressions.{ArePlainEnds}
+use Rattle.value_links.specs.Sections.{debug_info, info_name}
+use Rattle.value_links.specs.World.{World, operations_at, IsWorldOf}
+use Rattle.rewriter.specs.inside.Placed.{unit_in, AreEndsIn}
+use Rattle.rewriter.proofs.DebugSizes.{debug_short}
+use Rattle.rewriter.proofs.Standing.{held_unit}
+use Rattle.rewriter.proofs.Final.{unit_reads}
+
+-- the number of a unit's table, as it is read
+pub number_read : (world : World) (u : ℕ) (table_of : List ℕ) (i : ℕ) → u < length world.table_of → table_of ≡ world.table_of → i ≡ get_or table_of u i → i ≡ slice_index world.table_of u
+number_read world u table_of i inside same is = get_or_read world.table_of u i inside (subst (λ (z : List ℕ). i ≡ get_or z u i) same is) 0
+
+module _ (world : World) (u : ℕ) (own : HeadAndForest) (operations : HeldOps) (is : IsWorldOf world.image Narrow world) (known : u < length world.units) (own_is : own ≡ unit_in world.units u) (operations_are : operations ≡ operations_at world.operations u) where
+  -- the operations are those of its expressions
+  pub operations_there : HasOperations Narrow own.forest operations
+  operations_there =
+      subst (λ (h : HeadAndForest). HasOperations Narrow h.forest operations) (sym own_is) (subst (HasOperations Narrow (unit_in world.units u).forest) (sym operations_are) (is.operations.each u (unit_in [] 0) known))
+
+  -- the new expressions of a section within the narrow limits fit 32 bits
+  pub section_room : 3 * length own.forest.section < 2 ^ 32
+  section_room =
+      let read = unit_reads world.image world is.r u Narrow is is.holds known in
+      let same : own.forest.section ≡ debug_info world.image = ap (λ (h : HeadAndForest). h.forest.section) (own_is ∙ held_unit world.image world is.r u is.holds) ∙ read.section in
+      let short : length (debug_info world.image) ≤ 2 ^ 28 = debug_short world.image info_name refl is.valid in
+      omega (arith, ap length same, short)
+
+  -- the ends that were found are those of the unit
+  pub ends_in : (ends : List ℕ) → ArePlainEnds own.forest operations ends → AreEndsIn world u ends
+  ends_in ends are =
+      subst (λ (h : HeadAndForest). ArePlainEnds h.forest (operations_at world.operations u) ends) own_is (subst (λ (o : HeldOps). ArePlainEnds own.forest o ends) operations_are are)
