@@ -15,6 +15,7 @@ import sys
 import tempfile
 
 from compare_units import size
+from shrinking import shrink
 
 TOP = os.path.dirname(os.path.dirname(os.path.abspath(__file__)))
 
@@ -91,11 +92,9 @@ def compile_all(folder):
 
 def compare(program, path, out):
     """'same', 'refused', or what differs."""
-    run = subprocess.run([program, "shrink", path, out], capture_output=True, text=True)
-    if run.returncode == 3:
-        return "refused", run.stdout.strip()
-    if run.returncode != 0:
-        return "differs", f"status {run.returncode}"
+    answer, words = shrink(program, path, out)
+    if answer != "written":
+        return answer, words
     if entries_with_ranges(path) != entries_with_ranges(out):
         return "differs", "the ranges of entries"
     # readelf 2.40 shows 0 for the second index of DW_RLE_startx_endx, so that files with an address table are left out

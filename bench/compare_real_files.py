@@ -16,6 +16,8 @@ import subprocess
 import sys
 import tempfile
 
+from shrinking import shrink
+
 TOP = os.path.dirname(os.path.dirname(os.path.abspath(__file__)))
 SECTION = re.compile(
     r"^\s*\[\s*(\d+)\]\s(.*?)\s+([A-Z_0-9+<>: a-f]+?)\s+([0-9a-f]{16}) ([0-9a-f]{6,}) ([0-9a-f]{6,}) ([0-9a-f]{2,})\s+(\S*)\s+(\d+)\s+(\d+)\s+(\d+)$"
@@ -101,10 +103,10 @@ def main():
         out = os.path.join(scratch, "out")
         for file in elf_files(options.folders):
             tried += 1
-            run = subprocess.run([options.program, "shrink", file, out], capture_output=True, text=True)
-            if run.returncode == 3:
-                refused[run.stdout.split()[1]] += 1
-            elif run.returncode == 0:
+            answer, words = shrink(options.program, file, out)
+            if answer == "refused":
+                refused[words.split()[1]] += 1
+            elif answer == "written":
                 done += 1
                 found = differences(file, out)
                 if found:
@@ -112,7 +114,7 @@ def main():
                     print(f"{file}: {', '.join(found[:5])}")
             else:
                 wrong += 1
-                print(f"{file}: status {run.returncode}, said {run.stdout!r}")
+                print(f"{file}: {words}")
             if os.path.exists(out):
                 os.remove(out)
     print(f"{tried} ELF files, {done} written, {sum(refused.values())} refused, {wrong} differ")

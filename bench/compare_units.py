@@ -1,6 +1,7 @@
 #!/usr/bin/env python3
 """Compiles C sources with gcc and clang, runs the program on the result, and compares what readelf shows of units, entries and
-sets of address ranges before and after, with every offset replaced by the number of what stands there. Forms aren't compared.
+sets of address ranges before and after, with every offset replaced by the number of what stands there. Forms aren't compared, and
+of an expression its operations are, without their bytes and the distances of branches.
 
   bench/compare_units.py [--program PROGRAM] [FILE ..]
 
@@ -13,6 +14,8 @@ import re
 import subprocess
 import sys
 import tempfile
+
+from shrinking import shrink
 
 TOP = os.path.dirname(os.path.dirname(os.path.abspath(__file__)))
 
@@ -75,6 +78,8 @@ ENTRY = re.compile(r"^ <([0-9a-f]+)><([0-9a-f]+)>: Abbrev Number: (\d+)(?: \((\w
 UNIT = re.compile(r"^  (?:Compilation|Type) Unit @ offset (?:0x)?([0-9a-f]+)")
 # a reference is the whole value; in an expression it may be the index of an address
 OF_INFO = re.compile(r"^<0x([0-9a-f]+)>")
+# an expression: its bytes, and what readelf says of its operations
+EXPRESSION = re.compile(r"^\d+ byte block:[ 0-9a-f]*\t?\((.*)\)\s*$")
 # a whole number, which is shown in hexadecimal where its form is data8
 WHOLE = re.compile(r"^(?:0x[0-9a-f]+|-?[0-9]+)(?=\s|$)")
 
@@ -103,6 +108,16 @@ def places(lines):
         elif m := ENTRY.match(line):
             items[int(m[2], 16)] = f"item {len(items)}"
     return units, items
+
+
+def operations(words, number):
+    """What readelf says of an expression, with the numbers of the entries that operations name."""
+    out = []
+    for operation in words.split("; "):
+        if not operation.startswith(("DW_OP_addrx", "DW_OP_constx")):
+            operation = re.sub(r"<0x([0-9a-f]+)>", number, operation)
+        out.append(re.sub(r"^(DW_OP_(?:bra|skip)): .*", r"\1", operation))
+    return out
 
 
 def described(path):
@@ -134,6 +149,13 @@ def described(path):
                 lost += at not in items
                 return "<" + items.get(at, "nothing") + ">"
 
+            if expression := EXPRESSION.match(value):
+                out.append(f"{name} {operations(expression[1], number)}")
+                continue
+            if name in ("DW_AT_ranges", "DW_AT_rnglists_base"):
+                # what lists mean is compared by compare_ranges.py
+                out.append(name)
+                continue
             # the code of the entry that is named is no part of what it means
             out.append(f"{name} {re.sub(r'Abbrev Number: [0-9]+ ', '', OF_INFO.sub(number, value))}")
         elif line.strip():
@@ -175,11 +197,9 @@ def compile_all(folder):
 
 def compare(program, path, out):
     """'same', 'refused', or what differs."""
-    run = subprocess.run([program, "shrink", path, out], capture_output=True, text=True)
-    if run.returncode == 3:
-        return "refused", run.stdout.strip()
-    if run.returncode != 0:
-        return "differs", f"status {run.returncode}"
+    answer, words = shrink(program, path, out)
+    if answer != "written":
+        return answer, words
     before, lost = described(path)
     after, lost_after = described(out)
     if before != after:

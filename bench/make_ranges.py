@@ -1,11 +1,12 @@
 #!/usr/bin/env python3
 """Writes an ELF file with many range lists for the measures.
 
-  bench/make_ranges.py FILE [--items N] [--longest N] [--table N] [--lists N] [--random]
+  bench/make_ranges.py FILE [--items N] [--longest N] [--table N] [--lists N] [--random] [--even]
 
 One unit, with an entry for each list. Defaults: 1,000,000 items in lists of 1 to 50, without an address table, in order of address.
 --lists N gives N lists of --longest items each. --table N gives the unit an address table with the starts of N functions, of which
-some are items' starts. --random draws the items of a list in any order. The lists are written as a compiler writes them: a base
+some are items' starts. --even gives items that are functions of the table, evenly spaced and in order: for each item many bases save
+as many bytes, so that the search for the shortest list has the most to keep. --random draws the items of a list in any order. The lists are written as a compiler writes them: a base
 address and offsets, or indexes where there is a table. The same words give the same bytes.
 """
 import argparse
@@ -25,6 +26,14 @@ def lengths(rng, arguments):
         counts.append(min(left, rng.randrange(1, arguments.longest + 1)))
         left -= counts[-1]
     return counts
+
+
+def even_bytes(count, functions):
+    """A list of functions of the table, in order."""
+    out = bytearray()
+    for i in range(count):
+        out += bytes([STARTX_LENGTH]) + uleb(i % len(functions)) + uleb(48)
+    return bytes(out) + b"\0"
 
 
 def list_bytes(rng, start, count, functions, shuffled):
@@ -58,12 +67,16 @@ def main():
     parser.add_argument("--lists", type=int, default=0)
     parser.add_argument("--table", type=int, default=0)
     parser.add_argument("--random", action="store_true")
+    parser.add_argument("--even", action="store_true")
     arguments = parser.parse_args()
     rng = random.Random(7)
     functions = [0x400000 + 64 * i for i in range(arguments.table)]
     section, places, address = bytearray(12), [], 0x400000
     for count in lengths(rng, arguments):
         places.append(len(section))
+        if arguments.even:
+            section += even_bytes(count, functions)
+            continue
         one, address = list_bytes(rng, address, count, functions, arguments.random)
         section += one
     section[:12] = struct.pack("<IHBBI", len(section) - 4, 5, 8, 0, 0)

@@ -78,13 +78,14 @@ def main():
     parser.add_argument("--values", type=int, default=2_000_000, help="values drawn, each of which is read 64 times")
     parser.add_argument("--columns", type=int, default=10_000_000, help="values of columns, summed in each form")
     parser.add_argument("--items", type=int, default=1_000_000, help="ranges, in lists of 1 to 50")
+    parser.add_argument("--operations", type=int, default=10_000_000, help="operations of expressions, read and written")
     parser.add_argument("--runs", type=int, default=3)
     options = parser.parse_args()
     if not os.path.exists(options.program):
         sys.exit(f"{options.program} is missing: run `rt run` in crates/measure")
     with tempfile.TemporaryDirectory(dir=os.environ.get("TMPDIR")) as scratch:
-        names = ("lines", "steps", "pairs", "layout", "values", "columns", "entries", "ranges")
-        lines, steps, pairs, layout, values, columns, entries, ranges = (build(name, scratch) for name in names)
+        names = ("lines", "steps", "pairs", "layout", "values", "columns", "entries", "ranges", "expressions")
+        lines, steps, pairs, layout, values, columns, entries, ranges, expressions = (build(name, scratch) for name in names)
         section = os.path.join(scratch, "section")
         units = os.path.join(scratch, "units")
         for script, file in (("make_lines.py", section), ("make_entries.py", units)):
@@ -97,6 +98,8 @@ def main():
         same &= measure(options.program, values, "values", [str(options.values)], ["values", "bytes"], options.runs)
         same &= measure(options.program, columns, "columns", [str(options.columns)], ["values"], options.runs)
         same &= measure(options.program, entries, "entries", [units], ["entries", "values"], options.runs)
+        count = [str(options.operations)]
+        same &= measure(options.program, expressions, "expressions", count, ["operations", "bytes"], options.runs)
         for shape, items in (
             ("lists", options.items),
             ("indexed-lists", options.items),
