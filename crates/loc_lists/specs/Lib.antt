@@ -1,0 +1,5 @@
+pub mod Apart
+pub mod Laws
+pub mod Locations
+pub mod Views
+pub mod inside
