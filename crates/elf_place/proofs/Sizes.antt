@@ -84,7 +84,7 @@ module _ (file new : List ℕ) (bodies : List NewBody) (laid : IsLaidOut file (b
       Stand-within new bytes laid.order (fixed_end_of file) laid.end i among.0 laid.sections among.1 among.2
 
   -- the movable sections have no more bytes than the wide limit
-  pub movable-new : section_count new ≡ section_count file → ((i : ℕ) → i < section_count file → is_movable new i ≡ is_movable file i) → movable_bytes file (section_count file) ≤ 2 ^ 30 → bytes_of bodies ≤ 5 * 2 ^ 32 → movable_bytes new (section_count new) ≤ 2 ^ 35
+  pub movable-new : section_count new ≡ section_count file → ((i : ℕ) → i < section_count file → is_movable new i ≡ is_movable file i) → movable_bytes file (section_count file) ≤ 2 ^ 30 → bytes_of bodies ≤ 6 * 2 ^ 32 → movable_bytes new (section_count new) ≤ 2 ^ 35
   movable-new same still light small =
       let one : (i : ℕ) → i < section_count file → if_movable new (size_of new) i ≤ if_movable file (λ k. length (bytes k)) i = λ i lt. elim (cases_Bool (is_movable file i)) [
         | inl moves ↦
@@ -113,6 +113,6 @@ module _ (file new : List ℕ) (bodies : List NewBody) (laid : IsLaidOut file (b
       omega (arith, total-room file (body_after file bodies) count, movable-after file bodies count)
 
   -- the whole file has no more bytes than the wide limit
-  pub length-new : section_count new ≡ section_count file → section_count file ≤ 65279 → fixed_end_of file ≤ 2 ^ 30 → movable_bytes file (section_count file) ≤ 2 ^ 30 → bytes_of bodies ≤ 5 * 2 ^ 32 → length new ≤ 2 ^ 35
+  pub length-new : section_count new ≡ section_count file → section_count file ≤ 65279 → fixed_end_of file ≤ 2 ^ 30 → movable_bytes file (section_count file) ≤ 2 ^ 30 → bytes_of bodies ≤ 6 * 2 ^ 32 → length new ≤ 2 ^ 35
   length-new same few low light small =
       omega (arith, laid.whole, next-near laid.end 8 (sections_at new) laid.table, end-near)

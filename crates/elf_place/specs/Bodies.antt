@@ -31,7 +31,7 @@ AreApart = AllPairs (λ one other. one.section ≢ other.section)
 abbrev pub bytes_of : List NewBody → ℕ
 bytes_of = sum_by (λ (new : NewBody). length new.bytes.items)
 
--- few bytes: each body has fewer than 2 ^ 32 bytes, and all of them together no more than five such
+-- few bytes: each body has fewer than 2 ^ 32 bytes, and all of them together no more than six such
 pub record AreSmall (bodies : List NewBody) : Type 0 where
   pub each : All (λ (new : NewBody). length new.bytes.items < 2 ^ 32) bodies
-  pub all : bytes_of bodies ≤ 5 * 2 ^ 32
+  pub all : bytes_of bodies ≤ 6 * 2 ^ 32

@@ -12,6 +12,7 @@ use Rattle.list_model.proofs.EntryLaws.{one_kind, same_entry}
 use Rattle.list_least.specs.declared.pick.Pick.{Pick}
 use Rattle.list_least.specs.Plans.{entries_bytes, IsPick, ArePicks}
 use Rattle.list_least.specs.Shortest.{FitOperands}
+use Rattle.list_write.specs.Written.{HasExpressions}
 
 -- stands for what is past the end
 abbrev pub no_entry : Entry
@@ -43,17 +44,24 @@ picked_count kind (pick ∷ picks) (entry ∷ entries) picked = ap suc (picked_c
 picked_count kind [] (entry ∷ entries) picked = absurd picked
 picked_count kind (pick ∷ picks) [] picked = absurd picked
 
--- what is picked has so many bytes
-pub picked_bytes : (kind : ListKind) (picks : List Pick) (entries others : List Entry) → ArePicks kind picks entries → ArePicks kind picks others → entries_bytes entries ≡ entries_bytes others
-picked_bytes kind [] [] [] x y = refl
-picked_bytes kind (pick ∷ picks) (entry ∷ entries) (other ∷ others) x y =
+-- what is picked are these entries alone
+one_picked : (kind : ListKind) (picks : List Pick) (entries others : List Entry) → ArePicks kind picks entries → ArePicks kind picks others → entries ≡ others
+one_picked kind [] [] [] x y = refl
+one_picked kind (pick ∷ picks) (entry ∷ entries) (other ∷ others) x y =
     let same : entry ≡ other = same_entry entry other (one_kind kind entry.kind other.kind pick.code x.0.code y.0.code) (sym x.0.a ∙ y.0.a) (sym x.0.b ∙ y.0.b) in
-    let bytes : entry_bytes entry.kind entry.a entry.b ≡ entry_bytes other.kind other.a other.b = ap (λ (z : Entry). entry_bytes z.kind z.a z.b) same in
-    omega (arith, bytes, picked_bytes kind picks entries others x.1 y.1)
-picked_bytes kind [] (entry ∷ entries) others x y = absurd x
-picked_bytes kind [] [] (other ∷ others) x y = absurd y
-picked_bytes kind (pick ∷ picks) [] others x y = absurd x
-picked_bytes kind (pick ∷ picks) (entry ∷ entries) [] x y = absurd y
+    ap (λ (z : Entry). z ∷ entries) same ∙ ap (λ (z : List Entry). other ∷ z) (one_picked kind picks entries others x.1 y.1)
+one_picked kind [] (entry ∷ entries) others x y = absurd x
+one_picked kind [] [] (other ∷ others) x y = absurd y
+one_picked kind (pick ∷ picks) [] others x y = absurd x
+one_picked kind (pick ∷ picks) (entry ∷ entries) [] x y = absurd y
+
+-- they have so many bytes
+pub picked_bytes : (kind : ListKind) (picks : List Pick) (entries others : List Entry) → ArePicks kind picks entries → ArePicks kind picks others → entries_bytes entries ≡ entries_bytes others
+picked_bytes kind picks entries others x y = ap entries_bytes (one_picked kind picks entries others x y)
+
+-- and so many expressions
+pub has_picked : (kind : ListKind) (picks : List Pick) (entries others : List Entry) (expressions : List (List ℕ)) → ArePicks kind picks entries → ArePicks kind picks others → HasExpressions kind entries expressions → HasExpressions kind others expressions
+has_picked kind picks entries others expressions x y = subst (λ (z : List Entry). HasExpressions kind z expressions) (one_picked kind picks entries others x y)
 
 -- one more pick
 pub picked_more : (kind : ListKind) (picks : List Pick) (entries : List Entry) (pick : Pick) (entry : Entry) → ArePicks kind picks entries → IsPick kind pick entry → ArePicks kind (picks ++ pick ∷ []) (entries ++ entry ∷ [])

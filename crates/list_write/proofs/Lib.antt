@@ -1,4 +1,6 @@
+pub mod ApartLaws
 pub mod Entries
+pub mod Pieces
 pub mod Placing
 pub mod Putting
 pub mod Ready

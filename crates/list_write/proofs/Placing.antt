@@ -8,12 +8,12 @@ use Rattle.list_model.specs.declared.contribution.Contribution.{Contribution}
 use Rattle.list_model.specs.Contributions.{part_end}
 use Rattle.list_write.specs.declared.image.Moved.{Moved}
 use Rattle.list_write.specs.declared.named.NamedList.{NamedList}
-use Rattle.list_write.specs.Written.{ToWrite, to_write, part_at, list_at, moved_at}
+use Rattle.list_write.specs.Written.{ToWrite, to_write, full_size, part_at, list_at, moved_at}
 use Rattle.list_write.specs.inside.Places.{front_size, front_sizes, size_of, list_sizes, IsFirst, PartsRise, AreKnown, AreAppended, IsPlacedPart, IsPlacedList, ArePlacedTo, ArePlaced}
 
 -- what stands for those past the end
 abbrev pub no_list : ToWrite
-no_list = record { part = 0; at = 0; picks = []; size = 0 }
+no_list = record { part = 0; at = 0; picks = []; size = 0; expressions = [] }
 
 abbrev pub no_move : Moved
 no_move = record { old = 0; new = 0 }
@@ -26,7 +26,7 @@ pub to_write_at : (lists : List NamedList) (k : ℕ) (list : NamedList) → k < 
 to_write_at lists k list inside is = get_or-map to_write lists k list no_list inside ∙ ap to_write (sym is)
 
 -- the sizes of one more list
-pub sizes_more : (lists : List ToWrite) (k : ℕ) → k < length lists → list_sizes lists (k + 1) ≡ list_sizes lists k + (list_at lists k).size
+pub sizes_more : (lists : List ToWrite) (k : ℕ) → k < length lists → list_sizes lists (k + 1) ≡ list_sizes lists k + full_size (list_at lists k)
 sizes_more lists k inside = sum_by_more size_of lists k no_list inside
 
 -- sums of fronts rise

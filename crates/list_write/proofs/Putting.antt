@@ -1,10 +1,9 @@
 -- What is put behind other bytes.
 use Rattle.std.proofs.Common.{◌≡◌, ◌<◌, ◌+◌, ◌-◌, ◌*◌, ◌∙◌, ℕ, List, [], ◌∷◌, ◌++◌, length, get_or, take, sym, ap, refl, subst, arith, inl, inr}
-use Rattle.std.specs.Prelude.{Some}
+use Rattle.std.specs.Prelude.{Some, true, false}
 use Rattle.std.proofs.lemmas.Bool.{cases_lt}
 use Rattle.std.proofs.lemmas.List.{append_assoc, length-append, take_more}
-use Rattle.spelled.specs.Spelled.{Joined, Appends}
-use Rattle.spelled.proofs.Joins.{appends_more}
+use Rattle.spelled.specs.Spelled.{Appends}
 use Rattle.leb_codec.specs.Digits.{Extends}
 use Rattle.form_codec.specs.declared.form.Width.TheVariants.{Four, Eight}
 use Rattle.form_codec.specs.Written.{low_bytes}
@@ -17,12 +16,12 @@ use Rattle.list_model.specs.Entries.{Entry, code_of, first_operand, second_opera
 use Rattle.list_model.proofs.EntryLaws.{one_kind}
 use Rattle.list_least.specs.declared.pick.Pick.{Pick}
 use Rattle.list_least.specs.Plans.{entries_bytes, IsPick, ArePicks}
-use Rattle.list_least.specs.Shortest.{FitsOperand, ShortestEntry, ShortestList}
-use Rattle.list_least.proofs.Shortest.{shortest_lists}
+use Rattle.list_least.specs.Shortest.{FitsOperand, ShortestEntry}
 use Rattle.list_write.specs.declared.image.Moved.{Moved}
-use Rattle.list_write.specs.Written.{ToWrite, list_at}
+use Rattle.list_write.specs.Written.{ToWrite, HasExpressions, ShortestWith, full_size, list_at}
 use Rattle.list_write.specs.inside.Places.{list_sizes}
-use Rattle.list_write.specs.inside.Puts.{ShortestOperand, told_at, IsMovedFrom, IsSlotPut, AreSlotsPut, ListStands, AreListsPut, IsSized}
+use Rattle.list_write.specs.inside.Puts.{ShortestOperand, ShortestExpression, carries, AreEntriesPut, told_at, IsMovedFrom, IsSlotPut, AreSlotsPut, ListStands, AreListsPut, IsSized}
+use Rattle.list_write.proofs.ApartLaws.{next_inside, put_plain, put_carrying, with_size}
 use Rattle.list_write.proofs.Entries.{no_entry, picked_at, picked_count}
 use Rattle.list_write.proofs.Placing.{sizes_more}
 use Rattle.list_write.proofs.Standing.{extends_none, extends_more, stand_last, stand_more}
@@ -47,17 +46,21 @@ entry_put kind pick entry of_code old a b new known is e first second =
     let size : length (x.0 ++ y.0) ≡ length x.0 + length y.0 = length-append x.0 y.0 in
     (pick.code ∷ (x.0 ++ y.0), (record { code = pick.code; operands = x.0 ++ y.0; known = is.code; spelled = (x.0, y.0, x.1.0, y.1.0, refl); whole = refl }, omega (arith, size, x.1.1, y.1.1)), whole)
 
--- the entries so far, and one more
-pub entries_put : (kind : ListKind) (picks : List Pick) (entries : List Entry) (d : Pick) (i : ℕ) (old mid new : List ℕ) → i < length picks → ArePicks kind picks entries → Appends (Joined (ShortestEntry kind)) (take i entries) old mid → ((entry : Entry) → IsPick kind (get_or picks i d) entry → Appends (ShortestEntry kind) entry mid new) → Appends (Joined (ShortestEntry kind)) (take (i + 1) entries) old new
-entries_put kind picks entries d i old mid new inside picked so_far more =
+-- the entries so far, and one more that has no expression
+pub plain_put : (kind : ListKind) (picks : List Pick) (entries : List Entry) (expressions : List (List ℕ)) (d : Pick) (i next : ℕ) (old mid new : List ℕ) → i < length picks → ArePicks kind picks entries → AreEntriesPut kind (take i entries) expressions next old mid → false ≡ carries kind (get_or entries i no_entry).kind → ((entry : Entry) → IsPick kind (get_or picks i d) entry → Appends (ShortestEntry kind) entry mid new) → AreEntriesPut kind (take (i + 1) entries) expressions next old new
+plain_put kind picks entries expressions d i next old mid new inside picked so_far has more =
     let count = picked_count kind picks entries picked in
     let e = take_more entries i no_entry (omega (arith, count)) in
-    subst (λ (z : List Entry). Appends (Joined (ShortestEntry kind)) z old new) (sym e) (appends_more (ShortestEntry kind) (take i entries) (get_or entries i no_entry) old mid new so_far (more (get_or entries i no_entry) (picked_at kind picks entries picked i d no_entry inside)))
+    subst (λ (z : List Entry). AreEntriesPut kind z expressions next old new) (sym e) (put_plain kind (take i entries) (get_or entries i no_entry) expressions next old mid new so_far (sym has) (more (get_or entries i no_entry) (picked_at kind picks entries picked i d no_entry inside)))
 
--- the entries, and the end
-pub list_put : (kind : ListKind) (entries : List Entry) (old mid new : List ℕ) → Appends (Joined (ShortestEntry kind)) entries old mid → new ≡ mid ++ 0 ∷ [] → Appends (ShortestList kind) entries old new
-list_put kind entries old mid new (front, joined, e) f =
-    (front ++ 0 ∷ [], (front, 0 ∷ [], joined, refl, refl), f ∙ ap (λ z. z ++ 0 ∷ []) e ∙ append_assoc old front (0 ∷ []))
+-- and one more that has one
+pub carrying_put : (kind : ListKind) (picks : List Pick) (entries : List Entry) (expressions : List (List ℕ)) (expression : List ℕ) (d : Pick) (i next : ℕ) (old mid a new : List ℕ) → i < length picks → ArePicks kind picks entries → HasExpressions kind entries expressions → AreEntriesPut kind (take i entries) expressions next old mid → true ≡ carries kind (get_or entries i no_entry).kind → expression ≡ get_or expressions next [] → ((entry : Entry) → IsPick kind (get_or picks i d) entry → Appends (ShortestEntry kind) entry mid a) → Appends ShortestExpression expression a new → AreEntriesPut kind (take (i + 1) entries) expressions (next + 1) old new
+carrying_put kind picks entries expressions expression d i next old mid a new inside picked carried so_far has at more behind =
+    let count = picked_count kind picks entries picked in
+    let within : i < length entries = omega (arith, count, inside) in
+    let e = take_more entries i no_entry within in
+    let among = next_inside kind entries expressions no_entry i next carried within so_far.counted (sym has) in
+    subst (λ (z : List Entry). AreEntriesPut kind z expressions (next + 1) old new) (sym e) (put_carrying kind (take i entries) (get_or entries i no_entry) expressions expression next old mid a new so_far (sym has) among at (more (get_or entries i no_entry) (picked_at kind picks entries picked i d no_entry inside)) behind)
 
 -- ---- lists
 
@@ -65,29 +68,29 @@ pub lists_none : (kind : ListKind) (lists : List ToWrite) (old : List ℕ) → A
 lists_none kind lists old = record { extends = extends_none old; size = omega arith; each = λ k less. absurd (omega arith) }
 
 -- a list has stood since it was put, or it is the last one
-list_stands : (kind : ListKind) (lists : List ToWrite) (count : ℕ) (old mid new : List ℕ) → AreListsPut kind lists count old mid → ((entries : List Entry) → ArePicks kind (list_at lists count).picks entries → Appends (ShortestList kind) entries mid new) → Extends mid new → (k : ℕ) → k < count + 1 → ListStands kind (list_at lists k) (length old + list_sizes lists k) new
+list_stands : (kind : ListKind) (lists : List ToWrite) (count : ℕ) (old mid new : List ℕ) → AreListsPut kind lists count old mid → ((entries : List Entry) → ArePicks kind (list_at lists count).picks entries → Appends (λ (expressions : List (List ℕ)) (bytes : List ℕ). (bare : List ℕ) × ShortestWith kind entries expressions bytes bare) (list_at lists count).expressions mid new) → Extends mid new → (k : ℕ) → k < count + 1 → ListStands kind (list_at lists k) (length old + list_sizes lists k) new
 list_stands kind lists count old mid new so_far more extends k less =
     elim (cases_lt k count) [
       | inl before ↦ λ entries picked.
           let there = so_far.each k before entries picked in
-          (there.0, there.1, stand_more (length old + list_sizes lists k) there.0 mid new extends there.2)
+          (there.0, there.1, there.2, stand_more (length old + list_sizes lists k) there.0 mid new extends there.3)
       | inr past ↦
           let same : count ≡ k = omega arith in
           subst (λ (z : ℕ). ListStands kind (list_at lists z) (length old + list_sizes lists z) new) same (λ entries picked.
           let put = more entries picked in
-          (put.0, put.1, stand_last mid put.0 new (length old + list_sizes lists count) put.2 so_far.size))
+          (put.0, put.1.0, put.1.1, stand_last mid put.0 new (length old + list_sizes lists count) put.2 so_far.size))
     ]
 
-pub lists_more : (kind : ListKind) (lists : List ToWrite) (count : ℕ) (old mid new : List ℕ) → count < length lists → AreListsPut kind lists count old mid → IsSized kind (list_at lists count) → ((entries : List Entry) → ArePicks kind (list_at lists count).picks entries → Appends (ShortestList kind) entries mid new) → AreListsPut kind lists (count + 1) old new
+pub lists_more : (kind : ListKind) (lists : List ToWrite) (count : ℕ) (old mid new : List ℕ) → count < length lists → AreListsPut kind lists count old mid → IsSized kind (list_at lists count) → ((entries : List Entry) → ArePicks kind (list_at lists count).picks entries → Appends (λ (expressions : List (List ℕ)) (bytes : List ℕ). (bare : List ℕ) × ShortestWith kind entries expressions bytes bare) (list_at lists count).expressions mid new) → AreListsPut kind lists (count + 1) old new
 lists_more kind lists count old mid new inside so_far sized more =
     let put = more sized.entries sized.picked in
     let extends : Extends mid new = (put.0, put.2) in
-    let bytes : length put.0 ≡ entries_bytes sized.entries + 1 = shortest_lists.size kind sized.entries put.0 put.1 in
+    let bytes = with_size kind sized.entries (list_at lists count).expressions put.0 put.1.0 sized.carried put.1.1 in
     let all : length new ≡ length mid + length put.0 = ap length put.2 ∙ length-append mid put.0 in
-    let sizes : list_sizes lists (count + 1) ≡ list_sizes lists count + (list_at lists count).size = sizes_more lists count inside in
+    let sizes : list_sizes lists (count + 1) ≡ list_sizes lists count + full_size (list_at lists count) = sizes_more lists count inside in
     let own : (list_at lists count).size ≡ entries_bytes sized.entries + 1 = sized.bytes in
     let before : length mid ≡ length old + list_sizes lists count = so_far.size in
-    record { extends = extends_more old mid new so_far.extends extends; size = omega arith; each = list_stands kind lists count old mid new so_far more extends }
+    record { extends = extends_more old mid new so_far.extends extends; size = omega (arith, bytes, all, sizes, own, before); each = list_stands kind lists count old mid new so_far more extends }
 
 -- ---- slots
 

@@ -11,7 +11,7 @@ use Rattle.list_model.specs.declared.entry.ListKind.{ListKind}
 use Rattle.list_model.specs.Contributions.{offsets_at, lists_at, part_end, IsContribution, ContributionsFollow}
 use Rattle.list_model.proofs.Tiling.{before, each_part}
 use Rattle.list_write.specs.declared.image.Moved.{Moved}
-use Rattle.list_write.specs.Written.{ToWrite, part_at, list_at, moved_at, CanBeWritten}
+use Rattle.list_write.specs.Written.{ToWrite, full_size, part_at, list_at, moved_at, CanBeWritten}
 use Rattle.list_write.specs.inside.Places.{front_size, front_sizes, size_of, list_sizes, IsFirst, PartsRise, AreKnown, ArePlaced}
 use Rattle.list_write.specs.inside.Puts.{IsSized, told_at, OldRise}
 use Rattle.list_write.proofs.Placing.{no_part, fronts_more, fronts_rise, sizes_more, sizes_rise, one_first}
@@ -69,7 +69,7 @@ module _ (kind : ListKind) (section : List ℕ) (parts : List Contribution) (lis
   are_known k inside = (can.each k inside).known
 
   pub sized : (k : ℕ) → k < length lists → IsSized kind (list_at lists k)
-  sized k inside = let list = can.each k inside in record { entries = list.entries; picked = list.picked; bytes = list.bytes }
+  sized k inside = let list = can.each k inside in record { entries = list.entries; picked = list.picked; bytes = list.bytes; carried = list.carried }
 
   -- all that is written fits
   pub whole_size : front_sizes parts (length parts) + list_sizes lists (length lists) < least_reserved
@@ -145,7 +145,7 @@ module _ (kind : ListKind) (section : List ℕ) (parts : List Contribution) (lis
         let sizes = sizes_rise lists own.first k first in
         omega (arith, new, at, more, fronts, sizes)
 
-    pub moved_fits : (k : ℕ) → k < length lists → (moved_at moved k).new + (list_at lists k).size < least_reserved
+    pub moved_fits : (k : ℕ) → k < length lists → (moved_at moved k).new + full_size (list_at lists k) < least_reserved
     moved_fits k inside =
         let to : (moved_at moved k).new ≡ front_sizes parts ((list_at lists k).part + 1) + list_sizes lists k = (placed.each_list k inside).to in
         let part = are_known k inside in

@@ -1,13 +1,17 @@
 -- What tests find ready to be written.
-use Rattle.std.proofs.Common.{◌≡◌, ◌<◌, ◌+◌, ◌-◌, ℕ, zero, suc, List, [], ◌∷◌, ◌++◌, length, get_or, take, sym, ap, subst, arith}
-use Rattle.std.proofs.lemmas.List.{take_more}
+use Rattle.std.proofs.Common.{◌≡◌, ◌<◌, ◌+◌, ◌-◌, ℕ, zero, suc, List, [], ◌∷◌, ◌++◌, length, get_or, map, take, sym, ap, subst, arith, inl, inr}
+use Rattle.std.proofs.lemmas.Bool.{cases_lt}
+use Rattle.std.proofs.lemmas.List.{take_more, map_push, length_push, get_or_push, get_or_append_left}
 use Rattle.std.proofs.lemmas.List.Elements.{All-push}
 use Rattle.list_model.specs.declared.entry.ListKind.{ListKind}
 use Rattle.list_model.specs.declared.entry.RawEntry.{RawEntry}
 use Rattle.list_model.specs.Entries.{Entry, Says, AreSaid}
 use Rattle.list_least.specs.Shortest.{FitOperands}
-use Rattle.list_write.specs.Written.{ToWrite, list_at}
-use Rattle.list_write.specs.inside.TestLists.{IsEntry, AreEntries, AtsRise}
+use Rattle.list_write.specs.declared.named.NamedList.{NamedList}
+use Rattle.list_write.specs.Written.{ToWrite, to_write, list_at}
+use Rattle.list_write.specs.inside.Puts.{IsSized}
+use Rattle.list_write.specs.inside.TestLists.{AreSized, IsEntry, AreEntries, AtsRise}
+use Rattle.list_write.proofs.Placing.{no_list}
 
 said_more : (kind : ListKind) (raws : List RawEntry) (entries : List Entry) (raw : RawEntry) (entry : Entry) → AreSaid kind raws entries → Says kind raw entry → AreSaid kind (raws ++ raw ∷ []) (entries ++ entry ∷ [])
 said_more kind [] [] raw entry said says = (says, tt)
@@ -42,3 +46,15 @@ pub ats_rise : (lists : List ToWrite) → ((k : ℕ) → 0 < k → k < length li
 ats_rise lists each j k less inside =
     let place : j + (k - j - 1) + 1 ≡ k = omega arith in
     subst (λ (z : ℕ). (list_at lists j).at < (list_at lists z).at) place (rise_to lists j (k - j - 1) each (omega arith))
+
+-- one more list that has its size
+pub sized_more : (kind : ListKind) (items : List NamedList) (list : NamedList) → AreSized kind (map to_write items) → IsSized kind (to_write list) → AreSized kind (map to_write (items ++ list ∷ []))
+sized_more kind items list so_far one k inside =
+    let lists = map to_write items in
+    let all : map to_write (items ++ list ∷ []) ≡ lists ++ to_write list ∷ [] = map_push to_write items list in
+    let size : length (lists ++ to_write list ∷ []) ≡ length lists + 1 = length_push lists (to_write list) in
+    let long : length (map to_write (items ++ list ∷ [])) ≡ length (lists ++ to_write list ∷ []) = ap length all in
+    subst (λ (z : List ToWrite). IsSized kind (list_at z k)) (sym all) (elim (cases_lt k (length lists)) [
+      | inl x ↦ subst (IsSized kind) (sym (get_or_append_left lists (to_write list ∷ []) no_list k x)) (so_far k x)
+      | inr y ↦ subst (IsSized kind) (sym (get_or_push lists (to_write list) no_list k (omega (arith, y, inside, size, long)))) one
+    ])

@@ -14,13 +14,12 @@ use Rattle.list_model.specs.declared.entry.ListKind.{ListKind}
 use Rattle.list_model.specs.Contributions.{offsets_at, offset_place, lists_at, part_end, HoldsList, IsContribution, ContributionsFollow}
 use Rattle.list_model.specs.Entries.{Entry}
 use Rattle.list_least.specs.Plans.{entries_bytes, ArePicks}
-use Rattle.list_least.specs.Shortest.{ShortestList}
-use Rattle.list_least.proofs.Shortest.{shortest_lists}
 use Rattle.list_write.specs.declared.image.Moved.{Moved}
-use Rattle.list_write.specs.Written.{ToWrite, part_at, list_at, moved_at, CanBeWritten, Tells, StandsIn, Follow, stretch, AreNumbersOf, AreWritten}
+use Rattle.list_write.specs.Written.{ToWrite, full_size, part_at, list_at, moved_at, CanBeWritten, Tells, ShortestWith, StandsIn, Follow, stretch, AreNumbersOf, AreWritten}
 use Rattle.list_write.specs.inside.Places.{front_sizes, list_sizes, IsFirst, ArePlaced}
 use Rattle.list_write.specs.inside.Puts.{header_bytes, StandAt, AreWrittenTo}
-use Rattle.list_write.proofs.Entries.{picked_bytes}
+use Rattle.list_write.proofs.ApartLaws.{with_size}
+use Rattle.list_write.proofs.Entries.{picked_bytes, has_picked}
 use Rattle.list_write.proofs.Placing.{fronts_more, fronts_rise, sizes_more, sizes_rise, one_first}
 use Rattle.list_write.proofs.Standing.{stand_first, stand_second, stand_drop, stand_number}
 use Rattle.list_write.proofs.Ready.{parts_rise, are_known, sized, ends, lists_fit, part_fits, moved_behind, moved_fits, whole_size, first_below}
@@ -93,7 +92,7 @@ follow_between : (lists : List ToWrite) (moved : List Moved) (place : ℕ) (firs
 follow_between lists moved place first zero within each = ap (λ (z : ℕ). place + list_sizes lists z) (let e : first ≡ first + 0 = omega arith in e)
 follow_between lists moved place first (suc count) within each =
     let more = sizes_more lists first (omega arith) in
-    let next : place + list_sizes lists first + (list_at lists first).size ≡ place + list_sizes lists (first + 1) = omega (arith, more) in
+    let next : place + list_sizes lists first + full_size (list_at lists first) ≡ place + list_sizes lists (first + 1) = omega (arith, more) in
     let end : first + 1 + count ≡ first + suc count = omega arith in
     let rest = follow_between lists moved place (first + 1) count (omega arith) (λ k from to. each k (omega arith) (omega arith)) in (
       each first (omega arith) (omega arith),
@@ -102,10 +101,11 @@ follow_between lists moved place first (suc count) within each =
     )
 
 -- bytes that stand in a contribution are the front of what stands there
-stands_in : (kind : ListKind) (section : List ℕ) (part : Contribution) (at : ℕ) (entries : List Entry) (own : List ℕ) → HoldsList part at → at + length own ≤ part_end part → ShortestList kind entries own → StandAt at own section → StandsIn kind section part at entries
-stands_in kind section part at entries own holds fits shortest stands = record {
+stands_in : (kind : ListKind) (section : List ℕ) (part : Contribution) (at : ℕ) (entries : List Entry) (expressions : List (List ℕ)) (own bare : List ℕ) → HoldsList part at → at + length own ≤ part_end part → ShortestWith kind entries expressions own bare → StandAt at own section → StandsIn kind section part at entries expressions
+stands_in kind section part at entries expressions own bare holds fits shortest stands = record {
   holds = holds;
   bytes = own;
+  bare = bare;
   rest = take (part_end part - at - length own) stands.rest;
   shortest = shortest;
   whole =
@@ -176,7 +176,7 @@ module _ (kind : ListKind) (section : List ℕ) (parts : List Contribution) (lis
       let sizes = sizes_rise lists (j + 1) k (omega arith) in
       omega (arith, x, y, fronts, more, some, sizes)
 
-  holds_list : (k : ℕ) → k < length lists → HoldsList (part_at new_parts (list_at lists k).part) (moved_at moved k).new × ((moved_at moved k).new + (list_at lists k).size ≤ part_end (part_at new_parts (list_at lists k).part))
+  holds_list : (k : ℕ) → k < length lists → HoldsList (part_at new_parts (list_at lists k).part) (moved_at moved k).new × ((moved_at moved k).new + full_size (list_at lists k) ≤ part_end (part_at new_parts (list_at lists k).part))
   holds_list k inside =
       let p = (list_at lists k).part in
       let known : p < length parts = are_known kind section parts lists can k inside in
@@ -194,16 +194,17 @@ module _ (kind : ListKind) (section : List ℕ) (parts : List Contribution) (lis
       let some = (sized kind section parts lists can k inside).bytes in
       (record { after = omega (arith, slots, from, here, front, low); before = omega (arith, to, here, more, high, some) }, omega (arith, to, here, more, high))
 
-  each : (k : ℕ) → k < length lists → (entries : List Entry) → ArePicks kind (list_at lists k).picks entries → StandsIn kind bytes (part_at new_parts (list_at lists k).part) (moved_at moved k).new entries
+  each : (k : ℕ) → k < length lists → (entries : List Entry) → ArePicks kind (list_at lists k).picks entries → StandsIn kind bytes (part_at new_parts (list_at lists k).part) (moved_at moved k).new entries (list_at lists k).expressions
   each k inside entries picked =
       let all = all_lists in
       let there = done.each k (omega (arith, all, inside)) entries picked in
       let own = sized kind section parts lists can k inside in
       let same = picked_bytes kind (list_at lists k).picks own.entries entries own.picked picked in
-      let long = shortest_lists.size kind entries there.0 there.1 in
+      let carried = has_picked kind (list_at lists k).picks own.entries entries (list_at lists k).expressions own.picked picked own.carried in
+      let long = with_size kind entries (list_at lists k).expressions there.0 there.1 carried there.2 in
       let size_is : (list_at lists k).size ≡ entries_bytes own.entries + 1 = own.bytes in
       let holds = holds_list k inside in
-      stands_in kind bytes (part_at new_parts (list_at lists k).part) (moved_at moved k).new entries there.0 holds.0 (omega (arith, same, long, size_is, holds.1)) there.1 there.2
+      stands_in kind bytes (part_at new_parts (list_at lists k).part) (moved_at moved k).new entries (list_at lists k).expressions there.0 there.1 holds.0 (omega (arith, same, long, size_is, holds.1)) there.2 there.3
 
   told : (p slot k : ℕ) → p < length parts → slot < (part_at parts p).slots → k < length lists → Tells section parts p slot (list_at lists k).at → Tells bytes new_parts p slot (moved_at moved k).new
   told p slot k inside less within tells =

@@ -34,7 +34,7 @@ header_length part =
 list_more : (kind : ListKind) (list : ToWrite) (at : ℕ) (old new : List ℕ) → Extends old new → ListStands kind list at old → ListStands kind list at new
 list_more kind list at old new extends stands = λ entries picked.
     let there = stands entries picked in
-    (there.0, there.1, stand_more at there.0 old new extends there.2)
+    (there.0, there.1, there.2, stand_more at there.0 old new extends there.3)
 
 slot_more : (section : List ℕ) (offsets new_offsets : ℕ) (moved : List Moved) (slot at : ℕ) (old new : List ℕ) → Extends old new → IsSlotPut section offsets new_offsets moved slot at old → IsSlotPut section offsets new_offsets moved slot at new
 slot_more section offsets new_offsets moved slot at old new extends s = record { list = s.list; moved = s.moved; stands = stand_more at (low_bytes Four (s.list.new - new_offsets)) old new extends s.stands }

@@ -1,17 +1,23 @@
 -- Lists written anew in their contributions (DWARF 5 sections 7.28 and 7.29): what is to be written, and what then stands where.
-use Rattle.std.specs.Prelude.{◌≡◌, ◌<◌, ◌+◌, ℕ, List, [], ◌∷◌, ◌++◌, length, map, slice_index_or}
+use Rattle.std.specs.Prelude.{◌≡◌, ◌≤◌, ◌<◌, ◌+◌, ◌-◌, ℕ, List, [], ◌∷◌, ◌++◌, length, map, filter, take, drop, not, slice_index_or}
 use Rattle.std.specs.List.{Contains, sum_by}
 use Rattle.std.specs.List.Sorted.{IsStrictlyIncreasing}
 use Rattle.fixed_width.specs.Numbers.{number_at}
 use Rattle.fixed_width.specs.InitialLengths.{least_reserved}
 use Rattle.list_model.specs.declared.contribution.Contribution.{Contribution}
+use Rattle.leb_codec.specs.Leb.{least_unsigned_len}
 use Rattle.list_model.specs.declared.entry.ListKind.{ListKind}
+use Rattle.list_model.specs.declared.entry.ListKind.TheVariants.{Ranges, Locations}
 use Rattle.list_model.specs.Contributions.{offsets_at, offset_place, lists_at, part_end, HoldsList, bytes_from, ContributionsTile}
 use Rattle.list_model.specs.Entries.{Entry}
+use Rattle.list_model.specs.Items.{sets_base}
+use Rattle.loc_lists.specs.Locations.{entries_of, item_expressions}
+use Rattle.loc_lists.specs.Apart.{StandApart, ShortestBehind}
 use Rattle.list_least.specs.declared.pick.Pick.{Pick}
 use Rattle.list_least.specs.Plans.{entries_bytes, ArePicks}
 use Rattle.list_least.specs.Shortest.{ShortestList}
 use Rattle.list_write.specs.declared.named.NamedList.{NamedList}
+use Rattle.list_write.specs.declared.named.NewExpressions.{NewExpressions}
 use Rattle.list_write.specs.declared.image.Moved.{Moved}
 
 -- the contribution with a number; past the end there is none, and an empty one stands for it
@@ -20,28 +26,59 @@ part_at parts p = slice_index_or parts p (record { at = 0; len = 0; slots = 0 })
 
 -- ---- what is to be written
 
--- a list: its contribution by its number, where it begins, its entries as they are picked, and how many bytes it is to have
+-- a list: its contribution by its number, where it begins, its entries as they are picked, how many bytes these and the end are to have,
+-- and the expressions of its items
 pub record ToWrite : Type 0 where
   pub part : ℕ
   pub at : ℕ
   pub picks : List Pick
   pub size : ℕ
+  pub expressions : List (List ℕ)
+
+-- the pieces of bytes that end at these places, each from where the one before it does; the first begins at a place
+abbrev pub pieces : ℕ → List ℕ → List ℕ → List (List ℕ)
+pieces from [] bytes = []
+pieces from (end ∷ ends) bytes = take (end - from) (drop from bytes) ∷ pieces end ends bytes
+
+-- the ends rise from a place on, up to so many bytes
+abbrev pub EndsRise : ℕ → List ℕ → ℕ → Type 0
+EndsRise from [] most = Unit {0}
+EndsRise from (end ∷ ends) most = (from ≤ end) × (end ≤ most) × EndsRise end ends most
+
+-- expressions stand one after the other
+abbrev pub AreEnds : NewExpressions → Type 0
+AreEnds new = EndsRise 0 new.ends.items (length new.bytes.items)
 
 -- a list that something names, as it is to be written
 abbrev pub to_write : NamedList → ToWrite
-to_write list = record { part = list.part; at = list.at; picks = list.plan.picks.items; size = list.plan.size }
+to_write list = record { part = list.part; at = list.at; picks = list.plan.picks.items; size = list.plan.size; expressions = pieces 0 list.expressions.ends.items list.expressions.bytes.items }
 
 -- the list with a number; past the end there is none, and an empty one stands for it
 abbrev pub list_at : List ToWrite → ℕ → ToWrite
-list_at lists k = slice_index_or lists k (record { part = 0; at = 0; picks = []; size = 0 })
+list_at lists k = slice_index_or lists k (record { part = 0; at = 0; picks = []; size = 0; expressions = [] })
 
--- a list can be written: it begins in its contribution, it has entries, and they take so many bytes without padding, with the end
+-- how many bytes an expression takes behind its entry, with its length in the fewest bytes
+abbrev pub behind_size : List ℕ → ℕ
+behind_size expression = least_unsigned_len (length expression) + length expression
+
+-- how many bytes a list takes
+abbrev pub full_size : ToWrite → ℕ
+full_size list = list.size + sum_by behind_size list.expressions
+
+-- each item of a location list has an expression, and ranges have none
+abbrev pub HasExpressions : ListKind → List Entry → List (List ℕ) → Type 0
+HasExpressions Ranges entries expressions = expressions ≡ []
+HasExpressions Locations entries expressions = length expressions ≡ length (filter (λ (entry : Entry). not (sets_base entry.kind)) entries)
+
+-- a list can be written: it begins in its contribution, it has entries, they take so many bytes without padding, with the end, and its
+-- items have their expressions
 pub record IsToWrite (kind : ListKind) (parts : List Contribution) (list : ToWrite) : Type 0 where
   pub known : list.part < length parts
   pub holds : HoldsList (part_at parts list.part) list.at
   pub entries : List Entry
   pub picked : ArePicks kind list.picks entries
   pub bytes : list.size ≡ entries_bytes entries + 1
+  pub carried : HasExpressions kind entries list.expressions
 
 -- a slot of a contribution tells a place (DW_FORM_rnglistx and DW_FORM_loclistx count slots)
 abbrev pub Tells : List ℕ → List Contribution → ℕ → ℕ → ℕ → Type 0
@@ -59,7 +96,7 @@ pub record CanBeWritten (kind : ListKind) (section : List ℕ) (parts : List Con
   pub rising : (j k : ℕ) → j < k → k < length lists → (list_at lists j).at < (list_at lists k).at
   pub each : (k : ℕ) → k < length lists → IsToWrite kind parts (list_at lists k)
   pub told : AllAreTold section parts lists
-  pub room : length section + sum_by (λ (list : ToWrite). list.size) lists < least_reserved
+  pub room : length section + sum_by full_size lists < least_reserved
 
 -- ---- what is written
 
@@ -67,12 +104,20 @@ pub record CanBeWritten (kind : ListKind) (section : List ℕ) (parts : List Con
 abbrev pub moved_at : List Moved → ℕ → Moved
 moved_at moved k = slice_index_or moved k (record { old = 0; new = 0 })
 
--- a list stands at a place of its contribution, each number in its fewest bytes
-pub record StandsIn (kind : ListKind) (section : List ℕ) (part : Contribution) (at : ℕ) (entries : List Entry) : Type 0 where
+-- The bytes of a list with these entries, and those without the expressions and their lengths: each number takes its fewest bytes.
+abbrev pub ShortestWith : ListKind → List Entry → List (List ℕ) → List ℕ → List ℕ → Type 0
+ShortestWith Ranges entries expressions bytes bare = ShortestList Ranges entries bytes × (bare ≡ bytes)
+ShortestWith Locations entries expressions bytes bare =
+    (locations : List (Entry × List ℕ)) × (entries_of locations ≡ entries) × (item_expressions locations ≡ expressions)
+    × StandApart ShortestBehind locations bytes bare × ShortestList Locations entries bare
+
+-- a list stands at a place of its contribution
+pub record StandsIn (kind : ListKind) (section : List ℕ) (part : Contribution) (at : ℕ) (entries : List Entry) (expressions : List (List ℕ)) : Type 0 where
   pub holds : HoldsList part at
   pub bytes : List ℕ
+  pub bare : List ℕ
   pub rest : List ℕ
-  pub shortest : ShortestList kind entries bytes
+  pub shortest : ShortestWith kind entries expressions bytes bare
   pub whole : bytes_from section part at ≡ bytes ++ rest
 
 -- Stretches of bytes, each a place and a size, stand one after the other from a place up to another.
@@ -82,7 +127,7 @@ Follow ((at, size) ∷ rest) from to = (at ≡ from) × Follow rest (from + size
 
 -- a list with the place at which it stands now
 abbrev pub stretch : List Moved → List ToWrite → ℕ → ℕ × ℕ
-stretch moved lists k = ((moved_at moved k).new, (list_at lists k).size)
+stretch moved lists k = ((moved_at moved k).new, full_size (list_at lists k))
 
 -- these are the numbers of the lists of a contribution, rising
 pub record AreNumbersOf (lists : List ToWrite) (p : ℕ) (numbers : List ℕ) : Type 0 where
@@ -99,7 +144,7 @@ pub record AreWritten (kind : ListKind) (old : List ℕ) (parts : List Contribut
   pub count : length moved ≡ length lists
   pub from : (k : ℕ) → k < length lists → (moved_at moved k).old ≡ (list_at lists k).at
   pub rising : (j k : ℕ) → j < k → k < length lists → (moved_at moved j).new < (moved_at moved k).new
-  pub each : (k : ℕ) → k < length lists → (entries : List Entry) → ArePicks kind (list_at lists k).picks entries → StandsIn kind section (part_at new_parts (list_at lists k).part) (moved_at moved k).new entries
+  pub each : (k : ℕ) → k < length lists → (entries : List Entry) → ArePicks kind (list_at lists k).picks entries → StandsIn kind section (part_at new_parts (list_at lists k).part) (moved_at moved k).new entries (list_at lists k).expressions
   pub told : (p i k : ℕ) → p < length parts → i < (part_at parts p).slots → k < length lists → Tells old parts p i (list_at lists k).at → Tells section new_parts p i (moved_at moved k).new
   pub filled : (p : ℕ) → p < length parts → (numbers : List ℕ) × AreNumbersOf lists p numbers × Follow (map (stretch moved lists) numbers) (lists_at (part_at new_parts p)) (part_end (part_at new_parts p))
   pub fits : length section < least_reserved

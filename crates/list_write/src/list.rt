@@ -1,18 +1,19 @@
 // The shortest bytes of lists.
-ghost use Rattle.std.specs.Prelude.{◌≡◌, ◌<◌, ◌≤◌, ◌+◌, ℕ, List, length, map, OnOk};
+ghost use Rattle.std.specs.Prelude.{◌≡◌, ◌<◌, ◌≤◌, ◌+◌, ℕ, List, [], length, map, slice_index_or, OnOk};
+ghost use Rattle.std.specs.List.{All};
 ghost use Rattle.spelled.specs.Spelled.{Appends};
 ghost use Rattle.list_model.specs.Entries.{Entry};
 ghost use Rattle.list_least.specs.Plans.{IsPick, ArePicks};
-ghost use Rattle.list_least.specs.Shortest.{FitsOperand, ShortestEntry, ShortestList};
-ghost use Rattle.list_write.specs.Written.{to_write, list_at};
-ghost use Rattle.list_write.specs.inside.Puts.{ShortestOperand, IsSized, AreListsPut};
+ghost use Rattle.list_least.specs.Shortest.{FitsOperand, ShortestEntry};
+ghost use Rattle.list_write.specs.Written.{AreEnds, ShortestWith, pieces, to_write, list_at};
+ghost use Rattle.list_write.specs.inside.Puts.{ShortestOperand, ShortestExpression, carries, IsSized, AreListsPut};
 
-use crate::named::NamedList;
+use crate::named::{NamedList, NewExpressions};
 use dw_base::NoMemory;
 use form_codec::{Width, put_low};
 use leb_codec::put_u;
 use list_least::Pick;
-use list_model::{ListKind, Operand, first_operand, kind_of, second_operand};
+use list_model::{EntryKind, ListKind, Operand, first_operand, kind_of, second_operand};
 
 const LIST_END: u8 = 0;
 
@@ -40,13 +41,53 @@ fn put_entry(out: &mut Vec<u8>, kind: ListKind, pick: Pick) -> Result<(), NoMemo
     put_operand(out, second_operand(entry_kind), pick.b)
 }
 
-// Appends the entries of a list, and its end.
-fn put_list(out: &mut Vec<u8>, kind: ListKind, picks: &Vec<Pick>) -> Result<(), NoMemory>
-    requires picked { (entries : List Entry) × ArePicks kind picks.now.items entries }
-    ensures { OnOk result ((entries : List Entry) → ArePicks kind picks.now.items entries → Appends (ShortestList kind) entries out.old.items out.new.items) }
+// The expression with a number among some that stand one after the other.
+fn expression_at(expressions: &NewExpressions, number: usize) -> &[u8]
+    requires ends { AreEnds expressions.now }
+    requires number { number < length expressions.now.ends.items }
+    ensures { result.now ≡ slice_index_or (pieces 0 expressions.now.ends.items expressions.now.bytes.items) number [] }
 {
-    for pick in picks {
+    let from = match number.checked_sub(1) {
+        Some(before) => expressions.ends[before],
+        None => 0,
+    };
+    let end = expressions.ends[number];
+    &expressions.bytes[from as usize..end as usize]
+}
+
+// Appends an expression behind its length.
+fn put_expression(out: &mut Vec<u8>, expression: &[u8]) -> Result<(), NoMemory>
+    ensures { OnOk result (Appends ShortestExpression expression.now out.old.items out.new.items) }
+{
+    put_u(out, expression.len() as u64)?;
+    out.extend_from_slice(expression)?;
+    Ok(())
+}
+
+/// Whether an entry of a list of a kind has an expression behind it.
+pub(crate) fn has_expression(kind: ListKind, pick: &Pick) -> bool
+    requires { (entry : Entry) × IsPick kind pick.now entry }
+    ensures { (entry : Entry) → IsPick kind pick.now entry → result ≡ carries kind entry.kind }
+{
+    match kind_of(kind, pick.code) {
+        Some(EntryKind::BaseAddressx | EntryKind::BaseAddress) => false,
+        _ => kind == ListKind::Locations,
+    }
+}
+
+// Appends the entries of a list with the expressions of its items, and its end.
+fn put_list(out: &mut Vec<u8>, kind: ListKind, list: &NamedList) -> Result<(), NoMemory>
+    requires sized { IsSized kind (to_write list.now) }
+    requires ends { AreEnds list.now.expressions }
+    ensures { OnOk result ((entries : List Entry) → ArePicks kind list.now.plan.picks.items entries → Appends (λ expressions bytes. (bare : List ℕ) × ShortestWith kind entries expressions bytes bare) (to_write list.now).expressions out.old.items out.new.items) }
+{
+    let mut next = 0;
+    for pick in &list.plan.picks {
         put_entry(out, kind, *pick)?;
+        if has_expression(kind, pick) {
+            put_expression(out, expression_at(&list.expressions, next))?;
+            next += 1;
+        }
     }
     out.push(LIST_END)?;
     Ok(())
@@ -58,11 +99,12 @@ pub(crate) fn put_lists(
     kind: ListKind,
     lists: &[NamedList],
 ) -> Result<(), NoMemory>
-    requires { (k : ℕ) → k < length lists.now → IsSized kind (list_at (map to_write lists.now) k) }
+    requires sized { (k : ℕ) → k < length lists.now → IsSized kind (list_at (map to_write lists.now) k) }
+    requires ends { All (λ list. AreEnds list.expressions) lists.now }
     ensures { OnOk result (AreListsPut kind (map to_write lists.now) (length lists.now) out.old.items out.new.items) }
 {
     for list in lists {
-        put_list(out, kind, &list.plan.picks)?;
+        put_list(out, kind, list)?;
     }
     Ok(())
 }

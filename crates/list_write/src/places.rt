@@ -1,12 +1,14 @@
 // Where contributions and lists will stand, by the sizes of the lists alone.
 ghost use Rattle.std.specs.Prelude.{◌≡◌, ◌≤◌, ◌<◌, ◌+◌, ◌^◌, ℕ, length, map, IfOk};
-ghost use Rattle.list_write.specs.Written.{to_write};
+ghost use Rattle.std.specs.List.{All, sum_by};
+ghost use Rattle.list_write.specs.Written.{AreEnds, behind_size, pieces, to_write};
 ghost use Rattle.list_write.specs.inside.Places.{front_size as front_bytes, front_sizes, list_sizes, IsFirst, PartsRise, AreKnown, AreAppended, ArePlaced};
 
 use crate::image::Moved;
-use crate::named::NamedList;
+use crate::named::{NamedList, NewExpressions};
 use crate::part::{HEADER_SIZE, OFFSET_SIZE};
 use dw_base::NoMemory;
+use leb_codec::len_u;
 use list_model::Contribution;
 use std::alloc::Global;
 
@@ -38,9 +40,26 @@ pub(crate) fn end_of_run(lists: &Vec<NamedList>, number: usize, first: usize) ->
     end
 }
 
+// How many bytes the expressions of a list take behind its entries, each with its length.
+fn behind_bytes(expressions: &NewExpressions) -> u64
+    requires ends { AreEnds expressions.now }
+    requires room { sum_by behind_size (pieces 0 expressions.now.ends.items expressions.now.bytes.items) < 2 ^ 64 }
+    ensures { result ≡ sum_by behind_size (pieces 0 expressions.now.ends.items expressions.now.bytes.items) }
+{
+    let mut bytes = 0;
+    let mut from = 0;
+    for end in &expressions.ends {
+        let len = u64::from(*end - from);
+        bytes += u64::from(len_u(len)) + len;
+        from = *end;
+    }
+    bytes
+}
+
 // Appends where lists will stand that follow one another from a place on, and gives the place behind them.
 fn place_lists(moved: &mut Vec<Moved>, lists: &[NamedList], at: u64) -> Result<u64, NoMemory>
     requires room { at + list_sizes (map to_write lists.now) (length lists.now) < 2 ^ 64 }
+    requires ends { All (λ list. AreEnds list.expressions) lists.now }
     ensures placed { IfOk result (λ _. AreAppended (map to_write lists.now) (length lists.now) at moved.old.items moved.new.items) }
     ensures end { IfOk result (λ end. end ≡ at + list_sizes (map to_write lists.now) (length lists.now)) }
 {
@@ -50,7 +69,7 @@ fn place_lists(moved: &mut Vec<Moved>, lists: &[NamedList], at: u64) -> Result<u
             old: list.at,
             new: end,
         })?;
-        end += list.plan.size;
+        end += list.plan.size + behind_bytes(&list.expressions);
     }
     Ok(end)
 }
@@ -63,6 +82,7 @@ pub(crate) fn place_parts(
 ) -> Result<Places, NoMemory>
     requires rise { PartsRise (map to_write lists.now.items) }
     requires known { AreKnown (map to_write lists.now.items) (length parts.now) }
+    requires ends { All (λ list. AreEnds list.expressions) lists.now.items }
     requires room { front_sizes parts.now (length parts.now) + list_sizes (map to_write lists.now.items) (length lists.now.items) < 2 ^ 32 }
     ensures { IfOk result (λ places. ArePlaced parts.now (map to_write lists.now.items) places.parts.items places.lists.items) }
 {

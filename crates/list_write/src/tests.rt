@@ -1,16 +1,22 @@
 // Sections of lists written anew, by hand from the layouts of DWARF 5 sections 7.7.3, 7.25, 7.28 and 7.29.
-ghost use Rattle.std.specs.Prelude.{◌≤◌, length, map, IsTrue, OnOk};
-ghost use Rattle.std.specs.List.{All};
+ghost use Rattle.std.specs.Prelude.{◌≡◌, ◌≤◌, ◌+◌, List, length, map, IfSome, IsTrue, OnOk};
+ghost use Rattle.std.specs.List.{All, sum_by};
 ghost use Rattle.list_model.specs.Contributions.{lists_at, IsContribution};
+ghost use Rattle.list_model.specs.Entries.{Entry};
+ghost use Rattle.list_least.specs.Plans.{ArePicks};
 ghost use Rattle.list_least.specs.Shortest.{FitsOperand};
-ghost use Rattle.list_write.specs.Written.{to_write, AllAreTold};
+ghost use Rattle.list_write.specs.Written.{pieces, AreEnds, to_write, behind_size, AllAreTold};
+ghost use Rattle.list_write.specs.inside.Puts.{carried_count};
 ghost use Rattle.list_write.specs.inside.TestLists.{AreSized, IsEntry, AreEntries, AtsRise, IsHeld, AreHeld, HasList, AreTold, HasRoom};
 
+use crate::list::has_expression;
 use crate::part::{HEADER_SIZE, OFFSET_SIZE};
 use crate::places::front_size;
-use crate::{ListImage, Moved, NamedList, kept_plan, write_lists};
+use crate::{ListImage, Moved, NamedList, NewExpressions, kept_plan, write_lists};
 use dw_base::Span;
 use fixed_width::u32_at;
+use leb_codec::len_u;
+use list_least::Pick;
 use list_model::{
     Contribution, ListKind, Operand, RawEntry, contributions, first_operand, kind_of,
     second_operand,
@@ -129,16 +135,78 @@ fn all_are_told(section: &[u8], parts: &[Contribution], lists: &Vec<NamedList>) 
     true
 }
 
+// Whether expressions stand one after the other.
+fn are_ends(expressions: &NewExpressions) -> bool
+    ensures { IsTrue result → AreEnds expressions.now }
+{
+    let mut from = 0;
+    for end in &expressions.ends {
+        if *end < from || *end as usize > expressions.bytes.len() {
+            return false;
+        }
+        from = *end;
+    }
+    true
+}
+
+// Whether those of each list do.
+fn are_ended(lists: &Vec<NamedList>) -> bool
+    ensures { IsTrue result → All (λ list. AreEnds list.expressions) lists.now.items }
+{
+    for list in lists {
+        if !are_ends(&list.expressions) {
+            return false;
+        }
+    }
+    true
+}
+
+// How many of the entries that are picked have an expression behind them.
+fn expression_count(kind: ListKind, picks: &Vec<Pick>) -> usize
+    requires { (entries : List Entry) × ArePicks kind picks.now.items entries }
+    ensures { (entries : List Entry) → ArePicks kind picks.now.items entries → result ≡ carried_count kind entries }
+{
+    let mut count = 0;
+    for pick in picks {
+        if has_expression(kind, pick) {
+            count += 1;
+        }
+    }
+    count
+}
+
+// A size with the bytes of expressions and their lengths, if the sum fits.
+fn with_behind(size: u64, expressions: &NewExpressions) -> Option<u64>
+    requires { AreEnds expressions.now }
+    ensures { IfSome result (λ sum. sum ≡ size + sum_by behind_size (pieces 0 expressions.now.ends.items expressions.now.bytes.items)) }
+{
+    let mut sum = size;
+    let mut from = 0;
+    for end in &expressions.ends {
+        let len = u64::from(*end - from);
+        let Some(more) = sum.checked_add(u64::from(len_u(len)) + len) else {
+            return None;
+        };
+        sum = more;
+        from = *end;
+    }
+    Some(sum)
+}
+
 // The first of the lengths that are reserved.
 const FIRST_RESERVED: u64 = 0xffff_fff0;
 
 // Whether all that is written fits.
 fn has_room(section: &[u8], lists: &Vec<NamedList>) -> bool
+    requires { All (λ list. AreEnds list.expressions) lists.now.items }
     ensures { IsTrue result → HasRoom section.now (map to_write lists.now.items) }
 {
     let mut size = section.len() as u64;
     for list in lists {
-        let Some(more) = size.checked_add(list.plan.size) else {
+        let Some(bare) = size.checked_add(list.plan.size) else {
+            return false;
+        };
+        let Some(more) = with_behind(bare, &list.expressions) else {
             return false;
         };
         size = more;
@@ -162,6 +230,7 @@ fn written(
     if !are_rising(lists)
         || !are_held(parts, lists)
         || !all_are_told(section, parts, lists)
+        || !are_ended(lists)
         || !has_room(section, lists)
     {
         return Err("lists that can't be written")?;
@@ -185,7 +254,15 @@ fn entry(code: u8, a: u64, b: u64) -> RawEntry {
     }
 }
 
-// Appends a list that keeps these entries.
+// The expressions of a range list, which has none.
+fn no_expressions(alloc: Global) -> NewExpressions {
+    NewExpressions {
+        bytes: Vec::new(alloc),
+        ends: Vec::new(alloc),
+    }
+}
+
+// Appends a list that keeps these entries, with expressions for its items.
 fn push_kept(
     lists: &mut Vec<NamedList>,
     alloc: Global,
@@ -193,6 +270,7 @@ fn push_kept(
     part: u32,
     at: u64,
     raws: &[RawEntry],
+    expressions: NewExpressions,
 ) -> Result<(), Fail>
     requires { AreSized kind (map to_write lists.old.items) }
     ensures { OnOk result (AreSized kind (map to_write lists.new.items)) }
@@ -204,7 +282,15 @@ fn push_kept(
     let Ok(plan) = kept_plan(alloc, kind, &raws) else {
         return Err("no memory")?;
     };
-    lists.push(NamedList { part, at, plan })?;
+    if expression_count(kind, &plan.picks) != expressions.ends.len() {
+        return Err("expressions of other items")?;
+    }
+    lists.push(NamedList {
+        part,
+        at,
+        plan,
+        expressions,
+    })?;
     Ok(())
 }
 
@@ -217,8 +303,24 @@ fn a_shared_end_is_written_twice(rt: HostRuntime) -> Result<(), Fail> {
     ];
     let mut lists = Vec::new(alloc);
     let entries = [entry(4, 0, 4), entry(4, 8, 0x0c)];
-    push_kept(&mut lists, alloc, kind, 0, 12, &entries)?;
-    push_kept(&mut lists, alloc, kind, 0, 15, &entries[1..])?;
+    push_kept(
+        &mut lists,
+        alloc,
+        kind,
+        0,
+        12,
+        &entries,
+        no_expressions(alloc),
+    )?;
+    push_kept(
+        &mut lists,
+        alloc,
+        kind,
+        0,
+        15,
+        &entries[1..],
+        no_expressions(alloc),
+    )?;
     let image = written(alloc, kind, &section, &lists)?;
     let expected = [
         0x13, 0, 0, 0, 5, 0, 8, 0, 0, 0, 0, 0, 4, 0, 4, 4, 8, 0x0c, 0, 4, 8, 0x0c, 0,
@@ -248,9 +350,33 @@ fn an_offset_tells_a_list_behind_its_contribution(rt: HostRuntime) -> Result<(),
     ];
     let mut lists = Vec::new(alloc);
     let entries = [entry(4, 1, 2), entry(4, 3, 4)];
-    push_kept(&mut lists, alloc, kind, 0, 20, &entries)?;
-    push_kept(&mut lists, alloc, kind, 0, 23, &entries[1..])?;
-    push_kept(&mut lists, alloc, kind, 1, 39, &[entry(4, 0, 8)])?;
+    push_kept(
+        &mut lists,
+        alloc,
+        kind,
+        0,
+        20,
+        &entries,
+        no_expressions(alloc),
+    )?;
+    push_kept(
+        &mut lists,
+        alloc,
+        kind,
+        0,
+        23,
+        &entries[1..],
+        no_expressions(alloc),
+    )?;
+    push_kept(
+        &mut lists,
+        alloc,
+        kind,
+        1,
+        39,
+        &[entry(4, 0, 8)],
+        no_expressions(alloc),
+    )?;
     let image = written(alloc, kind, &section, &lists)?;
     let expected = [
         0x1b, 0, 0, 0, 5, 0, 8, 0, 2, 0, 0, 0, 0x0f, 0, 0, 0, 0x1f, 0, 0, 0, 4, 1, 2, 4, 3, 4, 0,
@@ -270,10 +396,11 @@ fn an_offset_tells_a_list_behind_its_contribution(rt: HostRuntime) -> Result<(),
 fn entries_keep_their_kinds(rt: HostRuntime) -> Result<(), Fail> {
     let alloc = rt.alloc();
     let kind = ListKind::Locations;
-    // A default location, an index that sets the base, and an address with a padded length.
+    // A default location whose expression has a padded length, an index that sets the base, and an address with a padded length and
+    // an empty expression. Behind this list stands one of an offset pair.
     let section = [
-        0x18, 0, 0, 0, 5, 0, 8, 0, 0, 0, 0, 0, 5, 1, 0x7f, 8, 0, 0x10, 0x40, 0, 0, 0, 0, 0, 0x80,
-        0xa0, 0, 0,
+        0x23, 0, 0, 0, 5, 0, 8, 0, 0, 0, 0, 0, 5, 0x82, 0, 0x30, 0x9f, 1, 0x7f, 8, 0, 0x10, 0x40,
+        0, 0, 0, 0, 0, 0x80, 0xa0, 0, 0, 0, 4, 0, 4, 1, 0x9c, 0,
     ];
     let entries = [
         entry(5, 0, 0),
@@ -281,12 +408,31 @@ fn entries_keep_their_kinds(rt: HostRuntime) -> Result<(), Fail> {
         entry(8, 0x40_1000, 0x1000),
     ];
     let mut lists = Vec::new(alloc);
-    push_kept(&mut lists, alloc, kind, 0, 12, &entries)?;
+    let expressions = NewExpressions {
+        bytes: [0x31, 0x9f].to_vec(alloc)?,
+        ends: [2, 2].to_vec(alloc)?,
+    };
+    push_kept(&mut lists, alloc, kind, 0, 12, &entries, expressions)?;
+    let expressions = NewExpressions {
+        bytes: [0x9c].to_vec(alloc)?,
+        ends: [1].to_vec(alloc)?,
+    };
+    push_kept(
+        &mut lists,
+        alloc,
+        kind,
+        0,
+        33,
+        &[entry(4, 0, 4)],
+        expressions,
+    )?;
     let image = written(alloc, kind, &section, &lists)?;
     let expected = [
-        0x17, 0, 0, 0, 5, 0, 8, 0, 0, 0, 0, 0, 5, 1, 0x7f, 8, 0, 0x10, 0x40, 0, 0, 0, 0, 0, 0x80,
-        0x20, 0,
+        0x21, 0, 0, 0, 5, 0, 8, 0, 0, 0, 0, 0, 5, 2, 0x31, 0x9f, 1, 0x7f, 8, 0, 0x10, 0x40, 0, 0,
+        0, 0, 0, 0x80, 0x20, 0, 0, 4, 0, 4, 1, 0x9c, 0,
     ];
     assert_eq!(rt; image.bytes.as_slice(), expected.as_slice());
+    let moved = [Moved { old: 12, new: 12 }, Moved { old: 33, new: 31 }];
+    assert_eq!(rt; image.lists.as_slice(), moved.as_slice());
     Ok(())
 }

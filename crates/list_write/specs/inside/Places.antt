@@ -5,7 +5,7 @@ use Rattle.std.specs.List.{sum_by}
 use Rattle.list_model.specs.declared.contribution.Contribution.{Contribution}
 use Rattle.list_model.specs.Contributions.{offset_place, part_end}
 use Rattle.list_write.specs.declared.image.Moved.{Moved}
-use Rattle.list_write.specs.Written.{ToWrite, part_at, list_at, moved_at}
+use Rattle.list_write.specs.Written.{ToWrite, full_size, part_at, list_at, moved_at}
 
 -- the bytes of a contribution before its lists: its header and its offsets
 abbrev pub front_size : Contribution → ℕ
@@ -17,7 +17,7 @@ front_sizes parts count = sum_by front_size (take count parts)
 
 -- the bytes of a list
 abbrev pub size_of : ToWrite → ℕ
-size_of list = list.size
+size_of list = full_size list
 
 -- the bytes of so many lists
 abbrev pub list_sizes : List ToWrite → ℕ → ℕ

@@ -1,20 +1,25 @@
 -- What is put behind other bytes.
 -- Inner functions and proofs alone need what stands here.
-use Rattle.std.specs.Prelude.{◌≡◌, ◌<◌, ◌+◌, ◌-◌, ◌*◌, ℕ, List, ◌++◌, length}
+use Rattle.std.specs.Prelude.{◌≡◌, ◌<◌, ◌+◌, ◌-◌, ◌*◌, ℕ, List, [], ◌∷◌, ◌++◌, length, map, filter, take, Bool, true, false, not}
 use Rattle.fixed_width.specs.Numbers.{number_at}
+use Rattle.spelled.specs.Spelled.{IsAbsent}
 use Rattle.leb_codec.specs.Digits.{Extends}
 use Rattle.form_codec.specs.declared.form.Width.TheVariants.{One, Two, Four}
 use Rattle.form_codec.specs.Written.{low_bytes}
 use Rattle.list_model.specs.declared.contribution.Contribution.{Contribution}
+use Rattle.list_model.specs.declared.entry.EntryKind.{EntryKind}
 use Rattle.list_model.specs.declared.entry.ListKind.{ListKind}
+use Rattle.list_model.specs.declared.entry.ListKind.TheVariants.{Ranges, Locations}
+use Rattle.list_model.specs.Items.{sets_base}
+use Rattle.loc_lists.specs.Locations.{SpellsExpression, entries_of}
 use Rattle.list_model.specs.declared.entry.Operand.{Operand}
 use Rattle.list_model.specs.Contributions.{offsets_at, offset_place}
 use Rattle.list_model.specs.Costs.{operand_bytes}
 use Rattle.list_model.specs.Entries.{Entry, SpellsOperand}
 use Rattle.list_least.specs.Plans.{entries_bytes, ArePicks}
-use Rattle.list_least.specs.Shortest.{ShortestList}
+use Rattle.list_least.specs.Shortest.{ShortestEntry}
 use Rattle.list_write.specs.declared.image.Moved.{Moved}
-use Rattle.list_write.specs.Written.{ToWrite, part_at, list_at, moved_at}
+use Rattle.list_write.specs.Written.{ToWrite, HasExpressions, ShortestWith, behind_size, part_at, list_at, moved_at}
 use Rattle.list_write.specs.inside.Places.{front_sizes, list_sizes, IsFirst}
 
 -- the bytes spell the operand, without padding
@@ -24,6 +29,47 @@ ShortestOperand operand value bytes = SpellsOperand operand value bytes × (leng
 -- the bytes of a contribution's header (DWARF 5 sections 7.28 and 7.29)
 abbrev pub header_bytes : Contribution → List ℕ
 header_bytes part = low_bytes Four (part.len - 4) ++ (low_bytes Two 5 ++ (low_bytes One 8 ++ (low_bytes One 0 ++ low_bytes Four part.slots)))
+
+-- the bytes are an expression behind its length, which takes its fewest bytes
+abbrev pub ShortestExpression : List ℕ → List ℕ → Type 0
+ShortestExpression expression bytes = SpellsExpression expression bytes × (length bytes ≡ behind_size expression)
+
+-- whether an entry of a kind has an expression behind it
+abbrev pub carries : ListKind → EntryKind → Bool
+carries Ranges entry = false
+carries Locations entry = not (sets_base entry)
+
+-- the bytes behind an entry: an expression and its length, or none
+abbrev pub PutBehind : Bool → List ℕ → List ℕ → Type 0
+PutBehind true expression bytes = ShortestExpression expression bytes
+PutBehind false expression bytes = IsAbsent [] expression bytes
+
+-- Entries one after the other, each with what stands behind it: all the bytes, and those of the entries alone.
+abbrev pub PutApart : ListKind → List (Entry × List ℕ) → List ℕ → List ℕ → Type 0
+PutApart kind [] bytes bare = (bytes ≡ []) × (bare ≡ [])
+PutApart kind (location ∷ locations) bytes bare =
+    (own : List ℕ) × (behind : List ℕ) × (rest : List ℕ) × (bare_rest : List ℕ)
+    × ShortestEntry kind location.0 own × PutBehind (carries kind location.0.kind) location.1 behind × PutApart kind locations rest bare_rest
+    × (bytes ≡ own ++ (behind ++ rest)) × (bare ≡ own ++ bare_rest)
+
+-- the expressions of those entries that have one behind them
+abbrev pub carried_of : ListKind → List (Entry × List ℕ) → List (List ℕ)
+carried_of kind locations = map (λ (location : Entry × List ℕ). location.1) (filter (λ (location : Entry × List ℕ). carries kind location.0.kind) locations)
+
+-- how many of the entries have an expression behind them
+abbrev pub carried_count : ListKind → List Entry → ℕ
+carried_count kind entries = length (filter (λ (entry : Entry). carries kind entry.kind) entries)
+
+-- The entries are put behind other bytes with the first of the expressions, one behind each entry that has one.
+pub record AreEntriesPut (kind : ListKind) (entries : List Entry) (expressions : List (List ℕ)) (next : ℕ) (old new : List ℕ) : Type 0 where
+  pub locations : List (Entry × List ℕ)
+  pub bytes : List ℕ
+  pub bare : List ℕ
+  pub of_entries : entries_of locations ≡ entries
+  pub of_expressions : carried_of kind locations ≡ take next expressions
+  pub counted : next ≡ carried_count kind entries
+  pub apart : PutApart kind locations bytes bare
+  pub whole : new ≡ old ++ bytes
 
 -- bytes stand at a place of others
 pub record StandAt (at : ℕ) (bytes all : List ℕ) : Type 0 where
@@ -59,9 +105,9 @@ pub record AreSlotsPut (section : List ℕ) (offsets new_offsets : ℕ) (lists :
   pub size : length new ≡ length old + 4 * count
   pub each : (slot : ℕ) → slot < count → IsSlotPut section offsets new_offsets lists slot (length old + 4 * slot) new
 
--- the shortest bytes of a list stand at a place
+-- the bytes of a list stand at a place
 abbrev pub ListStands : ListKind → ToWrite → ℕ → List ℕ → Type 0
-ListStands kind list at bytes = (entries : List Entry) → ArePicks kind list.picks entries → (own : List ℕ) × ShortestList kind entries own × StandAt at own bytes
+ListStands kind list at bytes = (entries : List Entry) → ArePicks kind list.picks entries → (own : List ℕ) × (bare : List ℕ) × ShortestWith kind entries list.expressions own bare × StandAt at own bytes
 
 -- so many lists are put behind other bytes, one after the other
 pub record AreListsPut (kind : ListKind) (lists : List ToWrite) (count : ℕ) (old new : List ℕ) : Type 0 where
@@ -87,3 +133,4 @@ pub record IsSized (kind : ListKind) (list : ToWrite) : Type 0 where
   pub entries : List Entry
   pub picked : ArePicks kind list.picks entries
   pub bytes : list.size ≡ entries_bytes entries + 1
+  pub carried : HasExpressions kind entries list.expressions

@@ -1,18 +1,42 @@
 use Rattle.std.proofs.Common.{◌≡◌, ◌<◌, ◌+◌, ◌∙◌, ℕ, length, map, sym, ap, subst, arith}
 use Rattle.std.proofs.lemmas.List.{length-map}
-use Rattle.list_write.specs.Written.{ToWrite, to_write, list_at}
+use Rattle.list_write.specs.declared.named.NamedList.{NamedList}
+use Rattle.list_write.specs.Written.{ToWrite, AreEnds, to_write, full_size, list_at}
 use Rattle.list_write.proofs.Placing.{to_write_at, sizes_more, sizes_rise, appended_more}
 use Rattle.list_write.proofs.places.place_lists.Goals as goal
+
+pub behind_bytes-requires : goal.behind_bytes-requires
+behind_bytes-requires c =
+    let lists = map to_write c.args.lists.now in
+    let k = c.loop-list.list-index in
+    let is = ap full_size (to_write_at c.args.lists.now k c.list-item.result c.loop-list-test.true c.list-item.is) in
+    let inside : k < length lists = subst (λ (z : ℕ). k < z) (sym (length-map c.args.lists.now to_write)) c.loop-list-test.true in
+    let more = sizes_more lists k inside in
+    let below = sizes_rise lists (k + 1) (length c.args.lists.now) (omega (arith, c.loop-list-test.true)) in
+    record {
+      ends = subst (λ (z : NamedList). AreEnds z.expressions) (sym c.list-item.is) (c.requires.ends k c.list-item.result c.loop-list-test.true);
+      room = omega (arith, is, more, below, c.requires.room);
+    }
 
 pub overflow_add-end : goal.overflow_add-end
 overflow_add-end c =
     let lists = map to_write c.args.lists.now in
     let k = c.loop-list.list-index in
-    let is = ap (λ (z : ToWrite). z.size) (to_write_at c.args.lists.now k c.list-item.result c.loop-list-test.true c.list-item.is) in
+    let is = ap full_size (to_write_at c.args.lists.now k c.list-item.result c.loop-list-test.true c.list-item.is) in
     let inside : k < length lists = subst (λ (z : ℕ). k < z) (sym (length-map c.args.lists.now to_write)) c.loop-list-test.true in
     let more = sizes_more lists k inside in
     let below = sizes_rise lists (k + 1) (length c.args.lists.now) (omega (arith, c.loop-list-test.true)) in
-    omega (arith, is, more, below, c.loop-list.invariant.sum, c.requires.room)
+    omega (arith, is, more, below, c.behind_bytes.ensures, c.requires.room)
+
+pub overflow_add-end-in-loop-list : goal.overflow_add-end-in-loop-list
+overflow_add-end-in-loop-list c =
+    let lists = map to_write c.args.lists.now in
+    let k = c.loop-list.list-index in
+    let is = ap full_size (to_write_at c.args.lists.now k c.list-item.result c.loop-list-test.true c.list-item.is) in
+    let inside : k < length lists = subst (λ (z : ℕ). k < z) (sym (length-map c.args.lists.now to_write)) c.loop-list-test.true in
+    let more = sizes_more lists k inside in
+    let below = sizes_rise lists (k + 1) (length c.args.lists.now) (omega (arith, c.loop-list-test.true)) in
+    omega (arith, is, more, below, c.behind_bytes.ensures, c.loop-list.invariant.sum, c.requires.room)
 
 pub loop-list-preserved : goal.loop-list-preserved
 loop-list-preserved c =
@@ -21,9 +45,9 @@ loop-list-preserved c =
     let is = to_write_at c.args.lists.now k c.list-item.result c.loop-list-test.true c.list-item.is in
     let inside : k < length lists = subst (λ (z : ℕ). k < z) (sym (length-map c.args.lists.now to_write)) c.loop-list-test.true in
     let more = sizes_more lists k inside in
-    let size : (list_at lists k).size ≡ c.list-item.result.plan.size = ap (λ (z : ToWrite). z.size) is in
+    let size : full_size (list_at lists k) ≡ full_size (to_write c.list-item.result) = ap full_size is in
     let from : (list_at lists k).at ≡ c.list-item.result.at = ap (λ (z : ToWrite). z.at) is in
     record {
       placed = appended_more lists k c.args.at c.args.moved.now.items c.loop-list.moved.items c.push.new.self.items (record { old = c.list-item.result.at; new = c.loop-list.end }) c.loop-list.invariant.placed (ap (λ (z : ℕ). record { old = z; new = c.loop-list.end }) (sym from) ∙ ap (λ (z : ℕ). record { old = (list_at lists k).at; new = z }) c.loop-list.invariant.sum) c.in_ok-push.ensures.items;
-      sum = omega (arith, more, size, c.loop-list.invariant.sum);
+      sum = omega (arith, more, size, c.behind_bytes.ensures, c.loop-list.invariant.sum);
     }

@@ -1,8 +1,10 @@
 use Rattle.std.proofs.Common.{◌≡◌, ◌≤◌, ◌<◌, ◌+◌, ◌-◌, ◌∙◌, ℕ, List, length, map, take, drop, sym, ap, subst, arith, refl}
+use Rattle.std.specs.List.{All}
 use Rattle.std.proofs.lemmas.List.{length-map}
+use Rattle.std.proofs.lemmas.List.Elements.{All-take, All-drop}
 use Rattle.list_model.specs.declared.contribution.Contribution.{Contribution}
 use Rattle.list_write.specs.declared.named.NamedList.{NamedList}
-use Rattle.list_write.specs.Written.{ToWrite, to_write, part_at}
+use Rattle.list_write.specs.Written.{ToWrite, AreEnds, to_write, part_at}
 use Rattle.list_write.specs.inside.Places.{front_size, front_sizes, list_sizes, IsFirst}
 use Rattle.list_write.proofs.Placing.{run, slice_run, slice_length, run_end, fronts_more, fronts_rise, sizes_rise, placed_next, placed_all}
 use Rattle.list_write.proofs.places.place_parts.Goals as goal
@@ -47,7 +49,11 @@ place_lists-requires c =
     let sizes : list_sizes (map to_write slice) (length slice) ≡ list_sizes (run lists first last) (last - first) = ap (λ (z : List ToWrite). list_sizes z (length slice)) own ∙ ap (list_sizes (run lists first last)) many in
     let below = fronts_rise parts (p + 1) (length parts) (omega (arith, inside)) in
     let most = sizes_rise lists last (length items) (omega (arith, within, count)) in
-    record { room = omega (arith, end, sizes, below, most, c.requires.room) }
+    let ended = subst (All (λ (list : NamedList). AreEnds list.expressions)) (sym c.deref.ensures.value) c.requires.ends in
+    record {
+      room = omega (arith, end, sizes, below, most, c.requires.room);
+      ends = All-take (λ (list : NamedList). AreEnds list.expressions) (last - first) (drop first c.deref.result.now) (All-drop (λ (list : NamedList). AreEnds list.expressions) first c.deref.result.now ended);
+    }
 
 pub loop-number-preserved : goal.loop-number-preserved
 loop-number-preserved c =
