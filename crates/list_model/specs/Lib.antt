@@ -3,7 +3,6 @@ pub mod Contributions
 pub mod Costs
 pub mod Entries
 pub mod Faults
-pub mod Filled
 pub mod Headers
 pub mod Items
 pub mod Laws

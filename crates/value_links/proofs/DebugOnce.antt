@@ -7,12 +7,12 @@ use Rattle.entry_arena.specs.Forests.{Described}
 use Rattle.line_write.specs.Meaning.{ProgramMeaning}
 use Rattle.line_write.proofs.Tiling.{meaning_once as one_lines}
 use Rattle.list_model.specs.declared.entry.ListKind.{ListKind}
-use Rattle.list_model.specs.declared.entry.ListKind.TheVariants.{Ranges}
+use Rattle.list_model.specs.declared.entry.ListKind.TheVariants.{Ranges, Locations}
 use Rattle.value_links.specs.Sections.{debug_line}
 use Rattle.value_links.specs.Reading.{Reading, line_heads, unit_at}
 use Rattle.value_links.specs.Whole.{IsReading}
 use Rattle.value_links.specs.Resolved.{Resolved, ListMeaning, MeansList}
-use Rattle.value_links.specs.Debug.{EntryMeaning, UnitMeaning, SetMeaning, PartMeaning, Debug, described, MeansAttribute, MeansEntry, MeansType, MeansUnit, MeansSlot, MeansPart, MeanParts, MeansDebug}
+use Rattle.value_links.specs.Debug.{EntryMeaning, UnitMeaning, SetMeaning, PartMeaning, Debug, described, MeansAttribute, MeansEntry, MeansType, MeansUnit, MeansSlot, MeansPart, MeanParts, parts_of, MeansDebug}
 use Rattle.value_links.specs.Laws.{OneDebug}
 use Rattle.value_links.proofs.Targets.{entry_once}
 use Rattle.value_links.proofs.LinkedOnce.{targets, slot_once}
@@ -75,11 +75,12 @@ meant_once file r a b read p q =
     let units : a.units ≡ b.units = same_lists a.units b.units size (λ u d inside. unit_once file r read u (subst (λ (z : ℕ). u < z) p.units.count inside) (get_or a.units u d) (get_or b.units u d) (p.units.each u d inside) (q.units.each u d (subst (λ (z : ℕ). u < z) size inside))) in
     let tiled = read.links.programs.tiled in
     let programs : a.programs ≡ b.programs = one_lines (debug_line file) a.programs b.programs (line_heads r.links.programs, tiled, p.programs) (line_heads r.links.programs, tiled, q.programs) in
-    let ranges : a.ranges ≡ b.ranges = parts_once file r read Ranges a.ranges b.ranges p.ranges q.ranges in
-    ap (λ (z : List ProgramMeaning). record { programs = z; units = a.units; ranges = a.ranges; aranges = a.aranges }) programs
-    ∙ ap (λ (z : List UnitMeaning). record { programs = b.programs; units = z; ranges = a.ranges; aranges = a.aranges }) units
-    ∙ ap (λ (z : List PartMeaning). record { programs = b.programs; units = b.units; ranges = z; aranges = a.aranges }) ranges
-    ∙ ap (λ (z : List SetMeaning). record { programs = b.programs; units = b.units; ranges = b.ranges; aranges = z }) (p.aranges ∙ sym q.aranges)
+    let lists : (kind : ListKind) → parts_of a kind ≡ parts_of b kind = λ (kind : ListKind). parts_once file r read kind (parts_of a kind) (parts_of b kind) (p.lists kind) (q.lists kind) in
+    ap (λ (z : List ProgramMeaning). record { programs = z; units = a.units; ranges = a.ranges; locations = a.locations; aranges = a.aranges }) programs
+    ∙ ap (λ (z : List UnitMeaning). record { programs = b.programs; units = z; ranges = a.ranges; locations = a.locations; aranges = a.aranges }) units
+    ∙ ap (λ (z : List PartMeaning). record { programs = b.programs; units = b.units; ranges = z; locations = a.locations; aranges = a.aranges }) (lists Ranges)
+    ∙ ap (λ (z : List PartMeaning). record { programs = b.programs; units = b.units; ranges = b.ranges; locations = z; aranges = a.aranges }) (lists Locations)
+    ∙ ap (λ (z : List SetMeaning). record { programs = b.programs; units = b.units; ranges = b.ranges; locations = b.locations; aranges = z }) (p.aranges ∙ sym q.aranges)
 
 pub debug_once : OneDebug
 debug_once file a b (r, r_read, a_means) (s, s_read, b_means) =

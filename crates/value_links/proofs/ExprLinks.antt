@@ -1,10 +1,9 @@
 -- What the operations of an expression name, by what is held, and where the reference of one stands that names nothing.
-use Rattle.std.proofs.Common.{◌≡◌, ◌≢◌, ◌≤◌, ◌<◌, ◌+◌, ◌∙◌, inr, ℕ, zero, suc, List, [], ◌∷◌, length, take, drop, get_or, map, sym, ap, subst, refl, arith}
+use Rattle.std.proofs.Common.{◌≡◌, ◌≢◌, ◌≤◌, ◌<◌, ◌+◌, ◌∙◌, inr, ℕ, zero, suc, List, [], ◌∷◌, length, take, drop, get_or, sym, ap, subst, refl, arith}
 use Rattle.std.specs.Prelude.{pos, true, false}
 use Rattle.std.specs.List.{All, AllZip}
 use Rattle.std.proofs.lemmas.List.{length-take, get_or_default}
 use Rattle.std.proofs.lemmas.List.Elements.{All-head, All-tail}
-use Rattle.dw_base.specs.declared.fault.Fault.{Fault}
 use Rattle.dw_base.specs.declared.fault.Kind.TheVariants.{Target as WithoutTarget}
 use Rattle.dw_base.specs.declared.fault.Reach.{Reach}
 use Rattle.dw_base.specs.declared.fault.Reach.TheVariants.{Narrow, Wide}
@@ -23,7 +22,7 @@ use Rattle.entry_arena.specs.Operations.{HeldOps, no_operations, ops_of}
 use Rattle.entry_read.specs.Units.{HeadAndForest}
 use Rattle.entry_read.specs.Expressions.{IsExprAt, HasOperations}
 use Rattle.value_links.specs.declared.parts.Parts.{Parts}
-use Rattle.value_links.specs.Reading.{UnitRead, Linkable, no_unit, unit_at, unit_among}
+use Rattle.value_links.specs.Reading.{Linkable, no_unit, unit_at}
 use Rattle.value_links.specs.Operations.{LinkedOperation, without_reference, LinksOperation}
 use Rattle.value_links.specs.LinkFaults.{FaultReference}
 use Rattle.value_links.specs.Laws.{AreExpressionsWithin}
@@ -53,7 +52,7 @@ abbrev pub AreNamed : Linkable → ℕ → List Op → Type 0
 AreNamed r u ops = All (λ (op : Op). IsAstray r u op false) ops
 
 -- operations that name what they may are linked
-linked_list : (r : Linkable) (u : ℕ) (bytes : List ℕ) (ops : List Op) → AreNamed r u ops → (linked : List LinkedOperation) × AllZip (LinksOperation r u) (all_meant bytes ops) linked
+pub linked_list : (r : Linkable) (u : ℕ) (bytes : List ℕ) (ops : List Op) → AreNamed r u ops → (linked : List LinkedOperation) × AllZip (LinksOperation r u) (all_meant bytes ops) linked
 linked_list r u bytes [] named = ([], tt)
 linked_list r u bytes (op ∷ ops) named =
     let (target, here) = All-head (λ (op : Op). IsAstray r u op false) op ops named in

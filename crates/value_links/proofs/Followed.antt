@@ -6,7 +6,6 @@ use Rattle.std.proofs.lemmas.Bool.{cases_lt, cases_eq}
 use Rattle.std.proofs.lemmas.List.{get_or_default}
 use Rattle.form_codec.specs.Forms.{Meaning}
 use Rattle.list_model.specs.declared.entry.ListKind.{ListKind}
-use Rattle.list_model.specs.declared.entry.ListKind.TheVariants.{Ranges, Locations}
 use Rattle.list_model.specs.declared.item.Item.{Item}
 use Rattle.list_model.specs.declared.item.Meaning.{Meaning as HeldMeaning}
 use Rattle.list_model.specs.declared.item.Meaning.TheVariants.{Live, Dead}
@@ -19,7 +18,7 @@ use Rattle.value_links.specs.ListPlaces.{IsSlot, SlotNames}
 use Rattle.value_links.specs.Linked.Linked.{Itself, Operates, Refers, Program, ListAt, SlotAt, BaseOf, Kept}
 use Rattle.value_links.specs.Lists.{IsFrozen, AreListsOf}
 use Rattle.value_links.specs.Links.{IsFollowed, IsLinkFound}
-use Rattle.value_links.specs.Parts.{section_held}
+use Rattle.value_links.specs.Parts.{section_held, lists_in}
 use Rattle.value_links.specs.World.{World, lists_held, HoldsMeaning, HoldsList, HoldLists, Holds}
 use Rattle.value_links.specs.inside.World.{AreListsApart, IsHeldIn}
 use Rattle.value_links.proofs.ValidLists.{slot_linked}
@@ -29,12 +28,12 @@ use Rattle.value_links.proofs.HeldLinks.{world_alike}
 
 -- each slot names a list
 abbrev SlotsName : Linkable → Type 0
-SlotsName r = (p i : ℕ) → p < length r.ranges.parts → i < (part_at r.ranges p).slots → (at : ℕ) × SlotNames r.ranges p i at
+SlotsName r = (kind : ListKind) (p i : ℕ) → p < length (of_kind r kind).parts → i < (part_at (of_kind r kind) p).slots → (at : ℕ) × SlotNames (of_kind r kind) p i at
 
-slot_followed : (r : Linkable) → SlotsName r → (kind : ListKind) (p i : ℕ) → kind ≡ Ranges → p < length r.ranges.parts → i < (part_at r.ranges p).slots → (to : Link) × IsFollowed r (Slot kind p i) to
-slot_followed r slots kind p i is known counted =
-    let (at, named) = slots p i known counted in
-    (AtList kind at, (at, subst (λ (k : ListKind). SlotNames (of_kind r k) p i at) (sym is) named, refl))
+slot_followed : (r : Linkable) → SlotsName r → (kind : ListKind) (p i : ℕ) → p < length (of_kind r kind).parts → i < (part_at (of_kind r kind) p).slots → (to : Link) × IsFollowed r (Slot kind p i) to
+slot_followed r slots kind p i known counted =
+    let (at, named) = slots kind p i known counted in
+    (AtList kind at, (at, named, refl))
 
 -- so what a link tells can be followed
 pub can_follow : (r : Linkable) → SlotsName r → (u id name : ℕ) (meaning : Meaning) (told : Link) → IsLinkFound r u id name meaning (Some told) → (to : Link) × IsFollowed r told to
@@ -45,34 +44,25 @@ can_follow r slots u id name meaning told (Program p, links, is) = (Lines p, sub
 can_follow r slots u id name meaning told (ListAt kind at, links, is) = (AtList kind at, subst (λ (z : Link). IsFollowed r z (AtList kind at)) (sym is) refl)
 can_follow r slots u id name meaning told (SlotAt kind p i, links, is) =
     let slot = slot_linked r u id name meaning kind p i links in
-    let (to, followed) = slot_followed r slots kind p i slot.ranges slot.known slot.counted in
+    let (to, followed) = slot_followed r slots kind p i slot.known slot.counted in
     (to, subst (λ (z : Link). IsFollowed r z to) (sym is) followed)
 can_follow r slots u id name meaning told (BaseOf kind p, links, is) = (Base kind p, subst (λ (z : Link). IsFollowed r z (Base kind p)) (sym is) refl)
 can_follow r slots u id name meaning told (Kept n, links, is) = (KeptPlace n, subst (λ (z : Link). IsFollowed r z (KeptPlace n)) (sym is) refl)
 
--- a slot that names something is one of range lists
-pub of_ranges : (r : Linkable) (kind : ListKind) (p i at : ℕ) → SlotNames (of_kind r kind) p i at → (kind ≡ Ranges) × SlotNames r.ranges p i at
-of_ranges r Ranges p i at named = (refl, named)
-of_ranges r Locations p i at (slot, some) = absurd (omega (arith, slot.known))
-
 -- what a slot tells in what is held is the list that it names
-module _ (world : World) (parts : Parts) (held : IsHeldIn world.image parts world) (kind : ListKind) (p i at : ℕ) (told : IsSlot (section_held parts.ranges) p i at) where
+module _ (world : World) (parts : Parts) (held : IsHeldIn world.image parts world) (kind : ListKind) (p i at : ℕ) (told : IsSlot (section_held (lists_in parts kind)) p i at) where
   slot_followed_held : (file : List ℕ) (r : Reading) → Holds file world r → (there : ℕ) → SlotNames (of_kind r.links kind) p i there → IsFollowed r.links (Slot kind p i) (AtList kind at)
   slot_followed_held file r holds there named =
-      let (is, names) = of_ranges r.links kind p i there named in
-      let same : section_held parts.ranges ≡ r.links.ranges = held.parts_are.ranges ∙ (world_alike world held.reach held.is file r holds).ranges in
-      let slot : IsSlot r.links.ranges p i at = subst (λ (z : ListSection). IsSlot z p i at) same told in
-      let here : there ≡ at = names.0.tells ∙ sym slot.tells in
+      let same : section_held (lists_in parts kind) ≡ of_kind r.links kind = held.parts_are.lists kind ∙ (world_alike world held.reach held.is file r holds).lists kind in
+      let slot : IsSlot (of_kind r.links kind) p i at = subst (λ (z : ListSection). IsSlot z p i at) same told in
+      let here : there ≡ at = named.0.tells ∙ sym slot.tells in
       (at, subst (λ (n : ℕ). SlotNames (of_kind r.links kind) p i n) here named, refl)
 
   pub slot_follows : (file other : List ℕ) (r s : Reading) → Holds file world r → Holds other world s → (to : Link) → IsFollowed s.links (Slot kind p i) to → IsFollowed r.links (Slot kind p i) (AtList kind at)
-  slot_follows file other r s holds own to (there, named, is) = slot_followed_held file r holds there (moved named)
+  slot_follows file other r s holds own to (there, named, is) = slot_followed_held file r holds there (subst (λ (z : ListSection). SlotNames z p i there) alike named)
     where
-      alike : s.links.ranges ≡ r.links.ranges
-      alike = sym (world_alike world held.reach held.is other s own).ranges ∙ (world_alike world held.reach held.is file r holds).ranges
-
-      moved : SlotNames (of_kind s.links kind) p i there → SlotNames (of_kind r.links kind) p i there
-      moved names = let (is, ranges) = of_ranges s.links kind p i there names in subst (λ (k : ListKind). SlotNames (of_kind r.links k) p i there) (sym is) (subst (λ (z : ListSection). SlotNames z p i there) alike ranges)
+      alike : of_kind s.links kind ≡ of_kind r.links kind
+      alike = sym ((world_alike world held.reach held.is other s own).lists kind) ∙ (world_alike world held.reach held.is file r holds).lists kind
 
 -- FROZEN LISTS
 
@@ -104,14 +94,9 @@ held_means r kind lists held holds apart list (k, k_in, is) i d inside here =
     let same : k ≡ i = one_place held d apart k i (omega arith) inside place in
     subst (λ (j : ℕ). HoldsMeaning r kind list (get_or held j d).owner (get_or held j d).meaning) same (subst (λ (z : ListRead). HoldsMeaning r kind z (get_or held k d).owner (get_or held k d).meaning) one h.meaning)
 
--- the lists of each kind are held; there are no location lists
-kind_held : (file : List ℕ) (world : World) (r : Reading) → Holds file world r → (kind : ListKind) → HoldLists r.links kind (lists_of r kind) (lists_held world kind)
-kind_held file world r holds Ranges = holds.lists
-kind_held file world r holds Locations = record { count = refl; each = λ k d inside. absurd (omega arith) }
-
 module _ (file : List ℕ) (world : World) (r : Reading) (holds : Holds file world r) (kind : ListKind) (held : List HeldList) (is : held ≡ lists_held world kind) (apart : AreListsApart held) (list : ListRead) (one : Contains (lists_of r kind) list) (i : ℕ) (d : HeldList) (inside : i < length held) (here : (get_or held i d).at ≡ list.at) where
   means : HoldsMeaning r.links kind list (get_or held i d).owner (get_or held i d).meaning
-  means = held_means r.links kind (lists_of r kind) held (subst (λ (z : List HeldList). HoldLists r.links kind (lists_of r kind) z) (sym is) (kind_held file world r holds kind)) apart list one i d inside here
+  means = held_means r.links kind (lists_of r kind) held (subst (λ (z : List HeldList). HoldLists r.links kind (lists_of r kind) z) (sym is) (holds.lists kind)) apart list one i d inside here
 
   -- one that is held as dead is frozen, and no other
   pub dead_frozen : (get_or held i d).meaning ≡ Dead → IsTrue true ↔ IsFrozen r.links kind list

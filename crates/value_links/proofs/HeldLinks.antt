@@ -18,26 +18,27 @@ use Rattle.entry_read.specs.Units.{HeadAndForest}
 use Rattle.entry_arena.specs.Arena.{IsEntryAt}
 use Rattle.entry_read.specs.Heads.{type_unit}
 use Rattle.list_model.specs.declared.contribution.Contribution.{Contribution}
-use Rattle.list_model.specs.declared.entry.ListKind.TheVariants.{Ranges}
+use Rattle.list_model.specs.declared.entry.ListKind.{ListKind}
+use Rattle.list_model.specs.declared.entry.ListKind.TheVariants.{Ranges, Locations}
 use Rattle.list_model.specs.declared.tables.AddrTable.{AddrTable}
 use Rattle.list_model.specs.Addresses.{HasBase}
 use Rattle.value_links.specs.declared.link.Link.{Link}
 use Rattle.value_links.specs.declared.operations.OpLink.{OpLink}
 use Rattle.value_links.specs.declared.parts.Parts.{Parts}
 use Rattle.value_links.specs.declared.units.NamedTable.{NamedTable}
-use Rattle.value_links.specs.Sections.{debug_addr, debug_rnglists}
-use Rattle.value_links.specs.Attributes.{OffsetClass, offset_class, rnglists_base}
-use Rattle.value_links.specs.Attributes.OffsetClass.{LinePtr, RngList, RngListsPtr, AddrPtr}
-use Rattle.value_links.specs.Reading.{ProgramRead, UnitRead, ListSection, Linkable, Reading, line_heads, no_program, unit_at, unit_among, part_at}
-use Rattle.value_links.specs.ListPlaces.{IsListPlace, IsOffsetsAt, NamesPart, IsBaseOf}
+use Rattle.value_links.specs.Sections.{debug_addr, debug_lists}
+use Rattle.value_links.specs.Attributes.{OffsetClass, offset_class}
+use Rattle.value_links.specs.Attributes.OffsetClass.{LinePtr, RngList, LocList, RngListsPtr, LocListsPtr, AddrPtr}
+use Rattle.value_links.specs.Reading.{ProgramRead, UnitRead, ListSection, Linkable, Reading, line_heads, no_program, unit_at, unit_among, of_kind, part_at}
+use Rattle.value_links.specs.ListPlaces.{IsListPlace, IsOffsetsAt, NamesPart, IsBaseOf, base_of}
 use Rattle.list_model.specs.declared.context.Context.{Context}
 use Rattle.value_links.specs.Values.{HasValueAt, root_of}
 use Rattle.value_links.specs.Contexts.{IsContext}
-use Rattle.value_links.specs.Operations.{OpTarget, LinkedOperation, LinksOperation, LinksReference}
+use Rattle.value_links.specs.Operations.{OpTarget, LinkedOperation, LinksOperation, LinksReference, NamesSectionEntry}
 use Rattle.value_links.specs.Operations.OpTarget.{GenericType, AnEntry}
 use Rattle.value_links.specs.Linked.{Linked, IsTargetAt, OffsetLinks, Links}
 use Rattle.value_links.specs.Laws.{AreLinked}
-use Rattle.value_links.specs.Links.{IsLinkFound, IsOpLinkFound}
+use Rattle.value_links.specs.Links.{IsLinkFound, IsOpLinkFound, IsNamedThing}
 use Rattle.value_links.specs.Parts.{HoldsParts}
 use Rattle.value_links.specs.World.{World, head_and_forest, AreTablesOf, Holds, IsWorldOf}
 use Rattle.value_links.proofs.HeldUnits.{held_count}
@@ -84,23 +85,25 @@ pub record AreAlike (r s : Linkable) : Type 0 where
   pub units : r.units ≡ s.units
   pub contexts : r.contexts ≡ s.contexts
   pub addresses : r.addresses ≡ s.addresses
-  pub ranges : r.ranges ≡ s.ranges
+  pub lists : (kind : ListKind) → of_kind r kind ≡ of_kind s kind
 
 pub alike_back : (r s : Linkable) → AreAlike r s → AreAlike s r
-alike_back r s same = record { heads = sym same.heads; units = sym same.units; contexts = sym same.contexts; addresses = sym same.addresses; ranges = sym same.ranges }
+alike_back r s same = record { heads = sym same.heads; units = sym same.units; contexts = sym same.contexts; addresses = sym same.addresses; lists = λ (kind : ListKind). sym (same.lists kind) }
 
 module _ (r s : Linkable) (same : AreAlike r s) where
   offset_held : (u id : ℕ) (class : OffsetClass) (n : ℕ) (linked : Linked) → OffsetLinks r u id class n linked → OffsetLinks s u id class n linked
   offset_held u id LinePtr n linked (p, (inside, here), is) =
       let (known, head) = program_held r.programs s.programs p same.heads inside in
       (p, (known, sym (ap (λ (h : Head). h.at) head) ∙ here), is)
-  offset_held u id RngList n linked (here, is) = (subst (λ (z : ListSection). (p : ℕ) × IsListPlace z p n) same.ranges here, is)
-  offset_held u id RngListsPtr n linked (p, here, is) = (p, subst (λ (z : ListSection). IsOffsetsAt z n p) same.ranges here, is)
+  offset_held u id RngList n linked (here, is) = (subst (λ (z : ListSection). (p : ℕ) × IsListPlace z p n) (same.lists Ranges) here, is)
+  offset_held u id LocList n linked (here, is) = (subst (λ (z : ListSection). (p : ℕ) × IsListPlace z p n) (same.lists Locations) here, is)
+  offset_held u id RngListsPtr n linked (p, here, is) = (p, subst (λ (z : ListSection). IsOffsetsAt z n p) (same.lists Ranges) here, is)
+  offset_held u id LocListsPtr n linked (p, here, is) = (p, subst (λ (z : ListSection). IsOffsetsAt z n p) (same.lists Locations) here, is)
   offset_held u id AddrPtr n linked (here, is) = (subst (λ (z : List ℕ). (table : AddrTable) × HasBase z n table) same.addresses here, is)
   offset_held u id class n linked f = f
 
-  base_held : (u p : ℕ) → IsBaseOf r u Ranges p → IsBaseOf s u Ranges p
-  base_held u p named = subst (λ (us : List UnitRead). NamesPart s.ranges (root_of (unit_among us u)).attributes rnglists_base p) same.units (subst (λ (z : ListSection). NamesPart z (root_of (unit_at r u)).attributes rnglists_base p) same.ranges named)
+  base_held : (u : ℕ) (kind : ListKind) (p : ℕ) → IsBaseOf r u kind p → IsBaseOf s u kind p
+  base_held u kind p named = subst (λ (us : List UnitRead). NamesPart (of_kind s kind) (root_of (unit_among us u)).attributes (base_of kind) p) same.units (subst (λ (z : ListSection). NamesPart z (root_of (unit_at r u)).attributes (base_of kind) p) (same.lists kind) named)
 
   reference_held : (u : ℕ) (kind : Named) (code n : ℕ) (target : OpTarget) → LinksReference r u kind code n target → LinksReference s u kind code n target
   reference_held u Nothing code n target named = named
@@ -118,8 +121,8 @@ module _ (r s : Linkable) (same : AreAlike r s) where
   links_held u id name (InUnit n) linked (target, here, is) = (target, subst (λ (us : List UnitRead). IsTargetAt (unit_among us u).forest target ((unit_among us u).head.at + n)) same.units here, is)
   links_held u id name (InSection n) linked (unit, target, here, is) = (unit, target, subst (λ (us : List UnitRead). (unit < length us) × IsTargetAt (unit_among us unit).forest target n) same.units here, is)
   links_held u id name (SectionPlace n) linked f = offset_held u id (offset_class name) n linked f
-  links_held u id name (LocationList i) linked (p, (n, first, (inside, at)), less, is) = absurd (omega (arith, inside))
-  links_held u id name (RangeList i) linked (p, named, less, is) = (p, base_held u p named, subst (λ (z : ListSection). i < (part_at z p).slots) same.ranges less, is)
+  links_held u id name (LocationList i) linked (p, named, less, is) = (p, base_held u Locations p named, subst (λ (z : ListSection). i < (part_at z p).slots) (same.lists Locations) less, is)
+  links_held u id name (RangeList i) linked (p, named, less, is) = (p, base_held u Ranges p named, subst (λ (z : ListSection). i < (part_at z p).slots) (same.lists Ranges) less, is)
   links_held u id name (Expression bytes) linked (all, (operations, spelled, zipped), is) = (all, (operations, spelled, operations_held u operations all zipped), is)
   links_held u id name meaning linked f = f
 
@@ -153,7 +156,7 @@ parts_alike file other r s parts p q = record {
   units = units_held_once r.units s.units parts.units.units.items parts.units.tables.items parts.units.table_of.items p.units.units q.units.units p.units.tables q.units.tables;
   contexts = sym p.contexts ∙ q.contexts;
   addresses = sym p.addresses ∙ q.addresses;
-  ranges = sym p.ranges ∙ q.ranges;
+  lists = λ (kind : ListKind). sym (p.lists kind) ∙ q.lists kind;
 }
 
 -- so where all values of one are linked, those of each are
@@ -181,7 +184,7 @@ module _ (world : World) (reach : Reach) (is : IsWorldOf world.image reach world
       units = units_held_once is.r.links.units r.links.units world.units world.tables world.table_of is.holds.units holds.units is.holds.tables holds.tables;
       contexts = sym is.holds.contexts ∙ holds.contexts;
       addresses = is.holds.addresses ∙ ap debug_addr holds.image ∙ sym holds.addresses;
-      ranges = section_same is.r.links.ranges r.links.ranges (is.holds.ranges ∙ ap debug_rnglists holds.image ∙ sym holds.ranges) (sym is.holds.contributions ∙ holds.contributions);
+      lists = λ (kind : ListKind). section_same (of_kind is.r.links kind) (of_kind r.links kind) (is.holds.sections kind ∙ ap (λ (z : List ℕ). debug_lists z kind) holds.image ∙ sym (holds.sections kind)) (sym (is.holds.contributions kind) ∙ holds.contributions kind);
     }
 
     pub units_held : is.r.links.units ≡ r.links.units
@@ -198,3 +201,7 @@ link_held world parts held file r holds u id name meant found each =
 -- likewise of what an operation names
 pub op_link_held : (world : World) (parts : Parts) (held : IsHeldIn world.image parts world) (file : List ℕ) (r : Reading) → Holds file world r → (u : ℕ) (op : Op) (found : Option OpLink) → ((f : List ℕ) (s : Linkable) → HoldsParts f s parts → IsOpLinkFound s u op found) → IsOpLinkFound r.links u op found
 op_link_held world parts held file r holds u op found each = op_link_alike held.is.r.links r.links u op found (world_alike world held.reach held.is file r holds) (each world.image held.is.r.links held.parts_are)
+
+-- and of what a place names
+pub place_held : (world : World) (parts : Parts) (held : IsHeldIn world.image parts world) (file : List ℕ) (r : Reading) → Holds file world r → (place : ℕ) (found : Option OpLink) → ((f : List ℕ) (s : Linkable) → HoldsParts f s parts → IsNamedThing (NamesSectionEntry s place) found) → IsNamedThing (NamesSectionEntry r.links place) found
+place_held world parts held file r holds place found each = subst (λ (us : List UnitRead). IsNamedThing (λ (target : OpTarget). (unit : ℕ) × (id : ℕ) × (unit < length us) × IsEntryAt (unit_among us unit).forest id place × (target ≡ AnEntry unit id)) found) (world_alike world held.reach held.is file r holds).units (each world.image held.is.r.links held.parts_are)

@@ -1,5 +1,5 @@
 -- What is held of sections of lists, and of the lists that are read.
-use Rattle.std.proofs.Common.{◌≡◌, ◌<◌, ◌⊎◌, ◌∙◌, inl, inr, ℕ, List, [], ◌∷◌, length, get_or, sym, ap, subst, arith}
+use Rattle.std.proofs.Common.{◌≡◌, ◌≤◌, ◌<◌, ◌⊎◌, ◌∙◌, inl, inr, ℕ, List, [], ◌∷◌, length, get_or, sym, ap, subst, arith}
 use Rattle.std.specs.Prelude.{Option, Some, None, IfSome}
 use Rattle.std.specs.List.{All}
 use Rattle.std.proofs.lemmas.List.Elements.{All-nil, All-cons, All-from_get_or}
@@ -8,26 +8,27 @@ use Rattle.form_codec.specs.Forms.{Meaning}
 use Rattle.abbrev_tables.specs.Listings.{Listing}
 use Rattle.entry_read.specs.Units.{HeadAndForest, declarations_of}
 use Rattle.list_model.specs.declared.entry.ListKind.{ListKind}
-use Rattle.list_model.specs.declared.entry.ListKind.TheVariants.{Ranges}
 use Rattle.list_model.specs.declared.context.Context.{Context}
 use Rattle.list_model.specs.declared.tables.AddrTable.{AddrTable}
-use Rattle.list_model.specs.Contributions.{ContributionsTile}
+use Rattle.list_model.specs.Contributions.{ContributionsTile, part_end}
 use Rattle.list_model.specs.Items.{HasTable}
+use Rattle.list_model.proofs.Tiling.{part_inside}
 use Rattle.list_model.specs.declared.item.Meaning.{Meaning as HeldMeaning}
 use Rattle.list_model.specs.declared.item.Meaning.TheVariants.{Live, Dead}
 use Rattle.value_links.specs.declared.lists.ListRead.{ListRead as HeldList}
 use Rattle.value_links.specs.declared.parts.Parts.{Parts}
 use Rattle.value_links.specs.declared.units.Units.{Units}
-use Rattle.value_links.specs.Attributes.{rnglists_base}
-use Rattle.value_links.specs.Reading.{UnitRead, ListSection, ListRead, Linkable, unit_at, unit_among, list_at}
+use Rattle.value_links.specs.Reading.{UnitRead, ListSection, ListRead, Linkable, unit_at, unit_among, of_kind, part_at, list_at}
+use Rattle.value_links.specs.ListPlaces.{IsListPlace, base_of}
 use Rattle.value_links.specs.Values.{root_of}
 use Rattle.value_links.specs.Contexts.{IsTableOf, IsContext}
 use Rattle.value_links.specs.Whole.{AreContexts}
 use Rattle.value_links.specs.Lists.{IsFrozen, AreTold}
-use Rattle.value_links.specs.Parts.{HoldUnits, IsBaseFound, HaveBases, HoldsLists, HoldsParts}
+use Rattle.value_links.specs.Parts.{HoldUnits, IsBaseFound, HaveBases, lists_in, bases_in, HoldsLists, HoldsParts}
 use Rattle.value_links.specs.World.{HoldsMeaning, HoldsList, HoldLists}
 use Rattle.value_links.specs.inside.Checks.{table_held, root_attributes}
 use Rattle.value_links.specs.inside.ListPlaces.{AreContributions, IsPartFound, AreBasesHeld}
+use Rattle.value_links.proofs.PartPlaces.{part_stands}
 use Rattle.value_links.proofs.HeldUnits.{held_count, held_is}
 use Rattle.value_links.proofs.TabledUnits.{table_is}
 
@@ -41,15 +42,24 @@ base_read section name read held bases holds are u known =
     subst (λ (z : Listing). IsPartFound section (root_attributes (unit_among read u).forest (declarations_of z)) name (get_or bases u None)) (table_is read held u holds known)
     (subst (λ (z : HeadAndForest). IsPartFound section (root_attributes z.forest (declarations_of (table_held held u))) name (get_or bases u None)) (held_is read held.units.items holds.units u known) here)
 
-base_found : (r : Linkable) (u : ℕ) (found : Option ℕ) → IsPartFound r.ranges (root_of (unit_at r u)).attributes rnglists_base found → IsBaseFound r u Ranges found
-base_found r u (Some p) named = named
-base_found r u None none = none
+base_found : (r : Linkable) (kind : ListKind) (u : ℕ) (found : Option ℕ) → IsPartFound (of_kind r kind) (root_of (unit_at r u)).attributes (base_of kind) found → IsBaseFound r u kind found
+base_found r kind u (Some p) named = named
+base_found r kind u None none = none
 
-pub bases_read : (r : Linkable) (held : Units) (bases : List (Option ℕ)) → HoldUnits r.units held → AreBasesHeld r.ranges rnglists_base held bases → HaveBases r Ranges bases
-bases_read r held bases holds are = record {
+pub bases_read : (r : Linkable) (kind : ListKind) (held : Units) (bases : List (Option ℕ)) → HoldUnits r.units held → AreBasesHeld (of_kind r kind) (base_of kind) held bases → HaveBases r kind bases
+bases_read r kind held bases holds are = record {
   count = are.count ∙ held_count r.units held.units.items holds.units;
-  each = λ u known. base_found r u (get_or bases u None) (base_read r.ranges rnglists_base r.units held bases holds are u known);
+  each = λ u known. base_found r kind u (get_or bases u None) (base_read (of_kind r kind) (base_of kind) r.units held bases holds are u known);
 }
+
+-- PLACES
+
+-- a list begins within its section
+pub place_inside : (section : ListSection) (p at : ℕ) → ContributionsTile section.section section.parts → IsListPlace section p at → at < length section.section
+place_inside section p at tiled (inside, holds) =
+    let ends : part_end (part_at section p) ≤ length section.section = (part_inside section.section (part_at section p) (part_stands section.section section.parts tiled p inside)).1 in
+    let before : at < part_end (part_at section p) = holds.before in
+    omega arith
 
 -- CONTEXTS
 
@@ -67,12 +77,15 @@ tables_stand addr (unit ∷ units) (context ∷ contexts) (first, rest) = All-co
 -- PARTS
 
 module _ (file : List ℕ) (r : Linkable) (parts : Parts) (holds : HoldsParts file r parts) where
-  pub contributions_are : AreContributions parts.ranges
-  contributions_are = record { tiled = subst (λ (z : ListSection). ContributionsTile z.section z.parts) (sym holds.ranges) holds.read.ranges.tiled; few = holds.few_ranges }
+  pub contributions_are : (kind : ListKind) → AreContributions (lists_in parts kind)
+  contributions_are kind = record {
+    tiled = subst (λ (z : ListSection). ContributionsTile z.section z.parts) (sym (holds.lists kind)) (holds.read.lists kind).tiled;
+    few = holds.few_parts kind;
+  }
 
-  base_inside : (u : ℕ) → u < length r.units → (found : Option ℕ) → IsBaseFound r u Ranges found → IfSome found (λ p. p < length parts.ranges.parts.items)
-  base_inside u known (Some p) (n, first, (inside, here)) = subst (λ (z : ListSection). p < length z.parts) (sym holds.ranges) inside
-  base_inside u known None none = tt
+  base_inside : (kind : ListKind) (u : ℕ) → u < length r.units → (found : Option ℕ) → IsBaseFound r u kind found → IfSome found (λ p. p < length (lists_in parts kind).parts.items)
+  base_inside kind u known (Some p) (n, first, (inside, here)) = subst (λ (z : ListSection). p < length z.parts) (sym (holds.lists kind)) inside
+  base_inside kind u known None none = tt
 
   contexts_counted : length parts.contexts.items ≡ length parts.units.units.items
   contexts_counted =
@@ -83,13 +96,13 @@ module _ (file : List ℕ) (r : Linkable) (parts : Parts) (holds : HoldsParts fi
   -- they can be looked up
   pub lists_held : HoldsLists parts
   lists_held = record {
-    tiled = contributions_are.tiled;
-    few = holds.few_ranges;
+    tiled = λ kind. (contributions_are kind).tiled;
+    few = holds.few_parts;
     contexts = contexts_counted;
     operations = holds.operations.count;
     stand = subst (λ (addr : List ℕ). All (λ (context : Context). HasTable addr context.table) parts.contexts.items) (sym holds.addresses) (subst (All (λ (context : Context). HasTable r.addresses context.table)) (sym holds.contexts) (tables_stand r.addresses r.units r.contexts holds.read.contexts));
-    bases = holds.bases.count ∙ sym (held_count r.units parts.units.units.items holds.units.units);
-    inside = All-from_get_or (λ (found : Option ℕ). IfSome found (λ p. p < length parts.ranges.parts.items)) parts.bases.items None (λ u inside. let known : u < length r.units = subst (λ (n : ℕ). u < n) holds.bases.count inside in base_inside u known (get_or parts.bases.items u None) (holds.bases.each u known));
+    bases = λ kind. (holds.bases kind).count ∙ sym (held_count r.units parts.units.units.items holds.units.units);
+    inside = λ kind. All-from_get_or (λ (found : Option ℕ). IfSome found (λ p. p < length (lists_in parts kind).parts.items)) (bases_in parts kind) None (λ u inside. let known : u < length r.units = subst (λ (n : ℕ). u < n) (holds.bases kind).count inside in base_inside kind u known (get_or (bases_in parts kind) u None) ((holds.bases kind).each u known));
   }
 
 -- LISTS

@@ -54,3 +54,6 @@ pub mod ListBytes
 pub mod ListLaws
 pub mod ExprLinks
 pub mod OpLinks
+pub mod ListOwners
+pub mod ListExpressionLaws
+pub mod ListOperations

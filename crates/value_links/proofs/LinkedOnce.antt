@@ -1,6 +1,8 @@
 -- The value of an attribute refers to one thing.
 use Rattle.std.proofs.Common.{◌≡◌, ◌≤◌, ◌<◌, ◌+◌, ◌∙◌, inl, inr, true≢false, ℕ, List, length, sym, ap, subst, arith}
 use Rattle.std.specs.List.{AllZip}
+use Rattle.std.proofs.lemmas.Bool.{cases_lt}
+use Rattle.std.proofs.lemmas.List.{get_or_past}
 use Rattle.std.proofs.lemmas.List.Elements.{All-get_or}
 use Rattle.dw_base.specs.declared.fault.Reach.TheVariants.{Wide}
 use Rattle.expr_ops.specs.declared.names.Named.{Named}
@@ -25,7 +27,7 @@ use Rattle.value_links.specs.Values.{root_of}
 use Rattle.value_links.specs.ListPlaces.{IsOffsetsAt, SlotNames, IsBaseOf, base_of}
 use Rattle.value_links.specs.Whole.{IsReadToLinks}
 use Rattle.value_links.specs.Linked.{Linked, IsTargetAt, IsSectionTarget, IsProgramAt, OffsetLinks, IndexLinks, Links}
-use Rattle.value_links.specs.Operations.{OpTarget, LinkedOperation, NamesUnitEntry, NamesSectionEntry, NamesType, LinksReference, LinksOperation}
+use Rattle.value_links.specs.Operations.{OpTarget, LinkedOperation, NamesUnitEntry, NamesSectionEntry, NamesType, LinksReference, LinksOperation, LinksExpression}
 use Rattle.value_links.specs.Operations.OpTarget.{AnEntry}
 use Rattle.value_links.specs.Linked.Linked.{Operates, Refers, Program, SlotAt, BaseOf}
 use Rattle.value_links.specs.Laws.{OneLinked}
@@ -34,6 +36,16 @@ use Rattle.value_links.proofs.ReadingOnce.{zip_once}
 use Rattle.entry_read.proofs.Chained.{has_bytes, lies_once}
 use Rattle.value_links.proofs.Tiles.{units_chained, programs_chained, parts_chained, tiled_of}
 use Rattle.value_links.proofs.Bases.{one_base}
+
+-- a unit in which an entry stands is one of those that are read: past the last no entry stands
+pub unit_known : (r : Linkable) (u id place : ℕ) → IsEntryAt (unit_at r u).forest id place → u < length r.units
+unit_known r u id place (inside, here) = elim (cases_lt u (length r.units)) [
+  | inl less ↦ less
+  | inr past ↦
+      let none : unit_at r u ≡ no_unit = get_or_past r.units u no_unit past in
+      let size : length (unit_at r u).forest.entries ≡ 0 = ap (λ (z : UnitRead). length z.forest.entries) none in
+      absurd (omega (arith, size, inside))
+]
 
 module _ (file : List ℕ) (r : Linkable) (read : IsReadToLinks file r) where
   unit_read : (u : ℕ) → u < length r.units → IsUnitRead (debug_info file) (debug_abbrev file) (unit_at r u)
@@ -109,9 +121,10 @@ module _ (file : List ℕ) (r : Linkable) (read : IsReadToLinks file r) where
   offset_once u id Views n v w a b = absurd a
   offset_once u id NoOffset n v w a b = absurd a
 
-  -- what an operation names is one thing
-  unit_entry_once : (u : ℕ) → u < length r.units → (n : ℕ) (a b : OpTarget) → NamesUnitEntry r u n a → NamesUnitEntry r u n b → a ≡ b
-  unit_entry_once u inside n a b (i, here, e) (j, there, f) =
+  -- what an operation names is one thing, and past the last unit none names an entry of its unit
+  unit_entry_once : (u n : ℕ) (a b : OpTarget) → NamesUnitEntry r u n a → NamesUnitEntry r u n b → a ≡ b
+  unit_entry_once u n a b (i, here, e) (j, there, f) =
+      let inside : u < length r.units = unit_known r u i ((unit_at r u).head.at + n) here in
       e ∙ ap (λ (z : ℕ). AnEntry u z) (entry_once (unit_at r u).forest (targets u inside).order i j ((unit_at r u).head.at + n) here there) ∙ sym f
 
   section_entry_once : (n : ℕ) (a b : OpTarget) → NamesSectionEntry r n a → NamesSectionEntry r n b → a ≡ b
@@ -121,22 +134,29 @@ module _ (file : List ℕ) (r : Linkable) (read : IsReadToLinks file r) where
       let entry : i ≡ j = entry_once (unit_at r w).forest (targets w w_in).order i j n moved there in
       e ∙ ap (λ (z : ℕ). AnEntry z i) same ∙ ap (λ (z : ℕ). AnEntry w z) entry ∙ sym f
 
-  type_once : (u : ℕ) → u < length r.units → (code n : ℕ) (a b : OpTarget) → NamesType r u code n a → NamesType r u code n b → a ≡ b
-  type_once u inside code n a b (inl (is, e)) (inl (also, f)) = e ∙ sym f
-  type_once u inside code n a b (inl (is, e)) (inr (isnt, there)) = absurd (true≢false (sym is ∙ isnt))
-  type_once u inside code n a b (inr (isnt, here)) (inl (is, f)) = absurd (true≢false (sym is ∙ isnt))
-  type_once u inside code n a b (inr (isnt, here)) (inr (neither, there)) = unit_entry_once u inside n a b here there
+  type_once : (u code n : ℕ) (a b : OpTarget) → NamesType r u code n a → NamesType r u code n b → a ≡ b
+  type_once u code n a b (inl (is, e)) (inl (also, f)) = e ∙ sym f
+  type_once u code n a b (inl (is, e)) (inr (isnt, there)) = absurd (true≢false (sym is ∙ isnt))
+  type_once u code n a b (inr (isnt, here)) (inl (is, f)) = absurd (true≢false (sym is ∙ isnt))
+  type_once u code n a b (inr (isnt, here)) (inr (neither, there)) = unit_entry_once u n a b here there
 
-  reference_once : (u : ℕ) → u < length r.units → (named : Named) (code n : ℕ) (a b : OpTarget) → LinksReference r u named code n a → LinksReference r u named code n b → a ≡ b
-  reference_once u inside Nothing code n a b e f = e ∙ sym f
-  reference_once u inside BaseType code n a b p q = type_once u inside code n a b p q
-  reference_once u inside UnitEntry code n a b p q = unit_entry_once u inside n a b p q
-  reference_once u inside SectionEntry code n a b p q = section_entry_once n a b p q
+  reference_once : (u : ℕ) (named : Named) (code n : ℕ) (a b : OpTarget) → LinksReference r u named code n a → LinksReference r u named code n b → a ≡ b
+  reference_once u Nothing code n a b e f = e ∙ sym f
+  reference_once u BaseType code n a b p q = type_once u code n a b p q
+  reference_once u UnitEntry code n a b p q = unit_entry_once u n a b p q
+  reference_once u SectionEntry code n a b p q = section_entry_once n a b p q
 
-  operation_once : (u : ℕ) → u < length r.units → (o : Operation) (x y : LinkedOperation) → LinksOperation r u o x → LinksOperation r u o y → x ≡ y
-  operation_once u inside o x y p q =
-      let target : x.target ≡ y.target = reference_once u inside (named_by o.code) o.code o.a x.target y.target p.target q.target in
+  operation_once : (u : ℕ) (o : Operation) (x y : LinkedOperation) → LinksOperation r u o x → LinksOperation r u o y → x ≡ y
+  operation_once u o x y p q =
+      let target : x.target ≡ y.target = reference_once u (named_by o.code) o.code o.a x.target y.target p.target q.target in
       ap (λ (z : Operation). record { operation = z; target = x.target }) (p.operation ∙ sym q.operation) ∙ ap (λ (z : OpTarget). record { operation = y.operation; target = z }) target
+
+  -- so the bytes of an expression are these operations
+  pub operations_once : (u : ℕ) (bytes : List ℕ) (a b : List LinkedOperation) → LinksExpression r u bytes a → LinksExpression r u bytes b → a ≡ b
+  operations_once u bytes a b (os, spelled, here) (ps, again, there) =
+      let same : os ≡ ps = expression_once Wide os ps bytes spelled again in
+      let moved : AllZip (LinksOperation r u) ps a = subst (λ (z : List Operation). AllZip (LinksOperation r u) z a) same here in
+      zip_once (LinksOperation r u) (operation_once u) ps a b moved there
 
   value_once : (u id name : ℕ) (meaning : Meaning) (v w : Linked) → u < length r.units → Links r u id name meaning v → Links r u id name meaning w → v ≡ w
   value_once u id name (InUnit n) v w inside (a, here, e) (b, there, f) =
@@ -146,10 +166,7 @@ module _ (file : List ℕ) (r : Linkable) (read : IsReadToLinks file r) where
   value_once u id name (SectionPlace n) v w inside a b = offset_once u id (offset_class name) n v w a b
   value_once u id name (LocationList i) v w inside a b = index_once u Locations i v w a b
   value_once u id name (RangeList i) v w inside a b = index_once u Ranges i v w a b
-  value_once u id name (Expression bytes) v w inside (a, (os, spelled, here), e) (b, (ps, again, there), f) =
-      let same : os ≡ ps = expression_once Wide os ps bytes spelled again in
-      let moved : AllZip (LinksOperation r u) ps a = subst (λ (z : List Operation). AllZip (LinksOperation r u) z a) same here in
-      e ∙ ap (λ (z : List LinkedOperation). Operates z) (zip_once (LinksOperation r u) (operation_once u inside) ps a b moved there) ∙ sym f
+  value_once u id name (Expression bytes) v w inside (a, here, e) (b, there, f) = e ∙ ap (λ (z : List LinkedOperation). Operates z) (operations_once u bytes a b here there) ∙ sym f
   value_once u id name meaning v w inside a b = a ∙ sym b
 
 pub linked_once : OneLinked

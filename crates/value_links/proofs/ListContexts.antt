@@ -6,11 +6,12 @@ use Rattle.std.proofs.lemmas.Bool.{true≢false, cases_lt}
 use Rattle.std.proofs.lemmas.List.{take_more, get_or_default}
 use Rattle.std.proofs.lemmas.List.Elements.{All-contains, Contains-get_or, Contains-append_left, Contains-push, Contains-push_cases}
 use Rattle.list_model.specs.declared.context.Context.{Context}
+use Rattle.list_model.specs.declared.entry.ListKind.{ListKind}
 use Rattle.list_model.specs.declared.entry.RawEntry.{RawEntry}
 use Rattle.list_model.specs.Items.{HasTable}
 use Rattle.value_links.specs.Reading.{ListSection, no_context}
-use Rattle.value_links.specs.inside.Namings.{slot_number, IsSomeNaming, AreInOrder}
-use Rattle.value_links.specs.inside.NamedLists.{first_naming, HasUnit, context_held, IsLookedUpIn, AreLookedUpBy, IsOtherContext, IsNextContext}
+use Rattle.value_links.specs.inside.Namings.{first_naming, slot_number, IsSomeNaming, AreInOrder}
+use Rattle.value_links.specs.inside.NamedLists.{HasUnit, context_held, IsLookedUpIn, AreLookedUpBy, IsOtherContext, IsNextContext}
 
 -- UNITS
 
@@ -37,21 +38,21 @@ no_unit_yet named u (real, (at, has)) = let none = has.1 in absurd (omega arith)
 -- CONTEXTS
 
 -- what is known after some of the units: whether one has another context than the owner's, and the context that was seen last
-pub record AreWalked (addr : List ℕ) (contexts : List Context) (named : List (ℕ × ℕ)) (raws : List RawEntry) (owned : Context) (i : ℕ) (shared : Bool) (last : Context) : Type 0 where
-  pub looked : AreLookedUpBy addr contexts (take i named) raws
+pub record AreWalked (of : ListKind) (addr : List ℕ) (contexts : List Context) (named : List (ℕ × ℕ)) (raws : List RawEntry) (owned : Context) (i : ℕ) (shared : Bool) (last : Context) : Type 0 where
+  pub looked : AreLookedUpBy of addr contexts (take i named) raws
   pub other : IsOtherContext contexts (take i named) owned shared
-  pub known : IsLookedUpIn addr raws last
+  pub known : IsLookedUpIn of addr raws last
   pub alone : shared ≡ false → last ≡ owned
 
-pub none_walked : (addr : List ℕ) (contexts : List Context) (named : List (ℕ × ℕ)) (raws : List RawEntry) (owned : Context) → IsLookedUpIn addr raws owned → AreWalked addr contexts named raws owned 0 false owned
-none_walked addr contexts named raws owned known = record {
+pub none_walked : (of : ListKind) (addr : List ℕ) (contexts : List Context) (named : List (ℕ × ℕ)) (raws : List RawEntry) (owned : Context) → IsLookedUpIn of addr raws owned → AreWalked of addr contexts named raws owned 0 false owned
+none_walked of addr contexts named raws owned known = record {
   looked = λ u has. absurd (no_unit_yet named u has);
   other = λ u has. absurd (no_unit_yet named u has);
   known = known;
   alone = λ e. refl;
 }
 
-module _ (addr : List ℕ) (contexts : List Context) (named : List (ℕ × ℕ)) (raws : List RawEntry) (owned : Context) (i : ℕ) (inside : i < length named) (x : ℕ × ℕ) (is : x ≡ get_or named i x) where
+module _ (of : ListKind) (addr : List ℕ) (contexts : List Context) (named : List (ℕ × ℕ)) (raws : List RawEntry) (owned : Context) (i : ℕ) (inside : i < length named) (x : ℕ × ℕ) (is : x ≡ get_or named i x) where
   -- a slot tells nothing
   other_slot : (shared : Bool) → x.1 ≡ slot_number → IsOtherContext contexts (take i named) owned shared → IsOtherContext contexts (take (i + 1) named) owned shared
   other_slot true slot (u, has, apart) = (u, unit_kept named i inside x is u has, apart)
@@ -60,7 +61,7 @@ module _ (addr : List ℕ) (contexts : List Context) (named : List (ℕ × ℕ))
     | inr here ↦ absurd (here.1 (here.0 ∙ slot))
   ]
 
-  slot_walked : (shared : Bool) (last : Context) → x.1 ≡ slot_number → AreWalked addr contexts named raws owned i shared last → AreWalked addr contexts named raws owned (i + 1) shared last
+  slot_walked : (shared : Bool) (last : Context) → x.1 ≡ slot_number → AreWalked of addr contexts named raws owned i shared last → AreWalked of addr contexts named raws owned (i + 1) shared last
   slot_walked shared last slot w = record {
     looked = λ u has. elim (unit_cases named i inside x is u has) [ inl before ↦ w.looked u before | inr here ↦ absurd (here.1 (here.0 ∙ slot)) ];
     other = other_slot shared slot w.other;
@@ -76,11 +77,11 @@ module _ (addr : List ℕ) (contexts : List Context) (named : List (ℕ × ℕ))
     | inr here ↦ ap (context_held contexts) here.0 ∙ same ∙ alone refl
   ]
 
-  same_walked : (shared : Bool) (last : Context) → context_held contexts x.1 ≡ last → AreWalked addr contexts named raws owned i shared last → AreWalked addr contexts named raws owned (i + 1) shared last
+  same_walked : (shared : Bool) (last : Context) → context_held contexts x.1 ≡ last → AreWalked of addr contexts named raws owned i shared last → AreWalked of addr contexts named raws owned (i + 1) shared last
   same_walked shared last same w = record {
     looked = λ u has. elim (unit_cases named i inside x is u has) [
       | inl before ↦ w.looked u before
-      | inr here ↦ subst (IsLookedUpIn addr raws) (sym (ap (context_held contexts) here.0 ∙ same)) w.known
+      | inr here ↦ subst (IsLookedUpIn of addr raws) (sym (ap (context_held contexts) here.0 ∙ same)) w.known
     ];
     other = other_same shared last same w.alone w.other;
     known = w.known;
@@ -92,11 +93,11 @@ module _ (addr : List ℕ) (contexts : List Context) (named : List (ℕ × ℕ))
   other_next true last real apart alone (u, has, other) = (u, unit_kept named i inside x is u has, other)
   other_next false last real apart alone all = (x.1, unit_new named i inside x is real, λ e. apart (e ∙ sym (alone refl)))
 
-  next_walked : (shared : Bool) (last next : Context) → x.1 ≢ slot_number → next ≡ context_held contexts x.1 → next ≢ last → IsLookedUpIn addr raws next → AreWalked addr contexts named raws owned i shared last → AreWalked addr contexts named raws owned (i + 1) true next
+  next_walked : (shared : Bool) (last next : Context) → x.1 ≢ slot_number → next ≡ context_held contexts x.1 → next ≢ last → IsLookedUpIn of addr raws next → AreWalked of addr contexts named raws owned i shared last → AreWalked of addr contexts named raws owned (i + 1) true next
   next_walked shared last next real e apart known w = record {
     looked = λ u has. elim (unit_cases named i inside x is u has) [
       | inl before ↦ w.looked u before
-      | inr here ↦ subst (IsLookedUpIn addr raws) (e ∙ sym (ap (context_held contexts) here.0)) known
+      | inr here ↦ subst (IsLookedUpIn of addr raws) (e ∙ sym (ap (context_held contexts) here.0)) known
     ];
     other = other_next shared last real (λ same. apart (e ∙ same)) w.alone w.other;
     known = known;
@@ -104,10 +105,10 @@ module _ (addr : List ℕ) (contexts : List Context) (named : List (ℕ × ℕ))
   }
 
   -- so the next context is looked at
-  pub walked_none : (shared : Bool) (last : Context) → IsNextContext addr contexts raws x.1 last None → AreWalked addr contexts named raws owned i shared last → AreWalked addr contexts named raws owned (i + 1) shared last
+  pub walked_none : (shared : Bool) (last : Context) → IsNextContext of addr contexts raws x.1 last None → AreWalked of addr contexts named raws owned i shared last → AreWalked of addr contexts named raws owned (i + 1) shared last
   walked_none shared last none w = elim none [ inl slot ↦ slot_walked shared last slot w | inr same ↦ same_walked shared last same w ]
 
-  pub walked_some : (shared : Bool) (last next : Context) → IsNextContext addr contexts raws x.1 last (Some next) → AreWalked addr contexts named raws owned i shared last → AreWalked addr contexts named raws owned (i + 1) true next
+  pub walked_some : (shared : Bool) (last next : Context) → IsNextContext of addr contexts raws x.1 last (Some next) → AreWalked of addr contexts named raws owned i shared last → AreWalked of addr contexts named raws owned (i + 1) true next
   walked_some shared last next (real, e, apart, known) w = next_walked shared last next real e apart known w
 
 -- WHAT IS HELD

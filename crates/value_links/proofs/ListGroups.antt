@@ -1,5 +1,5 @@
 -- Namings in their order, cut into those of one list after the other.
-use Rattle.std.proofs.Common.{◌≡◌, ◌≢◌, ◌≤◌, ◌<◌, ◌+◌, ◌-◌, ◌∙◌, ◌++◌, inl, inr, ℕ, List, [], ◌∷◌, length, get_or, take, drop, map, sym, ap, subst, refl, arith}
+use Rattle.std.proofs.Common.{◌≡◌, ◌≢◌, ◌≤◌, ◌<◌, ◌+◌, ◌-◌, ◌∙◌, ◌++◌, inl, inr, ℕ, List, [], ◌∷◌, length, get_or, take, drop, map, sym, ap, subst, arith}
 use Rattle.std.specs.List.{All, Contains}
 use Rattle.std.proofs.lemmas.Bool.{cases_lt}
 use Rattle.std.proofs.lemmas.List.{length-take-le, length-drop, get_or-take, get_or-drop, get_or_default, map-append, take_all}
@@ -8,12 +8,14 @@ use Rattle.std.proofs.lemmas.List.Quantifiers.{all_pairs_push}
 use Rattle.std.proofs.lemmas.List.Sums.{sum_by_push}
 use Rattle.dw_base.specs.declared.fault.Reach.{Reach}
 use Rattle.list_model.specs.declared.context.Context.{Context}
-use Rattle.list_model.specs.Reading.{list_entry_limit}
+use Rattle.list_model.specs.declared.entry.ListKind.{ListKind}
+use Rattle.list_model.specs.declared.entry.RawEntry.{RawEntry}
 use Rattle.value_links.specs.declared.lists.ListRead.{ListRead as HeldList}
+use Rattle.value_links.specs.declared.lists.ListTotals.{ListTotals}
 use Rattle.value_links.specs.Reading.{ListSection, ListRead}
-use Rattle.value_links.specs.ListFaults.{entry_total}
-use Rattle.value_links.specs.inside.Namings.{IsNotBehind, AreInOrder}
-use Rattle.value_links.specs.inside.NamedLists.{first_naming, AreNamingsAt, IsReadBy, as_read, IsReadAmong, AreReadUpTo, IsNext}
+use Rattle.value_links.specs.ListFaults.{list_total, expression_bytes}
+use Rattle.value_links.specs.inside.Namings.{first_naming, IsNotBehind, AreInOrder}
+use Rattle.value_links.specs.inside.NamedLists.{AreNamingsAt, IsReadBy, as_read, IsReadAmong, AreCounted, AreFew, IsNextTotal, AreReadUpTo, IsNext}
 
 abbrev none : ℕ × ℕ
 none = (0, 0)
@@ -55,6 +57,22 @@ in_order_back : (n : ℕ) (xs : List (ℕ × ℕ)) → AreInOrder xs → AreInOr
 in_order_back n xs order i j d less inside =
     let size : length (drop n xs) ≡ length xs - n = length-drop n xs in
     rw (get_or-drop n xs i d, get_or-drop n xs j d) (order (n + i) (n + j) d (omega arith) (omega arith))
+
+-- WHAT LISTS HAVE TOGETHER
+
+-- one list more
+total_more : (measure : List RawEntry → ℕ) (lists : List HeldList) (list : HeldList) → list_total measure (map as_read (lists ++ list ∷ [])) ≡ list_total measure (map as_read lists) + measure list.raw.items
+total_more measure lists list = ap (list_total measure) (map-append as_read lists (list ∷ [])) ∙ sum_by_push (λ (l : ListRead). measure l.raws) (map as_read lists) (as_read list)
+
+counted_more : (before : ListTotals) (lists : List HeldList) (list : HeldList) (now next_now : ListTotals) → AreCounted before (map as_read lists) now → (reach : Reach) → IsNextTotal reach now list.raw.items next_now → AreCounted before (map as_read (lists ++ list ∷ [])) next_now
+counted_more before lists list now next_now counted reach total =
+    let more : list_total length (map as_read (lists ++ list ∷ [])) ≡ list_total length (map as_read lists) + length list.raw.items = total_more length lists list in
+    let longer : list_total expression_bytes (map as_read (lists ++ list ∷ [])) ≡ list_total expression_bytes (map as_read lists) + expression_bytes list.raw.items = total_more expression_bytes lists list in
+    let entries : now.entries ≡ before.entries + list_total length (map as_read lists) = counted.entries in
+    let bytes : now.bytes ≡ before.bytes + list_total expression_bytes (map as_read lists) = counted.bytes in
+    let up : next_now.entries ≡ now.entries + length list.raw.items = total.entries in
+    let over : next_now.bytes ≡ now.bytes + expression_bytes list.raw.items = total.bytes in
+    record { entries = omega arith; bytes = omega arith }
 
 -- ONE LIST'S NAMINGS
 
@@ -161,7 +179,7 @@ module _ (namings : List (ℕ × ℕ)) (order : AreInOrder namings) (from : ℕ)
 
   -- ALL LISTS UP TO THEM
 
-  module _ (section : ListSection) (addr : List ℕ) (contexts : List Context) (reach : Reach) (lists : List HeldList) (entries : ℕ) (up : AreReadUpTo section addr contexts namings reach from lists entries) where
+  module _ (of : ListKind) (section : ListSection) (addr : List ℕ) (contexts : List Context) (reach : Reach) (before : ListTotals) (lists : List HeldList) (now : ListTotals) (up : AreReadUpTo of section addr contexts namings reach before from lists now) where
     pub lists_before : (list : HeldList) → Contains lists list → list.at < (first_naming named).0
     lists_before list has =
         let ahead : list.at < (get_or namings from none).0 = up.ahead (get_or namings from none) list (back_has namings from from (omega arith) inside) has in
@@ -172,7 +190,7 @@ module _ (namings : List (ℕ × ℕ)) (order : AreInOrder namings) (from : ℕ)
         let (list, has_list, same) = up.done y has in
         subst (λ (z : ℕ). z < (first_naming named).0) same (lists_before list has_list)
 
-    module _ (list : HeldList) (read : IsReadBy section addr contexts named list) (few : entries + length list.raw.items ≤ list_entry_limit reach) where
+    module _ (list : HeldList) (read : IsReadBy of section addr contexts named list) (next_now : ListTotals) (total : IsNextTotal reach now list.raw.items next_now) where
       done_more : (y : ℕ × ℕ) → Contains (take (from + count) namings) y → (l : HeldList) × Contains (lists ++ list ∷ []) l × (l.at ≡ y.0)
       done_more y has =
           let f = fits in
@@ -195,23 +213,23 @@ module _ (namings : List (ℕ × ℕ)) (order : AreInOrder namings) (from : ℕ)
             | inr same ↦ subst (λ (z : HeldList). z.at < y.0) same (omega arith)
           ]
 
-      pub one_more : AreReadUpTo section addr contexts namings reach (from + count) (lists ++ list ∷ []) (entries + length list.raw.items)
+      pub one_more : AreReadUpTo of section addr contexts namings reach before (from + count) (lists ++ list ∷ []) next_now
       one_more = record {
         inside = fits;
-        counted = ap (λ (z : ℕ). z + length list.raw.items) up.counted ∙ sym (sum_by_push (λ (l : ListRead). length l.raws) (map as_read lists) (as_read list)) ∙ ap entry_total (sym (map-append as_read lists (list ∷ [])));
-        few = few;
-        each = All-push (IsReadAmong section addr contexts namings) lists list up.each (named, subst (λ (z : ℕ). AreNamingsAt namings z named) (sym read.at) (namings_at namings_before), read);
+        counted = counted_more before lists list now next_now up.counted reach total;
+        few = total.few;
+        each = All-push (IsReadAmong of section addr contexts namings) lists list up.each (named, subst (λ (z : ℕ). AreNamingsAt namings z named) (sym read.at) (namings_at namings_before), read);
         rising = all_pairs_push (λ (x y : HeldList). x.at < y.at) lists list up.rising (λ k d k_in. subst (λ (z : ℕ). (get_or lists k d).at < z) (sym read.at) (lists_before (get_or lists k d) (Contains-get_or lists k d k_in)));
         done = done_more;
         ahead = ahead_more;
       }
 
 -- none are read at first
-pub none_read : (section : ListSection) (addr : List ℕ) (contexts : List Context) (namings : List (ℕ × ℕ)) (reach : Reach) (lists : List HeldList) → lists ≡ [] → AreReadUpTo section addr contexts namings reach 0 lists 0
-none_read section addr contexts namings reach lists e = subst (λ (z : List HeldList). AreReadUpTo section addr contexts namings reach 0 z 0) (sym e) (record {
+pub none_read : (of : ListKind) (section : ListSection) (addr : List ℕ) (contexts : List Context) (namings : List (ℕ × ℕ)) (reach : Reach) (before : ListTotals) (lists : List HeldList) → AreFew reach before → lists ≡ [] → AreReadUpTo of section addr contexts namings reach before 0 lists before
+none_read of section addr contexts namings reach before lists few e = subst (λ (z : List HeldList). AreReadUpTo of section addr contexts namings reach before 0 z before) (sym e) (record {
   inside = omega arith;
-  counted = refl;
-  few = omega arith;
+  counted = record { entries = omega arith; bytes = omega arith };
+  few = few;
   each = λ k d inside. absurd (omega arith);
   rising = λ i j d less inside. absurd (omega arith);
   done = λ y has. absurd (omega (arith, has.1));

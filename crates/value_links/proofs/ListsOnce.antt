@@ -8,7 +8,8 @@ use Rattle.list_model.specs.declared.entry.RawEntry.{RawEntry}
 use Rattle.list_model.specs.Contributions.{ContributionsTile}
 use Rattle.list_model.proofs.EntryLaws.{entries_once, entries_whole, entries_apart, ends_whole}
 use Rattle.list_model.proofs.Tiling.{one_tile}
-use Rattle.range_lists.proofs.RangeLaws.{one_list}
+use Rattle.range_lists.proofs.RangeLaws.{one_list as one_range_list}
+use Rattle.loc_lists.proofs.LocationLaws.{one_list as one_location_list}
 use Rattle.value_links.specs.Reading.{ListRead, ListSection, Linkable, of_kind, part_at, list_at}
 use Rattle.value_links.specs.ListPlaces.{IsListPlace}
 use Rattle.value_links.specs.Lists.{IsListOf, IsListIn, AreListsOf}
@@ -78,8 +79,8 @@ place_once section tiled at p q (p_in, here) (q_in, there) =
 -- LISTS
 
 read_once : (kind : ListKind) (section : List ℕ) (part : Contribution) (at : ℕ) (raws others : List RawEntry) → IsListOf kind section part at raws → IsListOf kind section part at others → raws ≡ others
-read_once Ranges section part at raws others p q = one_list entries_once entries_apart entries_whole ends_whole section part at raws others p q
-read_once Locations section part at raws others none _ = absurd none
+read_once Ranges section part at raws others p q = one_range_list entries_once entries_apart entries_whole ends_whole section part at raws others p q
+read_once Locations section part at raws others p q = one_location_list entries_once entries_apart entries_whole ends_whole section part at raws others p q
 
 module _ (file : List ℕ) (r : Linkable) (read : IsReadToLinks file r) where
   pub list_same : (kind : ListKind) (a b : ListRead) → IsListIn r kind a → IsListIn r kind b → a.at ≡ b.at → a ≡ b

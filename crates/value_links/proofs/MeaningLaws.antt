@@ -1,13 +1,13 @@
 -- What a value refers to means one thing, and means something where all is told of lists.
-use Rattle.std.proofs.Common.{◌≡◌, ◌<◌, ◌∙◌, inl, inr, ℕ, List, length, sym, ap, subst, refl, arith}
+use Rattle.std.proofs.Common.{◌≡◌, ◌<◌, ◌∙◌, inl, inr, ℕ, List, length, sym, ap, subst, refl}
 use Rattle.form_codec.specs.Forms.{Meaning}
 use Rattle.form_codec.specs.Forms.Meaning.{Expression, InUnit, InSection, SectionPlace, LocationList, RangeList}
 use Rattle.list_model.specs.declared.entry.ListKind.{ListKind}
 use Rattle.list_model.specs.declared.entry.ListKind.TheVariants.{Ranges, Locations}
 use Rattle.value_links.specs.Attributes.{OffsetClass, offset_class}
 use Rattle.value_links.specs.Attributes.OffsetClass.{LinePtr, RngList, LocList, RngListsPtr, LocListsPtr, AddrPtr, StrOffsetsPtr, MacPtr, Views, NoOffset}
-use Rattle.value_links.specs.Reading.{Linkable, Reading, of_kind, part_at}
-use Rattle.value_links.specs.Linked.{Linked, IsListAt, OffsetLinks, IndexLinks, Links, IsLinked}
+use Rattle.value_links.specs.Reading.{Linkable, Reading, of_kind, lists_of, part_at}
+use Rattle.value_links.specs.Linked.{Linked, OffsetLinks, IndexLinks, Links, IsLinked}
 use Rattle.value_links.specs.Linked.Linked.{Itself as LinkItself, Operates as LinkOperates, Refers as LinkRefers, Program as LinkProgram, ListAt, SlotAt, BaseOf, Kept as LinkKept}
 use Rattle.value_links.specs.Lists.{AreTold}
 use Rattle.value_links.specs.Whole.{IsReading}
@@ -38,9 +38,8 @@ meaning_once file r u id name meaning v w read inside a b =
 
 -- SOMETHING
 
--- what a link names may be named: a list begins at a place that one can have, and a slot is one of its contribution
+-- a slot that a link tells is one of its contribution
 abbrev IsSound : Linkable → Linked → Type 0
-IsSound r (ListAt kind at) = IsListAt r kind at
 IsSound r (SlotAt kind p i) = (p < length (of_kind r kind).parts) × (i < (part_at (of_kind r kind) p).slots)
 IsSound r linked = Unit {0}
 
@@ -49,8 +48,8 @@ index_sound r u kind i v (p, (n, first, (known, begins)), less, e) = subst (λ (
 
 offset_sound : (r : Linkable) (u id : ℕ) (class : OffsetClass) (n : ℕ) (v : Linked) → OffsetLinks r u id class n v → IsSound r v
 offset_sound r u id LinePtr n v (p, here, e) = subst (λ (z : Linked). IsSound r z) (sym e) tt
-offset_sound r u id RngList n v (here, e) = subst (λ (z : Linked). IsSound r z) (sym e) here
-offset_sound r u id LocList n v (here, e) = subst (λ (z : Linked). IsSound r z) (sym e) here
+offset_sound r u id RngList n v (here, e) = subst (λ (z : Linked). IsSound r z) (sym e) tt
+offset_sound r u id LocList n v (here, e) = subst (λ (z : Linked). IsSound r z) (sym e) tt
 offset_sound r u id RngListsPtr n v (p, here, e) = subst (λ (z : Linked). IsSound r z) (sym e) tt
 offset_sound r u id LocListsPtr n v (p, here, e) = subst (λ (z : Linked). IsSound r z) (sym e) tt
 offset_sound r u id AddrPtr n v (here, e) = subst (λ (z : Linked). IsSound r z) (sym e) tt
@@ -68,20 +67,18 @@ links_sound r u id name (RangeList i) v links = index_sound r u Ranges i v links
 links_sound r u id name (Expression bytes) v (operations, expression, e) = subst (λ (z : Linked). IsSound r z) (sym e) tt
 links_sound r u id name meaning v e = subst (λ (z : Linked). IsSound r z) (sym e) tt
 
-resolved_of : (file : List ℕ) (r : Reading) → IsReading file r → AreTold r.links Ranges r.range_lists → (u number : ℕ) → u < length r.links.units → (linked : Linked) → IsLinked r.links u number linked → IsSound r.links linked → (v : Resolved) × ResolvesLink r linked v
+resolved_of : (file : List ℕ) (r : Reading) → IsReading file r → ((kind : ListKind) → AreTold r.links kind (lists_of r kind)) → (u number : ℕ) → u < length r.links.units → (linked : Linked) → IsLinked r.links u number linked → IsSound r.links linked → (v : Resolved) × ResolvesLink r linked v
 resolved_of file r read told u number known (LinkItself meaning) here sound = (Itself meaning, refl)
 resolved_of file r read told u number known (LinkOperates operations) here sound = (Operates operations, refl)
 resolved_of file r read told u number known (LinkRefers unit target) here sound = (Refers unit target, refl)
 resolved_of file r read told u number known (LinkProgram p) here sound = (Program p, refl)
-resolved_of file r read told u number known (ListAt Ranges at) here sound =
-    let (meaning, means) = named_means file r read told at (inl (u, record { known = known; number = number; linked = ListAt Ranges at; links = here; names = (refl, refl) })) in
+resolved_of file r read told u number known (ListAt kind at) here sound =
+    let (meaning, means) = named_means file r read kind (told kind) at (inl (u, record { known = known; number = number; linked = ListAt kind at; links = here; names = (refl, refl) })) in
     (AList meaning, (meaning, means, refl))
-resolved_of file r read told u number known (ListAt Locations at) here (p, (inside, place)) = absurd (omega arith)
-resolved_of file r read told u number known (SlotAt Ranges p i) here (inside, counted) =
-    let (at, names) = read.ranges.slots p i inside counted in
-    let (meaning, means) = named_means file r read told at (inr (p, i, names)) in
+resolved_of file r read told u number known (SlotAt kind p i) here (inside, counted) =
+    let (at, names) = (read.lists kind).slots p i inside counted in
+    let (meaning, means) = named_means file r read kind (told kind) at (inr (p, i, names)) in
     (Indexed i meaning, (at, meaning, names, means, refl))
-resolved_of file r read told u number known (SlotAt Locations p i) here (inside, counted) = absurd (omega arith)
 resolved_of file r read told u number known (BaseOf kind p) here sound = (PartOf kind p, refl)
 resolved_of file r read told u number known (LinkKept n) here sound = (Kept n, refl)
 

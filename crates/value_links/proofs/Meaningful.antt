@@ -23,14 +23,15 @@ use Rattle.entry_read.specs.Heads.{type_unit}
 use Rattle.entry_read.proofs.Parts.{values_push}
 use Rattle.entry_read.proofs.PlaceLaws.{entry_stands}
 use Rattle.value_links.specs.Sections.{offset_named, debug_info, debug_abbrev, debug_line, info_name}
-use Rattle.list_model.specs.declared.entry.ListKind.TheVariants.{Ranges}
-use Rattle.value_links.specs.Reading.{ProgramRead, Linkable, Reading, line_heads, HasRows, no_unit, unit_at, part_at, declarations, IsUnitRead}
+use Rattle.list_model.specs.declared.entry.ListKind.{ListKind}
+use Rattle.list_model.specs.declared.entry.ListKind.TheVariants.{Ranges, Locations}
+use Rattle.value_links.specs.Reading.{ProgramRead, Linkable, Reading, line_heads, HasRows, no_unit, unit_at, of_kind, lists_of, part_at, declarations, IsUnitRead}
 use Rattle.value_links.specs.Whole.{IsReadToLinks, IsReading}
 use Rattle.value_links.specs.Values.{entry_of, declaration_of, values_of, HasValueAt}
 use Rattle.value_links.specs.Linked.{Linked, Links, IsTypeEntry}
 use Rattle.value_links.specs.Lists.{AreTold}
 use Rattle.value_links.specs.Resolved.{ListMeaning, Resolved, Resolves}
-use Rattle.value_links.specs.Debug.{EntryMeaning, UnitMeaning, PartMeaning, Debug, described, set_meaning, MeansAttribute, MeansEntry, MeansType, MeanEntries, MeansUnit, MeansSlot, MeansPart, MeansDebug}
+use Rattle.value_links.specs.Debug.{EntryMeaning, UnitMeaning, PartMeaning, Debug, described, set_meaning, MeansAttribute, MeansEntry, MeansType, MeanEntries, MeansUnit, MeansSlot, MeansPart, MeanParts, parts_of, MeansDebug}
 use Rattle.value_links.specs.Faults.{FaultLinks, IsValid}
 use Rattle.value_links.specs.Faults.Pass.{OfLinks}
 use Rattle.value_links.specs.Laws.{ValidFilesMean}
@@ -82,7 +83,7 @@ ValuesLink r = (u id number name : ℕ) (meaning : Meaning) (place : ℕ) → u 
 abbrev TypesStand : Linkable → Type 0
 TypesStand r = (u : ℕ) → u < length r.units → (unit_at r u).head.kind ≡ type_unit → (id : ℕ) × IsTypeEntry r u id
 
-module _ (file : List ℕ) (r : Reading) (read : IsReading file r) (told : AreTold r.links Ranges r.range_lists) (value_links : ValuesLink r.links) (type_stands : TypesStand r.links) where
+module _ (file : List ℕ) (r : Reading) (read : IsReading file r) (told : (kind : ListKind) → AreTold r.links kind (lists_of r kind)) (value_links : ValuesLink r.links) (type_stands : TypesStand r.links) where
   -- so each means something
   value_means : (u id number name : ℕ) (meaning : Meaning) (place : ℕ) → u < length r.links.units → HasValueAt (unit_at r.links u) id number name meaning place → (v : Resolved) × Resolves r u id name meaning v
   value_means u id number name meaning place inside h =
@@ -135,24 +136,34 @@ module _ (file : List ℕ) (r : Reading) (read : IsReading file r) (told : AreTo
       (record { unit_type = unit.head.kind; signature = unit.head.extra; type_entry = entry; forest = forest }, record { unit_type = refl; signature = refl; type_entry = is; forest = entries })
 
   -- each slot names a list, which means something
-  slot_means : (p : ℕ) → p < length r.links.ranges.parts → (i : ℕ) → i < (part_at r.links.ranges p).slots → (m : ListMeaning) × MeansSlot r Ranges p i m
-  slot_means p inside i counted =
-      let (at, names) = read.ranges.slots p i inside counted in
-      let (meaning, means) = named_means file r read told at (inr (p, i, names)) in
+  slot_means : (kind : ListKind) (p : ℕ) → p < length (of_kind r.links kind).parts → (i : ℕ) → i < (part_at (of_kind r.links kind) p).slots → (m : ListMeaning) × MeansSlot r kind p i m
+  slot_means kind p inside i counted =
+      let (at, names) = (read.lists kind).slots p i inside counted in
+      let (meaning, means) = named_means file r read kind (told kind) at (inr (p, i, names)) in
       (meaning, (at, names, means))
 
-  part_means : (p : ℕ) → p < length r.links.ranges.parts → (m : PartMeaning) × MeansPart r Ranges p m
-  part_means p inside =
-      let (slots, count, each) = list_from (MeansSlot r Ranges p) (part_at r.links.ranges p).slots (slot_means p inside) in
+  part_means : (kind : ListKind) (p : ℕ) → p < length (of_kind r.links kind).parts → (m : PartMeaning) × MeansPart r kind p m
+  part_means kind p inside =
+      let (slots, count, each) = list_from (MeansSlot r kind p) (part_at (of_kind r.links kind) p).slots (slot_means kind p inside) in
       (record { slots = slots }, record { count = count; each = each })
+
+  parts_mean : (kind : ListKind) → (parts : List PartMeaning) × MeanParts r kind parts
+  parts_mean kind =
+      let (parts, number, each) = list_from (MeansPart r kind) (length (of_kind r.links kind).parts) (part_means kind) in
+      (parts, record { count = number; each = each })
+
+  by_kind : (debug : Debug) → MeanParts r Ranges debug.ranges → MeanParts r Locations debug.locations → (kind : ListKind) → MeanParts r kind (parts_of debug kind)
+  by_kind debug ranges locations Ranges = ranges
+  by_kind debug ranges locations Locations = locations
 
   file_means : (debug : Debug) × MeansDebug file r debug
   file_means =
       let (units, size, each) = list_from (MeansUnit r) (length r.links.units) unit_means in
       let (programs, meant) = programs_mean (debug_line file) r.links.programs read.links.programs.given in
-      let (parts, number, each_part) = list_from (MeansPart r Ranges) (length r.links.ranges.parts) part_means in
-      let debug : Debug = record { programs = programs; units = units; ranges = parts; aranges = map set_meaning r.sets } in
-      (debug, record { programs = meant; units = record { count = size; each = each }; ranges = record { count = number; each = each_part }; aranges = refl })
+      let (ranges, of_ranges) = parts_mean Ranges in
+      let (locations, of_locations) = parts_mean Locations in
+      let debug : Debug = record { programs = programs; units = units; ranges = ranges; locations = locations; aranges = map set_meaning r.sets } in
+      (debug, record { programs = meant; units = record { count = size; each = each }; lists = by_kind debug of_ranges of_locations; aranges = refl })
 
 -- VALID FILES
 

@@ -5,6 +5,7 @@ use Rattle.std.proofs.lemmas.Bool.{cases_lt}
 use Rattle.std.specs.Prelude.{Some}
 use Rattle.std.proofs.lemmas.List.Elements.{All-push, Contains-append_left, Contains-push, Contains-push_cases}
 use Rattle.form_codec.specs.Forms.{Meaning}
+use Rattle.list_model.specs.declared.entry.ListKind.{ListKind}
 use Rattle.value_links.specs.Reading.{ListSection, Linkable}
 use Rattle.value_links.specs.ListPlaces.{IsListPlace}
 use Rattle.value_links.specs.inside.Namings.{AreJoined, ValueNames, IsPlaceNamed, IsSomeNaming}
@@ -57,8 +58,8 @@ pub pair_is : (y : ℕ × ℕ) (a b : ℕ) → y.0 ≡ a → y.1 ≡ b → y ≡
 pair_is (m, n) a b e f = ap (λ (z : ℕ). (z, n)) e ∙ ap (λ (z : ℕ). (a, z)) f
 
 -- what one value names is added
-pub joined_value : (r : Linkable) (u id name : ℕ) (meaning : Meaning) (xs ys : List (ℕ × ℕ)) (at : ℕ) → ys ≡ xs ++ (at, u) ∷ [] → IsPlaceNamed r u id name meaning (Some at) → AreJoined xs ys (λ y. ValueNames r u id name meaning y.0 × (y.1 ≡ u))
-joined_value r u id name meaning xs ys at e (names, only) = joined_push xs ys (at, u) (λ y. ValueNames r u id name meaning y.0 × (y.1 ≡ u)) e (names, refl) (λ y (there, of). pair_is y at u (only y.0 there) of)
+pub joined_value : (r : Linkable) (kind : ListKind) (u id name : ℕ) (meaning : Meaning) (xs ys : List (ℕ × ℕ)) (at : ℕ) → ys ≡ xs ++ (at, u) ∷ [] → IsPlaceNamed r kind u id name meaning (Some at) → AreJoined xs ys (λ y. ValueNames r kind u id name meaning y.0 × (y.1 ≡ u))
+joined_value r kind u id name meaning xs ys at e (names, only) = joined_push xs ys (at, u) (λ y. ValueNames r kind u id name meaning y.0 × (y.1 ≡ u)) e (names, refl) (λ y (there, of). pair_is y at u (only y.0 there) of)
 
 -- a list can begin at its place, and it is of a unit
 pub known_push : (section : ListSection) (units : ℕ) (xs ys : List (ℕ × ℕ)) (at u : ℕ) → ys ≡ xs ++ (at, u) ∷ [] → All (IsSomeNaming section units) xs → ((p : ℕ) × IsListPlace section p at) → u < units → All (IsSomeNaming section units) ys

@@ -9,7 +9,8 @@ use Rattle.std.proofs.lemmas.List.Elements.{All-contains, All-contains_itself, C
 use Rattle.std.proofs.lemmas.List.Sorted.{All-permutation, Contains-permutation, sorted_far, ranks_by}
 use Rattle.std.proofs.lemmas.Cmp.{nat_cmp_total, then_total, on_total}
 use Rattle.elf_place.proofs.Orders.{compare_pairs}
-use Rattle.value_links.specs.Reading.{ListSection, Linkable}
+use Rattle.list_model.specs.declared.entry.ListKind.{ListKind}
+use Rattle.value_links.specs.Reading.{ListSection, Linkable, of_kind}
 use Rattle.value_links.specs.ListPlaces.{SlotNames}
 use Rattle.value_links.specs.Whole.{IsReadToLinks}
 use Rattle.value_links.specs.inside.Namings.{slot_number, AreJoined, IsPartNaming, ArePartsFollowed, IsUnitNaming, IsSomeNaming, AreNamings, AreInOrder}
@@ -46,17 +47,17 @@ sorted_namings namings sorted i j d less inside =
     ]
 
 -- those of slots and those of entries are all
-module _ (file : List ℕ) (r : Linkable) (read : IsReadToLinks file r) (section : ListSection) (same : section ≡ r.ranges) (by_slots both all : List (ℕ × ℕ)) where
-  pub all_namings : AreJoined [] by_slots (IsPartNaming section (length section.parts)) → ArePartsFollowed section (length section.parts) → AreJoined by_slots both (IsUnitNaming r (length r.units)) → IsPermutation both all → AreNamings r all
+module _ (file : List ℕ) (r : Linkable) (read : IsReadToLinks file r) (kind : ListKind) (section : ListSection) (same : section ≡ of_kind r kind) (by_slots both all : List (ℕ × ℕ)) where
+  pub all_namings : AreJoined [] by_slots (IsPartNaming section (length section.parts)) → ArePartsFollowed section (length section.parts) → AreJoined by_slots both (IsUnitNaming r kind (length r.units)) → IsPermutation both all → AreNamings r kind all
   all_namings slots followed units moved = record {
     each = λ y has. elim (units.from y (All-contains (Contains both) all y (All-permutation (Contains both) both all moved (All-contains_itself both)) has)) [
       | inl slot ↦ elim (slots.from y slot) [
         | inl none ↦ absurd (omega (arith, none.1))
         | inr (p, p_in, (i, i_in, (names, e))) ↦ inr ((p, i, subst (λ (z : ListSection). SlotNames z p i y.0) same names), e)
       ]
-      | inr is ↦ inl (unit_naming_is file r read y is)
+      | inr is ↦ inl (unit_naming_is file r read kind y is)
     ];
-    by_entries = λ at u n. Contains-permutation both all (at, u) moved (units.added (at, u) (is_unit_naming file r read at u n));
+    by_entries = λ at u n. Contains-permutation both all (at, u) moved (units.added (at, u) (is_unit_naming file r read kind at u n));
     by_slots = λ at (p, i, names). Contains-permutation both all (at, slot_number) moved (units.kept (at, slot_number) (slots.added (at, slot_number) (there p i at (subst (λ (z : ListSection). SlotNames z p i at) (sym same) names))));
     slots = subst (λ (z : ListSection). ArePartsFollowed z (length z.parts)) same followed;
   }

@@ -1,4 +1,4 @@
--- Values of entries that name range lists, as they are held and as they are read.
+-- Values of entries that name lists of a kind, as they are held and as they are read.
 use Rattle.std.proofs.Common.{◌≡◌, ◌<◌, ◌+◌, ◌∙◌, ℕ, List, length, sym, ap, subst, refl}
 use Rattle.form_codec.specs.declared.value.Value.{Value}
 use Rattle.form_codec.specs.Forms.{Meaning}
@@ -11,7 +11,7 @@ use Rattle.entry_arena.proofs.StepLaws.{values_front}
 use Rattle.entry_read.specs.Units.{HeadAndForest, declarations_of}
 use Rattle.entry_read.specs.Places.{HaveOwners, StandsAtColumn}
 use Rattle.entry_read.proofs.PlaceLaws.{entry_stands}
-use Rattle.list_model.specs.declared.entry.ListKind.TheVariants.{Ranges}
+use Rattle.list_model.specs.declared.entry.ListKind.{ListKind}
 use Rattle.value_links.specs.declared.parts.Parts.{Parts}
 use Rattle.value_links.specs.Sections.{debug_info, debug_abbrev}
 use Rattle.value_links.specs.Reading.{Linkable, unit_at, declarations, IsUnitRead}
@@ -30,7 +30,7 @@ use Rattle.value_links.proofs.EntryValues.{stands_at, column_of}
 
 -- AS THEY ARE READ
 
-module _ (file : List ℕ) (r : Linkable) (read : IsReadToLinks file r) (u : ℕ) (known : u < length r.units) where
+module _ (file : List ℕ) (r : Linkable) (read : IsReadToLinks file r) (kind : ListKind) (u : ℕ) (known : u < length r.units) where
   unit_read : IsUnitRead (debug_info file) (debug_abbrev file) (unit_at r u)
   unit_read = unit_is (debug_info file) (debug_abbrev file) r.units read.units u known
 
@@ -38,7 +38,7 @@ module _ (file : List ℕ) (r : Linkable) (read : IsReadToLinks file r) (u : ℕ
   owned = unit_owners (debug_info file) (debug_abbrev file) r.units read.units u known
 
   -- a column that names a list is an entry's value that does
-  column_names : (id k at : ℕ) → id < length (unit_at r u).forest.entries → k < (entry_of (unit_at r u) id).count → ColumnNames r u id k at → IsNamedIn r Ranges at u
+  column_names : (id k at : ℕ) → id < length (unit_at r u).forest.entries → k < (entry_of (unit_at r u) id).count → ColumnNames r kind u id k at → IsNamedIn r kind at u
   column_names id k at inside counted (linked, links, names) =
       let unit = unit_at r u in
       let s = entry_stands (debug_info file) unit.head (declarations unit) unit.forest unit_read.section unit_read.entries id inside in
@@ -60,7 +60,7 @@ module _ (file : List ℕ) (r : Linkable) (read : IsReadToLinks file r) (u : ℕ
       }
 
   -- and the other way
-  named_in : (at : ℕ) → IsNamedIn r Ranges at u → IsEntryNaming r u (length (unit_at r u).forest.entries) (at, u)
+  named_in : (at : ℕ) → IsNamedIn r kind at u → IsEntryNaming r kind u (length (unit_at r u).forest.entries) (at, u)
   named_in at n =
       let l = n.links in
       let column = column_of (unit_at r u) owned l.id l.stands.known n.number l.name l.meaning l.place l.stands in
@@ -70,12 +70,12 @@ module _ (file : List ℕ) (r : Linkable) (read : IsReadToLinks file r) (u : ℕ
       let links : Links r u l.id (spec_at (declaration_of (unit_at r u) l.id).columns k).name there n.linked = subst (λ (z : Meaning). Links r u l.id (spec_at (declaration_of (unit_at r u) l.id).columns k).name z n.linked) column.3 named in
       (l.id, l.stands.known, (k, column.1, ((n.linked, links, n.names), refl)))
 
-module _ (file : List ℕ) (r : Linkable) (read : IsReadToLinks file r) where
-  pub unit_naming_is : (y : ℕ × ℕ) → IsUnitNaming r (length r.units) y → IsNamedIn r Ranges y.0 y.1
-  unit_naming_is y (u, known, (id, inside, (k, counted, (names, e)))) = subst (IsNamedIn r Ranges y.0) (sym e) (column_names file r read u known id k y.0 inside counted names)
+module _ (file : List ℕ) (r : Linkable) (read : IsReadToLinks file r) (kind : ListKind) where
+  pub unit_naming_is : (y : ℕ × ℕ) → IsUnitNaming r kind (length r.units) y → IsNamedIn r kind y.0 y.1
+  unit_naming_is y (u, known, (id, inside, (k, counted, (names, e)))) = subst (IsNamedIn r kind y.0) (sym e) (column_names file r read kind u known id k y.0 inside counted names)
 
-  pub is_unit_naming : (at u : ℕ) → IsNamedIn r Ranges at u → IsUnitNaming r (length r.units) (at, u)
-  is_unit_naming at u n = (u, n.known, named_in file r read u n.known at n)
+  pub is_unit_naming : (at u : ℕ) → IsNamedIn r kind at u → IsUnitNaming r kind (length r.units) (at, u)
+  is_unit_naming at u n = (u, n.known, named_in file r read kind u n.known at n)
 
 -- AS THEY ARE HELD
 
@@ -114,7 +114,7 @@ module _ (file : List ℕ) (r : Linkable) (parts : Parts) (holds : HoldsParts fi
           ∙ ap (λ (z : Entry). value_at (unit_at r u).forest.values (z.first + k)) entry_same
 
       -- what the value of a column names is added
-      pub column_joined : (xs ys : List (ℕ × ℕ)) (values : List Value) (k name : ℕ) (value : Value) → values ≡ (held_at parts.units.units.items u).forest.values → name ≡ (spec_at (declared_at (declarations_of table) entry.decl).columns k).name → value ≡ value_at values (entry.first + k) → AreJoined xs ys (λ y. ValueNames r u id name (meant_in (unit_at r u).forest.section value) y.0 × (y.1 ≡ u)) → AreJoined xs ys (λ y. ColumnNames r u id k y.0 × (y.1 ≡ u))
-      column_joined xs ys values k name value v n w joined =
-          subst (λ (z : ℕ). AreJoined xs ys (λ y. ValueNames r u id z (meant_in (unit_at r u).forest.section (value_at (unit_at r u).forest.values ((entry_of (unit_at r u) id).first + k))) y.0 × (y.1 ≡ u))) (n ∙ name_same k)
-          (subst (λ (z : Value). AreJoined xs ys (λ y. ValueNames r u id name (meant_in (unit_at r u).forest.section z) y.0 × (y.1 ≡ u))) (w ∙ value_same values k v) joined)
+      pub column_joined : (kind : ListKind) (xs ys : List (ℕ × ℕ)) (values : List Value) (k name : ℕ) (value : Value) → values ≡ (held_at parts.units.units.items u).forest.values → name ≡ (spec_at (declared_at (declarations_of table) entry.decl).columns k).name → value ≡ value_at values (entry.first + k) → AreJoined xs ys (λ y. ValueNames r kind u id name (meant_in (unit_at r u).forest.section value) y.0 × (y.1 ≡ u)) → AreJoined xs ys (λ y. ColumnNames r kind u id k y.0 × (y.1 ≡ u))
+      column_joined kind xs ys values k name value v n w joined =
+          subst (λ (z : ℕ). AreJoined xs ys (λ y. ValueNames r kind u id z (meant_in (unit_at r u).forest.section (value_at (unit_at r u).forest.values ((entry_of (unit_at r u) id).first + k))) y.0 × (y.1 ≡ u))) (n ∙ name_same k)
+          (subst (λ (z : Value). AreJoined xs ys (λ y. ValueNames r kind u id name (meant_in (unit_at r u).forest.section z) y.0 × (y.1 ≡ u))) (w ∙ value_same values k v) joined)

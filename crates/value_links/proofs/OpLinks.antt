@@ -1,11 +1,10 @@
 -- What operations name, by what is held.
 use Rattle.std.proofs.Common.{◌≡◌, ◌≢◌, ◌≤◌, ◌<◌, ◌+◌, ◌∙◌, inl, inr, ℕ, List, length, sym, subst, refl, arith}
-use Rattle.std.specs.Prelude.{◌↔◌, Option, Some, None, Bool, true, false, is_none}
+use Rattle.std.specs.Prelude.{Option, Some, None, true, false}
 use Rattle.std.proofs.lemmas.Bool.{cases_lt, true≢false}
 use Rattle.expr_ops.specs.declared.op.Op.{Op}
 use Rattle.expr_ops.specs.declared.names.Named.{Named}
-use Rattle.expr_ops.specs.declared.names.Named.TheVariants.{Nothing, BaseType, UnitEntry, SectionEntry}
-use Rattle.expr_ops.specs.Drafts.{has_reference, is_generic}
+use Rattle.expr_ops.specs.Drafts.{is_generic}
 use Rattle.expr_ops.specs.Names.{named_by}
 use Rattle.entry_arena.specs.declared.entry.Target.{Target}
 use Rattle.entry_arena.specs.declared.entry.Target.TheVariants.{Entry as TheEntry, ChainEnd as TheEnd}
@@ -19,10 +18,11 @@ use Rattle.value_links.specs.declared.parts.Parts.{Parts}
 use Rattle.value_links.specs.Reading.{Linkable, unit_at}
 use Rattle.value_links.specs.Linked.{IsTargetAt}
 use Rattle.value_links.specs.Operations.{OpTarget, NamesUnitEntry, NamesSectionEntry, NamesType, LinksReference}
-use Rattle.value_links.specs.Operations.OpTarget.{NoTarget, GenericType, AnEntry}
+use Rattle.value_links.specs.Operations.OpTarget.{GenericType, AnEntry}
 use Rattle.value_links.specs.Links.{held_at, IsOpLinkFound}
 use Rattle.value_links.specs.Parts.{HoldsParts}
-use Rattle.value_links.specs.inside.Links.{IsTargetFound, IsSectionTargetFound, AreUnitsApart, entry_link, IsNamedThing}
+use Rattle.value_links.specs.inside.Links.{IsTargetFound, IsSectionTargetFound, AreUnitsApart, entry_link}
+use Rattle.value_links.specs.Links.{IsNamedThing}
 use Rattle.value_links.proofs.Targets.{never_both}
 use Rattle.value_links.proofs.LinkedValues.{parts_count, parts_apart, part_is}
 

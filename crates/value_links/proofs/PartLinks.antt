@@ -5,27 +5,27 @@ use Rattle.std.specs.List.{All}
 use Rattle.std.proofs.lemmas.List.Elements.{All-from_get_or}
 use Rattle.std.proofs.lemmas.List.{get_or_default}
 use Rattle.form_codec.specs.Forms.{Meaning}
-use Rattle.abbrev_tables.specs.Listings.{Listing}
-use Rattle.entry_read.specs.Units.{HeadAndForest, declarations_of}
+use Rattle.entry_read.specs.Units.{declarations_of}
 use Rattle.list_model.specs.declared.contribution.Contribution.{Contribution}
-use Rattle.list_model.specs.declared.entry.ListKind.TheVariants.{Ranges}
-use Rattle.value_links.specs.declared.link.Link.TheVariants.{Slot, Base}
+use Rattle.list_model.specs.declared.entry.ListKind.{ListKind}
+use Rattle.list_model.specs.declared.entry.ListKind.TheVariants.{Ranges, Locations}
+use Rattle.list_model.specs.Contributions.{ContributionsTile}
+use Rattle.value_links.specs.declared.link.Link.TheVariants.{List as AtList, Slot, Base}
+use Rattle.value_links.specs.declared.list_places.Contributions.{Contributions}
 use Rattle.value_links.specs.declared.parts.Parts.{Parts}
 use Rattle.value_links.specs.declared.units.Units.{Units}
-use Rattle.value_links.specs.Attributes.{rnglists_base}
-use Rattle.value_links.specs.Attributes.OffsetClass.{RngListsPtr}
-use Rattle.value_links.specs.Reading.{ListSection, Linkable, unit_at, part_at}
+use Rattle.value_links.specs.Reading.{ListSection, Linkable, unit_at, of_kind, part_at}
 use Rattle.value_links.specs.Values.{root_of, IsFirstBase}
-use Rattle.value_links.specs.ListPlaces.{IsOffsetsAt, IsBaseOf}
+use Rattle.value_links.specs.ListPlaces.{IsListPlace, IsOffsetsAt, IsBaseOf, base_of}
 use Rattle.value_links.specs.Linked.{IndexLinks, OffsetLinks}
-use Rattle.value_links.specs.Linked.Linked.{SlotAt, BaseOf}
+use Rattle.value_links.specs.Linked.Linked.{ListAt, SlotAt, BaseOf}
 use Rattle.value_links.specs.Links.{IsFoundFor, held_at}
-use Rattle.value_links.specs.Parts.{section_held, HoldUnits, IsBaseFound, HaveBases, HoldsParts}
+use Rattle.value_links.specs.Parts.{section_held, IsBaseFound, HoldsParts, lists_in, bases_in}
 use Rattle.value_links.specs.inside.Checks.{table_held, root_attributes}
+use Rattle.value_links.specs.inside.Links.{base_class}
 use Rattle.value_links.specs.inside.ListPlaces.{IsPartFound, AreBasesHeld}
+use Rattle.value_links.specs.inside.Namings.{class_of}
 use Rattle.value_links.proofs.Bases.{one_base}
-use Rattle.value_links.proofs.HeldUnits.{held_count, held_is}
-use Rattle.value_links.proofs.TabledUnits.{table_is}
 use Rattle.value_links.proofs.LinkedValues.{parts_count}
 use Rattle.value_links.proofs.PartPlaces.{no_part, offsets_once, slots_few}
 
@@ -43,80 +43,95 @@ bases_inside section name held bases are =
     one attributes (Some p) names = names.2.0
     one attributes None none = tt
 
--- the bases by what is held are those by what was read
-pub bases_read : (r : Linkable) (held : Units) (bases : List (Option ℕ)) → HoldUnits r.units held → AreBasesHeld r.ranges rnglists_base held bases → HaveBases r Ranges bases
-bases_read r held bases holds are =
-    let counted : length held.units.items ≡ length r.units = held_count r.units held.units.items holds.units in
-    record { count = are.count ∙ counted; each = base_read }
-  where
-    found_in : (u : ℕ) (found : Option ℕ) → IsPartFound r.ranges (root_of (unit_at r u)).attributes rnglists_base found → IsBaseFound r u Ranges found
-    found_in u (Some p) names = names
-    found_in u None none = none
+-- WHAT VALUES REFER TO
 
-    base_read : (u : ℕ) → u < length r.units → IsBaseFound r u Ranges (get_or bases u None)
-    base_read u known =
-        let counted : length held.units.items ≡ length r.units = held_count r.units held.units.items holds.units in
-        let here = are.each u (subst (λ (n : ℕ). u < n) (sym counted) known) in
-        found_in u (get_or bases u None) (subst (λ (z : Listing). IsPartFound r.ranges (root_attributes (unit_at r u).forest (declarations_of z)) rnglists_base (get_or bases u None)) (table_is r.units held u holds known)
-        (subst (λ (z : HeadAndForest). IsPartFound r.ranges (root_attributes z.forest (declarations_of (table_held held u))) rnglists_base (get_or bases u None)) (held_is r.units held.units.items holds.units u known) here))
+-- a list can begin at a place, or none can
+offset_list : (r : Linkable) (u id : ℕ) (kind : ListKind) (place p : ℕ) → IsListPlace (of_kind r kind) p place → IsFoundFor (OffsetLinks r u id (class_of kind) place) (Some (AtList kind place))
+offset_list r u id Ranges place p here = (ListAt Ranges place, ((p, here), refl), refl)
+offset_list r u id Locations place p here = (ListAt Locations place, ((p, here), refl), refl)
 
-module _ (file : List ℕ) (r : Linkable) (parts : Parts) (holds : HoldsParts file r parts) where
+no_offset_list : (r : Linkable) (u id : ℕ) (kind : ListKind) (place : ℕ) → ((p : ℕ) → ¬ IsListPlace (of_kind r kind) p place) → IsFoundFor (OffsetLinks r u id (class_of kind) place) None
+no_offset_list r u id Ranges place none = λ linked ((p, here), is). none p here
+no_offset_list r u id Locations place none = λ linked ((p, here), is). none p here
+
+-- offsets begin at a place, or none do
+offset_base : (r : Linkable) (u id : ℕ) (kind : ListKind) (place p : ℕ) → IsOffsetsAt (of_kind r kind) place p → IsFoundFor (OffsetLinks r u id (base_class kind) place) (Some (Base kind p))
+offset_base r u id Ranges place p here = (BaseOf Ranges p, (p, here, refl), refl)
+offset_base r u id Locations place p here = (BaseOf Locations p, (p, here, refl), refl)
+
+no_offset_base : (r : Linkable) (u id : ℕ) (kind : ListKind) (place : ℕ) → ((p : ℕ) → ¬ IsOffsetsAt (of_kind r kind) place p) → IsFoundFor (OffsetLinks r u id (base_class kind) place) None
+no_offset_base r u id Ranges place none = λ linked (p, here, is). none p here
+no_offset_base r u id Locations place none = λ linked (p, here, is). none p here
+
+module _ (file : List ℕ) (r : Linkable) (parts : Parts) (holds : HoldsParts file r parts) (kind : ListKind) (held : Contributions) (same : held ≡ lists_in parts kind) where
+  section_same : section_held held ≡ of_kind r kind
+  section_same = ap section_held same ∙ holds.lists kind
+
+  -- the place of a list
+  pub list_link : (u id place p : ℕ) → IsListPlace (section_held held) p place → IsFoundFor (OffsetLinks r u id (class_of kind) place) (Some (AtList kind place))
+  list_link u id place p here = offset_list r u id kind place p (subst (λ (z : ListSection). IsListPlace z p place) section_same here)
+
+  pub no_list_link : (u id place : ℕ) → ((p : ℕ) → ¬ IsListPlace (section_held held) p place) → IsFoundFor (OffsetLinks r u id (class_of kind) place) None
+  no_list_link u id place none = no_offset_list r u id kind place (subst (λ (z : ListSection). (p : ℕ) → ¬ IsListPlace z p place) section_same none)
+
   -- a contribution whose offsets begin at a place
-  pub base_link : (u id place p : ℕ) → IsOffsetsAt (section_held parts.ranges) place p → IsFoundFor (OffsetLinks r u id RngListsPtr place) (Some (Base Ranges p))
-  base_link u id place p at = (BaseOf Ranges p, (p, subst (λ (z : ListSection). IsOffsetsAt z place p) holds.ranges at, refl), refl)
+  pub base_link : (u id place p : ℕ) → IsOffsetsAt (section_held held) place p → IsFoundFor (OffsetLinks r u id (base_class kind) place) (Some (Base kind p))
+  base_link u id place p here = offset_base r u id kind place p (subst (λ (z : ListSection). IsOffsetsAt z place p) section_same here)
 
-  section_is : r.ranges.section ≡ parts.ranges.section.now
-  section_is = ap (λ (z : ListSection). z.section) (sym holds.ranges)
+  pub no_base_at : (u id place : ℕ) → ((p : ℕ) → ¬ IsOffsetsAt (section_held held) place p) → IsFoundFor (OffsetLinks r u id (base_class kind) place) None
+  no_base_at u id place none = no_offset_base r u id kind place (subst (λ (z : ListSection). (p : ℕ) → ¬ IsOffsetsAt z place p) section_same none)
 
-  parts_are : r.ranges.parts ≡ parts.ranges.parts.items
-  parts_are = ap (λ (z : ListSection). z.parts) (sym holds.ranges)
+  parts_are : (of_kind r kind).parts ≡ held.parts.items
+  parts_are = ap (λ (z : ListSection). z.parts) (sym section_same)
 
-  module _ (u : ℕ) (inside : u < length parts.units.units.items) where
+  tiled : ContributionsTile (of_kind r kind).section (of_kind r kind).parts
+  tiled = (holds.read.lists kind).tiled
+
+  module _ (bases : List (Option ℕ)) (based_by : bases ≡ bases_in parts kind) (u : ℕ) (inside : u < length parts.units.units.items) where
     -- the base of a unit, as it is looked up
-    base_found : (found : Option ℕ) → found ≡ get_or parts.bases.items u found → IsBaseFound r u Ranges found
-    base_found found e =
+    base_found : IsBaseFound r u kind (get_or bases u None)
+    base_found =
         let known : u < length r.units = subst (λ (z : ℕ). u < z) (parts_count file r parts holds) inside in
-        let here : u < length parts.bases.items = subst (λ (z : ℕ). u < z) (sym holds.bases.count) known in
-        subst (IsBaseFound r u Ranges) (sym (e ∙ get_or_default parts.bases.items u found None here)) (holds.bases.each u known)
+        subst (λ (z : List (Option ℕ)). IsBaseFound r u kind (get_or z u None)) (sym based_by) ((holds.bases kind).each u known)
 
     -- a root without one has no slots
-    pub no_base_link : (found : Option ℕ) (i : ℕ) → found ≡ get_or parts.bases.items u found → found ≡ None → IsFoundFor (IndexLinks r u Ranges i) None
-    no_base_link found i e none = λ linked (p, base, counted, is). subst (IsBaseFound r u Ranges) none (base_found found e) p base
+    pub no_base_link : (i : ℕ) → get_or bases u None ≡ None → IsFoundFor (IndexLinks r u kind i) None
+    no_base_link i none = λ linked (p, base, counted, is). subst (IsBaseFound r u kind) none base_found p base
 
-    module _ (found : Option ℕ) (e : found ≡ get_or parts.bases.items u found) (p : ℕ) (some : found ≡ Some p) where
-      based : IsBaseOf r u Ranges p
-      based = subst (IsBaseFound r u Ranges) some (base_found found e)
+    module _ (p : ℕ) (some : get_or bases u None ≡ Some p) where
+      based : IsBaseOf r u kind p
+      based = subst (IsBaseFound r u kind) some base_found
 
-      base_once : (q : ℕ) → IsBaseOf r u Ranges q → p ≡ q
+      base_once : (q : ℕ) → IsBaseOf r u kind q → p ≡ q
       base_once q (m, is, there) =
-          let same : m ≡ based.0 = one_base (root_of (unit_at r u)).attributes rnglists_base m based.0 is based.1 in
-          offsets_once r.ranges.section r.ranges.parts holds.read.ranges.tiled based.0 p q based.2 (subst (λ (z : ℕ). IsOffsetsAt r.ranges z q) same there)
+          let one : m ≡ based.0 = one_base (root_of (unit_at r u)).attributes (base_of kind) m based.0 is based.1 in
+          offsets_once (of_kind r kind).section (of_kind r kind).parts tiled based.0 p q based.2 (subst (λ (z : ℕ). IsOffsetsAt (of_kind r kind) z q) one there)
 
       -- an index past the slots has none
-      past_slots : (i : ℕ) → (part_at r.ranges p).slots ≤ i → IsFoundFor (IndexLinks r u Ranges i) None
+      past_slots : (i : ℕ) → (part_at (of_kind r kind) p).slots ≤ i → IsFoundFor (IndexLinks r u kind i) None
       past_slots i past = λ linked (q, base, counted, is).
-          let same : p ≡ q = base_once q base in
-          let less : i < (part_at r.ranges p).slots = subst (λ (z : ℕ). i < (part_at r.ranges z).slots) (sym same) counted in
+          let one : p ≡ q = base_once q base in
+          let less : i < (part_at (of_kind r kind) p).slots = subst (λ (z : ℕ). i < (part_at (of_kind r kind) z).slots) (sym one) counted in
           absurd (omega arith)
 
-      pub wide_index : (i : ℕ) → 2 ^ 32 ≤ i → IsFoundFor (IndexLinks r u Ranges i) None
+      pub wide_index : (i : ℕ) → 2 ^ 32 ≤ i → IsFoundFor (IndexLinks r u kind i) None
       wide_index i wide =
-          let few : (part_at r.ranges p).slots < 2 ^ 32 = slots_few r.ranges.section r.ranges.parts holds.read.ranges.tiled p based.2.0 in
+          let few : (part_at (of_kind r kind) p).slots < 2 ^ 32 = slots_few (of_kind r kind).section (of_kind r kind).parts tiled p based.2.0 in
           past_slots i (omega arith)
 
       -- the contribution, as it is looked up
-      module _ (part : Contribution) (at : part ≡ get_or parts.ranges.parts.items p part) where
-        part_is : part ≡ part_at r.ranges p
+      module _ (part : Contribution) (at : part ≡ get_or held.parts.items p part) where
+        part_is : part ≡ part_at (of_kind r kind) p
         part_is =
-            let here : p < length parts.ranges.parts.items = subst (λ (z : List Contribution). p < length z) parts_are based.2.0 in
-            at ∙ (get_or_default parts.ranges.parts.items p part no_part here ∙ ap (λ (z : List Contribution). get_or z p no_part) (sym parts_are))
+            let here : p < length held.parts.items = subst (λ (z : List Contribution). p < length z) parts_are based.2.0 in
+            at ∙ (get_or_default held.parts.items p part no_part here ∙ ap (λ (z : List Contribution). get_or z p no_part) (sym parts_are))
 
-        pub slot_link : (i slot : ℕ) → slot ≡ i → slot < part.slots → IsFoundFor (IndexLinks r u Ranges i) (Some (Slot Ranges p slot))
-        slot_link i slot same less =
-            let counted : i < (part_at r.ranges p).slots = subst (λ (z : ℕ). z < (part_at r.ranges p).slots) same (subst (λ (z : Contribution). slot < z.slots) part_is less) in
-            (SlotAt Ranges p i, (p, based, counted, refl), ap (λ (z : ℕ). Slot Ranges p z) same)
+        pub slot_link : (i slot : ℕ) → slot ≡ i → slot < part.slots → IsFoundFor (IndexLinks r u kind i) (Some (Slot kind p slot))
+        slot_link i slot one less =
+            let counted : i < (part_at (of_kind r kind) p).slots = subst (λ (z : ℕ). z < (part_at (of_kind r kind) p).slots) one (subst (λ (z : Contribution). slot < z.slots) part_is less) in
+            (SlotAt kind p i, (p, based, counted, refl), ap (λ (z : ℕ). Slot kind p z) one)
 
-        pub no_slot_link : (i slot : ℕ) → slot ≡ i → part.slots ≤ slot → IsFoundFor (IndexLinks r u Ranges i) None
-        no_slot_link i slot same past =
-            let there : (part_at r.ranges p).slots ≤ slot = subst (λ (z : Contribution). z.slots ≤ slot) part_is past in
+        pub no_slot_link : (i slot : ℕ) → slot ≡ i → part.slots ≤ slot → IsFoundFor (IndexLinks r u kind i) None
+        no_slot_link i slot one past =
+            let there : (part_at (of_kind r kind) p).slots ≤ slot = subst (λ (z : Contribution). z.slots ≤ slot) part_is past in
             past_slots i (omega arith)

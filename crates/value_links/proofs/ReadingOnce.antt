@@ -26,14 +26,15 @@ use Rattle.form_codec.specs.Forms.{Meaning}
 use Rattle.list_model.specs.declared.context.Context.{Context}
 use Rattle.list_model.specs.declared.tables.AddrTable.{AddrTable}
 use Rattle.list_model.specs.Addresses.{HasBase}
-use Rattle.list_model.specs.declared.entry.ListKind.TheVariants.{Ranges}
+use Rattle.list_model.specs.declared.entry.ListKind.{ListKind}
+use Rattle.list_model.specs.declared.entry.ListKind.TheVariants.{Ranges, Locations}
 use Rattle.list_model.proofs.Walking.{one_table}
 use Rattle.companions.specs.declared.set.ArangeSet.{ArangeSet}
 use Rattle.companions.specs.Aranges.{AreRising, SetsTile}
 use Rattle.companions.proofs.Tiling.{one_tile as one_set_tile}
-use Rattle.value_links.specs.Sections.{debug_info, debug_abbrev, debug_line, debug_aranges, debug_rnglists}
+use Rattle.value_links.specs.Sections.{debug_info, debug_abbrev, debug_line, debug_aranges, debug_lists}
 use Rattle.value_links.specs.Attributes.{addr_base}
-use Rattle.value_links.specs.Reading.{ProgramRead, UnitRead, ListSection, ListRead, Linkable, line_heads, unit_heads, unit_starts, no_unit, HasRows, declarations, IsUnitRead}
+use Rattle.value_links.specs.Reading.{ProgramRead, UnitRead, ListSection, ListRead, Linkable, lists_of, line_heads, unit_heads, unit_starts, no_unit, HasRows, declarations, IsUnitRead}
 use Rattle.value_links.specs.Values.{root_of}
 use Rattle.value_links.specs.Contexts.{low_pcs, first_base, IsTableOf, IsContext}
 use Rattle.value_links.specs.Lists.{AreListsOf}
@@ -151,20 +152,25 @@ linkable_once file r s p q =
     let by_units : AreContexts r.addresses s.units r.contexts = subst (λ (z : List UnitRead). AreContexts r.addresses z r.contexts) units p.contexts in
     let by_addresses : AreContexts s.addresses s.units r.contexts = subst (λ (z : List ℕ). AreContexts z s.units r.contexts) addresses by_units in
     let contexts : r.contexts ≡ s.contexts = contexts_once s.addresses s.units r.contexts s.contexts by_addresses q.contexts in
-    let ranges : r.ranges ≡ s.ranges = section_once (debug_rnglists file) r.ranges s.ranges p.ranges q.ranges in
-    ap (λ (z : List ProgramRead). record { programs = z; units = r.units; addresses = r.addresses; contexts = r.contexts; ranges = r.ranges }) programs
-    ∙ ap (λ (z : List UnitRead). record { programs = s.programs; units = z; addresses = r.addresses; contexts = r.contexts; ranges = r.ranges }) units
-    ∙ ap (λ (z : List ℕ). record { programs = s.programs; units = s.units; addresses = z; contexts = r.contexts; ranges = r.ranges }) addresses
-    ∙ ap (λ (z : List Context). record { programs = s.programs; units = s.units; addresses = s.addresses; contexts = z; ranges = r.ranges }) contexts
-    ∙ ap (λ (z : ListSection). record { programs = s.programs; units = s.units; addresses = s.addresses; contexts = s.contexts; ranges = z }) ranges
+    let ranges : r.ranges ≡ s.ranges = section_once (debug_lists file Ranges) r.ranges s.ranges (p.lists Ranges) (q.lists Ranges) in
+    let locations : r.locations ≡ s.locations = section_once (debug_lists file Locations) r.locations s.locations (p.lists Locations) (q.lists Locations) in
+    ap (λ (z : List ProgramRead). record { programs = z; units = r.units; addresses = r.addresses; contexts = r.contexts; ranges = r.ranges; locations = r.locations }) programs
+    ∙ ap (λ (z : List UnitRead). record { programs = s.programs; units = z; addresses = r.addresses; contexts = r.contexts; ranges = r.ranges; locations = r.locations }) units
+    ∙ ap (λ (z : List ℕ). record { programs = s.programs; units = s.units; addresses = z; contexts = r.contexts; ranges = r.ranges; locations = r.locations }) addresses
+    ∙ ap (λ (z : List Context). record { programs = s.programs; units = s.units; addresses = s.addresses; contexts = z; ranges = r.ranges; locations = r.locations }) contexts
+    ∙ ap (λ (z : ListSection). record { programs = s.programs; units = s.units; addresses = s.addresses; contexts = s.contexts; ranges = z; locations = r.locations }) ranges
+    ∙ ap (λ (z : ListSection). record { programs = s.programs; units = s.units; addresses = s.addresses; contexts = s.contexts; ranges = s.ranges; locations = z }) locations
 
 pub reading_once : OneReading
 reading_once file r s p q =
     let links : r.links ≡ s.links = linkable_once file r.links s.links p.links q.links in
-    let lists : r.range_lists ≡ s.range_lists = lists_once file s.links q.links Ranges r.range_lists s.range_lists (subst (λ (z : Linkable). AreListsOf z Ranges r.range_lists) links p.ranges) q.ranges in
+    let lists : (kind : ListKind) → lists_of r kind ≡ lists_of s kind = λ (kind : ListKind). lists_once file s.links q.links kind (lists_of r kind) (lists_of s kind) (subst (λ (z : Linkable). AreListsOf z kind (lists_of r kind)) links (p.lists kind)) (q.lists kind) in
+    let ranges : r.range_lists ≡ s.range_lists = lists Ranges in
+    let locations : r.location_lists ≡ s.location_lists = lists Locations in
     let rising : AreRising (unit_starts s.links.units) = starts_rise (debug_info file) s.links.units q.links.units.tiled in
     let moved : SetsTile (debug_aranges file) (unit_starts s.links.units) r.sets = subst (λ (z : Linkable). SetsTile (debug_aranges file) (unit_starts z.units) r.sets) links p.sets in
     let sets : r.sets ≡ s.sets = one_set_tile (debug_aranges file) (unit_starts s.links.units) r.sets s.sets 0 rising moved q.sets in
-    ap (λ (z : Linkable). record { links = z; range_lists = r.range_lists; sets = r.sets }) links
-    ∙ ap (λ (z : List ListRead). record { links = s.links; range_lists = z; sets = r.sets }) lists
-    ∙ ap (λ (z : List ArangeSet). record { links = s.links; range_lists = s.range_lists; sets = z }) sets
+    ap (λ (z : Linkable). record { links = z; range_lists = r.range_lists; location_lists = r.location_lists; sets = r.sets }) links
+    ∙ ap (λ (z : List ListRead). record { links = s.links; range_lists = z; location_lists = r.location_lists; sets = r.sets }) ranges
+    ∙ ap (λ (z : List ListRead). record { links = s.links; range_lists = s.range_lists; location_lists = z; sets = r.sets }) locations
+    ∙ ap (λ (z : List ArangeSet). record { links = s.links; range_lists = s.range_lists; location_lists = s.location_lists; sets = z }) sets

@@ -1,16 +1,15 @@
 -- The bytes of debug sections, and where they stand in the file.
-use Rattle.std.proofs.Common.{◌≡◌, ◌≤◌, ◌<◌, ◌+◌, ◌-◌, ◌^◌, ◌∙◌, ℕ, List, [], length, drop, Bool, true, false, sym, ap, subst, refl, arith}
+use Rattle.std.proofs.Common.{◌≡◌, ◌≤◌, ◌<◌, ◌+◌, ◌-◌, ◌^◌, ◌∙◌, ℕ, List, [], length, drop, Bool, true, false, sym, ap, subst, arith}
 use Rattle.std.specs.Prelude.{slice_range, if◌then◌else◌}
 use Rattle.std.proofs.lemmas.List.{length-take}
 use Rattle.dw_base.specs.declared.fault.Span.{Span}
 use Rattle.dw_base.specs.declared.fault.Reach.TheVariants.{Wide}
 use Rattle.elf_sections.specs.declared.section.Section.{Section}
-use Rattle.elf_sections.specs.Elf.{section_count, header_at, offset_of, size_of, has_bytes, body_span, body_of}
+use Rattle.elf_sections.specs.Elf.{section_count, offset_of, size_of, has_bytes, body_span, body_of}
 use Rattle.elf_sections.specs.Sections.{section_of, IsFirstNamed, HasNone}
-use Rattle.elf_sections.specs.Faults.{SomeSection, IsRead}
+use Rattle.elf_sections.specs.Faults.{IsRead}
 use Rattle.elf_sections.proofs.NameLaws.{body_inside}
 use Rattle.value_links.specs.Sections.{body_named, offset_named, body_or_none, offset_or_zero}
-use Rattle.value_links.specs.Faults.{is_list_section}
 use Rattle.value_links.proofs.SectionLaws.{sections_are_found}
 
 pub none_named : (file wanted : List ℕ) → HasNone file wanted → (body_named file wanted ≡ []) × (offset_named file wanted ≡ 0)
@@ -67,9 +66,3 @@ module _ (file image name : List ℕ) (i : ℕ) (s : Section) (same : image ≡ 
       let room : offset_of file i + length (body_of file i) < 2 ^ 64 = body_room file i read first.inside (omega arith) in
       let size : length bytes ≡ length (body_of file i) = ap length (body_is bytes b) in
       omega arith
-
--- the section of a list that isn't rewritten yet
-pub some_list : (file : List ℕ) (i : ℕ) → IsRead file Wide → i < section_count file → is_list_section file i ≡ true → SomeSection file (is_list_section file) (offset_of file i)
-some_list file i read inside lists =
-    let fits : header_at file (section_count file) ≤ length file = read.whole.section_table.inside (λ (none : section_count file ≡ 0). absurd (omega arith)) in
-    (i, (inside, omega arith), refl, lists)

@@ -1,5 +1,5 @@
 -- The places of tables that units name, and the numbers of tables.
-use Rattle.std.proofs.Common.{◌≡◌, ◌≤◌, ◌<◌, ◌+◌, ◌-◌, ◌∙◌, ◌++◌, ◌⊎◌, eqb, ℕ, List, [], ◌∷◌, length, get_or, take, drop, sym, ap, subst, add-one, arith}
+use Rattle.std.proofs.Common.{◌≡◌, ◌≤◌, ◌<◌, ◌+◌, ◌-◌, ◌∙◌, ◌++◌, eqb, ℕ, List, [], ◌∷◌, length, get_or, take, drop, sym, ap, subst, add-one, arith}
 use Rattle.std.specs.List.{All, Contains, dedup}
 use Rattle.std.specs.List.Sorted.{IsPermutation, IsSorted, IsStrictlyIncreasing}
 use Rattle.std.specs.List.Retain.{IsFiltered, DiffersFromLast}
@@ -11,8 +11,6 @@ use Rattle.std.proofs.lemmas.List.Filters.{dedup_is}
 use Rattle.std.proofs.lemmas.List.Kept.{Contains-dedup_nat, Contains-from_dedup, AllPairs-from_increasing}
 use Rattle.std.proofs.lemmas.List.Sorted.{Contains-permutation, IsPermutation-sym}
 use Rattle.std.proofs.lemmas.Map.Keys.{IsStrictlyIncreasing-dedup}
-use Rattle.form_codec.specs.Forms.{code_of}
-use Rattle.form_codec.specs.declared.form.Form.TheVariants.{Ref1, Ref2}
 use Rattle.abbrev_tables.specs.declared.decl.Spec.{Spec}
 use Rattle.abbrev_tables.specs.Tables.{Declared}
 use Rattle.abbrev_tables.specs.Listings.{Listing, decl_at, declared_in, declarations_in, IsTableAt}
@@ -22,7 +20,7 @@ use Rattle.entry_read.specs.declared.head.UnitHead.{UnitHead}
 use Rattle.entry_read.specs.Units.{declarations_of}
 use Rattle.entry_read.proofs.Declarations.{declared_is, count_same}
 use Rattle.value_links.specs.declared.units.NamedTable.{NamedTable}
-use Rattle.value_links.specs.Faults.{HasShortReference, IsUnbuiltDeclaration}
+use Rattle.value_links.specs.Faults.{IsUnbuiltColumn, HasUnbuiltColumn, IsUnbuiltDeclaration}
 use Rattle.value_links.specs.Laws.{IsBuilt}
 use Rattle.value_links.specs.inside.Tabled.{AreTablePlaces, named_places, places_of}
 
@@ -62,10 +60,10 @@ decl_inside stand abbrevs place t i h inside here =
     (from, omega arith)
 
 -- a declaration that can't be written is a fault of its table
-pub unbuilt_fault : DeclarationsStand → (abbrevs : List ℕ) (place : ℕ) (t : Listing) (i at origin : ℕ) → IsTableAt abbrevs place t → i < length t.decls → HasShortReference (declared_in t.specs (decl_at t.decls i)) → at ≡ (decl_at t.decls i).at → (x : ℕ) × (origin + at ≡ origin + place + x) × IsUnbuiltDeclaration (drop place abbrevs) x
-unbuilt_fault stand abbrevs place t i at origin h inside short here =
+pub unbuilt_fault : DeclarationsStand → (abbrevs : List ℕ) (place : ℕ) (t : Listing) (i at origin : ℕ) → IsTableAt abbrevs place t → i < length t.decls → HasUnbuiltColumn (declared_in t.specs (decl_at t.decls i)) → at ≡ (decl_at t.decls i).at → (x : ℕ) × (origin + at ≡ origin + place + x) × IsUnbuiltDeclaration (drop place abbrevs) x
+unbuilt_fault stand abbrevs place t i at origin h inside unbuilt here =
     let (from, s) = stand abbrevs place t i h inside in
-    ((decl_at t.decls i).at - place, omega arith, record { before = take i (declarations_in t.specs t.decls); d = declared_in t.specs (decl_at t.decls i); stands = s; unbuilt = short })
+    ((decl_at t.decls i).at - place, omega arith, record { before = take i (declarations_in t.specs t.decls); d = declared_in t.specs (decl_at t.decls i); stands = s; unbuilt = unbuilt })
 
 -- TABLES, ONE MORE
 
@@ -76,5 +74,5 @@ places_push tables new table places i put front inside place =
 -- COLUMNS THAT CAN'T BE WRITTEN YET
 
 -- what is found among the columns of a declaration
-pub short_among : (d : Declared) (columns : List Spec) → columns ≡ d.columns → HasShortReference d → (column : Spec) × Contains columns column × ((column.form ≡ code_of Ref1) ⊎ (column.form ≡ code_of Ref2))
-short_among d columns are (column, among, form) = (column, subst (λ (z : List Spec). Contains z column) (sym are) among, form)
+pub column_among : (d : Declared) (columns : List Spec) → columns ≡ d.columns → HasUnbuiltColumn d → (column : Spec) × Contains columns column × IsUnbuiltColumn column
+column_among d columns are (column, among, unbuilt) = (column, subst (λ (z : List Spec). Contains z column) (sym are) among, unbuilt)

@@ -1,5 +1,5 @@
 -- Units, line number programs and contributions to a section of lists stand one after the other.
-use Rattle.std.proofs.Common.{◌≡◌, ◌≤◌, ◌<◌, ◌+◌, ◌-◌, ℕ, List, [], ◌∷◌, ap, subst, refl, arith}
+use Rattle.std.proofs.Common.{◌≡◌, ◌≤◌, ◌<◌, ◌+◌, ◌-◌, ℕ, List, [], ◌∷◌, ap, subst, arith}
 use Rattle.fixed_width.specs.InitialLengths.{unit_end as line_end}
 use Rattle.line_write.specs.Programs.{Follow as ProgramsFollow}
 use Rattle.entry_read.specs.Heads.{Follow as UnitsFollow}
@@ -7,7 +7,6 @@ use Rattle.entry_read.proofs.Chained.{Chained}
 use Rattle.entry_read.proofs.Tiling.{head_len}
 use Rattle.list_model.specs.declared.contribution.Contribution.{Contribution}
 use Rattle.list_model.specs.declared.entry.ListKind.{ListKind}
-use Rattle.list_model.specs.declared.entry.ListKind.TheVariants.{Ranges, Locations}
 use Rattle.list_model.specs.Contributions.{part_end, ContributionsFollow, ContributionsTile}
 use Rattle.list_model.proofs.Tiling.{part_inside}
 use Rattle.value_links.specs.Reading.{ProgramRead, UnitRead, Linkable, line_heads, unit_heads, of_kind}
@@ -33,5 +32,4 @@ parts_chained section (p ∷ parts) a e (here, stands, rest) =
 
 -- the contributions of a kind are all of their section
 pub tiled_of : (file : List ℕ) (r : Linkable) → IsReadToLinks file r → (kind : ListKind) → ContributionsTile (of_kind r kind).section (of_kind r kind).parts
-tiled_of file r read Ranges = read.ranges.tiled
-tiled_of file r read Locations = refl
+tiled_of file r read kind = (read.lists kind).tiled

@@ -4,7 +4,7 @@ use Rattle.std.specs.List.{All, sum_by}
 use Rattle.std.proofs.lemmas.List.Elements.{All-head, All-tail}
 use Rattle.std.proofs.lemmas.List.Sums.{sum_by-cons}
 use Rattle.dw_base.specs.declared.fault.Kind.{Kind}
-use Rattle.dw_base.specs.declared.fault.Kind.TheVariants.{Companion, Unbuilt}
+use Rattle.dw_base.specs.declared.fault.Kind.TheVariants.{Companion}
 use Rattle.dw_base.specs.declared.fault.Reach.{Reach}
 use Rattle.elf_sections.specs.Faults.{IsRead}
 use Rattle.elf_sections.proofs.Faultless.{images_whole}
@@ -12,8 +12,9 @@ use Rattle.line_machine.specs.Faults.{row_limit}
 use Rattle.line_write.proofs.Tiling.{AreGiven, lines_whole}
 use Rattle.list_model.specs.Faults.{FaultContributions}
 use Rattle.list_model.proofs.Tiling.{parts_whole}
-use Rattle.value_links.specs.Sections.{debug_info, debug_abbrev, debug_line}
-use Rattle.value_links.specs.Reading.{ProgramRead, Linkable, Reading, line_heads, HasRows}
+use Rattle.list_model.specs.declared.entry.ListKind.{ListKind}
+use Rattle.value_links.specs.Sections.{debug_info, debug_abbrev, debug_line, debug_lists}
+use Rattle.value_links.specs.Reading.{ProgramRead, Linkable, Reading, of_kind, line_heads, HasRows}
 use Rattle.value_links.specs.Whole.{IsReading}
 use Rattle.value_links.specs.Debug.{Debug, MeansDebug}
 use Rattle.value_links.specs.Faults.{FaultOfFile, FaultOfNames, FaultOfPrograms, FaultOfUnits, Pass, order_of, FaultOfPass}
@@ -26,10 +27,9 @@ use Rattle.value_links.proofs.ValidLists.{lists_whole}
 file_faultless : (file : List ℕ) (reach : Reach) → IsRead file reach → (kind : Kind) (place : ℕ) → FaultOfFile file reach kind place → ⊥
 file_faultless file reach read = (images_whole file reach read).0
 
-names_faultless : (file : List ℕ) (reach : Reach) → IsImageInOrder file reach → (kind : Kind) (place : ℕ) → FaultOfNames file reach kind place → ⊥
-names_faultless file reach order Companion place f = (images_whole file reach order.image).1 Companion place f
-names_faultless file reach order Unbuilt place (elf, (i, inside, here, lists)) = order.names i inside.0 lists
-names_faultless file reach order kind place f = f
+names_faultless : (file : List ℕ) (reach : Reach) → IsRead file reach → (kind : Kind) (place : ℕ) → FaultOfNames file kind place → ⊥
+names_faultless file reach read Companion place f = (images_whole file reach read).1 Companion place f
+names_faultless file reach read kind place f = f
 
 abbrev row_count : ProgramRead → ℕ
 row_count p = length p.rows
@@ -51,9 +51,16 @@ units_faultless file reach r order kind place f =
       | inl entries ↦ info_faultless (debug_info file) (debug_abbrev file) r.units units.tiled units.each units.within kind entries.0 entries.2
       | inr others ↦ elim others [
         | inl tables ↦ tables_faultless (debug_info file) (debug_abbrev file) r.units units.tiled units.each units.within order.built kind tables.0 tables.2
-        | inr parts ↦ parts_whole r.ranges.section r.ranges.parts order.ranges.tiled (kind, parts.0, subst (λ (z : List ℕ). FaultContributions z kind parts.0) (sym order.ranges.bytes_are) parts.2)
+        | inr parts ↦ parts_faultless parts.0 parts.1.0 parts.1.2
       ]
     ]
+  where
+    -- the contributions of a kind have no fault
+    parts_faultless : (of : ListKind) (inner : ℕ) → FaultContributions (debug_lists file of) kind inner → ⊥
+    parts_faultless of inner fault =
+        let are = order.lists of in
+        let section = of_kind r of in
+        parts_whole section.section section.parts are.tiled (kind, inner, subst (λ (z : List ℕ). FaultContributions z kind inner) (sym are.bytes_are) fault)
 
 -- the passes before one have no fault
 abbrev HaveNone : ℕ → List ℕ → Reach → Type 0
@@ -68,7 +75,7 @@ before_names file reach none OfFile kind place less f = none kind place f
 before_names file reach none pass kind place less f = absurd (omega arith)
 
 before_programs : (file : List ℕ) (reach : Reach) → IsImageInOrder file reach → HaveNone 3 file reach
-before_programs file reach order OfFile kind place less f = file_faultless file reach order.image kind place f
+before_programs file reach order OfFile kind place less f = file_faultless file reach order kind place f
 before_programs file reach order OfNames kind place less f = names_faultless file reach order kind place f
 before_programs file reach order pass kind place less f = absurd (omega arith)
 

@@ -68,7 +68,7 @@ unit = record {
 
 abbrev linkable : Linkable
 unfolding unit
-linkable = record { programs = []; units = unit ∷ unit ∷ []; addresses = []; contexts = []; ranges = record { section = []; parts = [] } }
+linkable = record { programs = []; units = unit ∷ unit ∷ []; addresses = []; contexts = []; ranges = record { section = []; parts = [] }; locations = record { section = []; parts = [] } }
 
 -- the end of a chain is a target, which counts from the first byte of the unit
 chain_end_is : Links linkable 1 1 0x01 (InUnit 18) (Refers 1 (TheEnd 0))

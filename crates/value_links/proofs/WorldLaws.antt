@@ -8,16 +8,16 @@ use Rattle.std.proofs.lemmas.List.Elements.{All-nil, All-cons, All-head, All-tai
 use Rattle.std.proofs.lemmas.List.Sums.{sum_by-cons}
 use Rattle.dw_base.specs.declared.fault.Fault.{Fault}
 use Rattle.dw_base.specs.declared.fault.Kind.{Kind}
-use Rattle.dw_base.specs.declared.fault.Kind.TheVariants.{Companion, Unbuilt}
+use Rattle.dw_base.specs.declared.fault.Kind.TheVariants.{Companion}
 use Rattle.dw_base.specs.declared.fault.Reach.{Reach}
 use Rattle.dw_base.specs.declared.fault.Reach.TheVariants.{Narrow, Wide}
 use Rattle.dw_base.specs.declared.fault.Refusal.{Refusal}
 use Rattle.dw_base.specs.declared.fault.Refusal.TheVariants.{Refused, NoMemory}
 use Rattle.dw_base.specs.Refusals.{IsFaultOf, IsRefusedFor}
-use Rattle.elf_sections.specs.Elf.{IsElf64, section_count, body_span, body_of}
+use Rattle.elf_sections.specs.Elf.{section_count, body_span, body_of}
 use Rattle.elf_sections.specs.Sections.{IsFirstNamed}
 use Rattle.elf_sections.specs.Names.{name_of, is_debug_name}
-use Rattle.elf_sections.specs.Faults.{IsRead, SomeSection, NameFault, HasNoElfFault, NamesFirstFault, debug_limit, is_too_long}
+use Rattle.elf_sections.specs.Faults.{IsRead, NameFault, NamesFirstFault, debug_limit, is_too_long}
 use Rattle.line_machine.specs.declared.head.Head.{Head}
 use Rattle.line_machine.specs.declared.registers.Row.{Row}
 use Rattle.line_machine.specs.Rows.{GivesRows}
@@ -31,11 +31,11 @@ use Rattle.entry_read.specs.Expressions.{FaultExpressions}
 use Rattle.entry_read.proofs.Chained.{Chained}
 use Rattle.list_model.specs.declared.context.Context.{Context}
 use Rattle.list_model.specs.declared.tables.AddrTable.{AddrTable}
-use Rattle.list_model.specs.declared.entry.ListKind.TheVariants.{Ranges}
+use Rattle.list_model.specs.declared.entry.ListKind.{ListKind}
+use Rattle.list_model.specs.declared.entry.ListKind.TheVariants.{Ranges, Locations}
 use Rattle.list_model.specs.Addresses.{AreAllTables}
 use Rattle.list_model.specs.Faults.{FaultContributions}
 use Rattle.list_model.specs.Faults.{FaultTables as FaultTablesOf}
-use Rattle.list_model.specs.Reading.{list_entry_limit}
 use Rattle.companions.specs.declared.set.ArangeSet.{ArangeSet}
 use Rattle.companions.specs.Aranges.{AreRising, SetsTile}
 use Rattle.companions.specs.Faults.{FaultSets}
@@ -43,22 +43,23 @@ use Rattle.value_links.specs.declared.lists.ListRead.{ListRead as HeldList}
 use Rattle.value_links.specs.declared.list_places.Contributions.{Contributions}
 use Rattle.value_links.specs.declared.parts.Parts.{Parts}
 use Rattle.value_links.specs.declared.units.Units.{Units}
-use Rattle.value_links.specs.Attributes.{rnglists_base}
-use Rattle.value_links.specs.Sections.{section_named, body_or_none, body_named, offset_named, debug_info, debug_abbrev, debug_line, debug_aranges, debug_addr, debug_rnglists, info_name, abbrev_name, line_name, aranges_name, addr_name, rnglists_name}
-use Rattle.value_links.specs.Reading.{ProgramRead, UnitRead, ListSection, ListRead, Linkable, Reading, line_heads, HasRows, AreProgramsIn, unit_at, unit_heads, unit_starts}
-use Rattle.value_links.specs.Whole.{IsReadToLinks, HasAddrBase, AreAddressesRead, AreFirstBases, IsReading}
-use Rattle.value_links.specs.Lists.{AreListsOf}
+use Rattle.value_links.specs.Sections.{section_named, body_or_none, body_named, offset_named, debug_info, debug_abbrev, debug_line, debug_aranges, debug_addr, debug_lists, info_name, abbrev_name, line_name, aranges_name, addr_name, lists_name}
+use Rattle.value_links.specs.Reading.{ProgramRead, UnitRead, ListSection, Linkable, Reading, of_kind, lists_of, line_heads, HasRows, AreProgramsIn, unit_at, unit_heads, unit_starts}
+use Rattle.value_links.specs.ListPlaces.{base_of}
+use Rattle.value_links.specs.Whole.{ArePartsOf, IsReadToLinks, HasAddrBase, AreAddressesRead, AreFirstBases, IsReading}
+use Rattle.value_links.specs.Lists.{AreListsOf, AreTold, AreWithinReach}
+use Rattle.value_links.specs.Operations.{IsSomeExpression}
 use Rattle.value_links.specs.LinkFaults.{FaultExprOf}
-use Rattle.value_links.specs.ListFaults.{FaultOfKind, entry_total}
+use Rattle.value_links.specs.ListFaults.{FaultOfKind}
 use Rattle.value_links.specs.Debug.{Debug, MeansDebug}
-use Rattle.value_links.specs.Faults.{FaultOfNames, is_list_section, FaultOfUnits, NamesFault}
+use Rattle.value_links.specs.Faults.{FaultOfNames, FaultOfUnits, NamesFault}
 use Rattle.value_links.specs.Laws.{HaveFewRows, AreBuilt, AreLinked, IsImageInOrder, AreProgramsInOrder, AreUnitsInOrder}
-use Rattle.value_links.specs.Parts.{HoldUnits, AreUnitsHeld, section_held, HoldsParts, LinkFault, IsUnitsFault}
+use Rattle.value_links.specs.Parts.{HoldUnits, AreUnitsHeld, section_held, HaveBases, lists_in, bases_in, HoldsParts, LinkFault, IsUnitsFault}
 use Rattle.value_links.specs.inside.Checks.{AreContextsHeld, IsSomeExpressionFault}
-use Rattle.value_links.specs.inside.Passes.{starts_of, ArePartsRead, ArePartsInOrder, NamesLaterFault}
+use Rattle.value_links.specs.inside.Passes.{starts_of, ArePartsRead, ArePartsInOrder, HoldAllLists, NamesLaterFault}
 use Rattle.value_links.specs.inside.ListPlaces.{AreContributions, AreBasesHeld}
 use Rattle.value_links.specs.inside.World.{IsHeldIn}
-use Rattle.value_links.specs.World.{World, head_and_forest, HaveOperations, HoldLists, IsWorldOf}
+use Rattle.value_links.specs.World.{World, head_and_forest, contributions_held, lists_held, HaveOperations, HoldLists, IsWorldOf}
 use Rattle.value_links.proofs.SectionLaws.{sections_are_found}
 use Rattle.value_links.proofs.Tiles.{programs_chained}
 use Rattle.value_links.proofs.ReadingOnce.{starts_rise}
@@ -69,6 +70,13 @@ use Rattle.value_links.proofs.ExprLinks.{expressions_within}
 use Rattle.value_links.proofs.Meaningful.{linked_means}
 use Rattle.value_links.proofs.ContextLaws.{contexts_read}
 use Rattle.value_links.proofs.HeldLists.{bases_read, lists_told}
+
+-- THE KINDS OF LISTS
+
+-- what holds of both kinds holds of each
+each_kind : (Holds : ListKind → Type 0) → Holds Ranges → Holds Locations → (kind : ListKind) → Holds kind
+each_kind Holds ranges locations Ranges = ranges
+each_kind Holds ranges locations Locations = locations
 
 -- SECTIONS BY THEIR NAMES
 
@@ -81,19 +89,16 @@ origin_is file name wanted origin same e = e ∙ ap (offset_named file) same
 
 -- IMAGES
 
-name_fault : (file : List ℕ) (reach : Reach) (kind : Kind) (place : ℕ) → NameFault file kind place → FaultOfNames file reach kind place
-name_fault file reach Companion place f = f
-name_fault file reach kind place f = absurd f
+name_fault : (file : List ℕ) (kind : Kind) (place : ℕ) → NameFault file kind place → FaultOfNames file kind place
+name_fault file Companion place f = f
+name_fault file kind place f = absurd f
 
 pub image_refused : (file : List ℕ) (reach : Reach) (refusal : Refusal) → NamesFirstFault file reach refusal → NamesFault file reach refusal
 image_refused file reach (Refused fault) f = elim f [
   | inl elf ↦ first_faults.file file reach fault.kind fault.place elf
-  | inr names ↦ first_faults.names file reach fault.kind fault.place names.0 (name_fault file reach fault.kind fault.place names.1)
+  | inr names ↦ first_faults.names file reach fault.kind fault.place names.0 (name_fault file fault.kind fault.place names.1)
 ]
 image_refused file reach NoMemory f = tt
-
-pub lists_refused : (file : List ℕ) (reach : Reach) (place : ℕ) → HasNoElfFault file reach → IsElf64 file → SomeSection file (is_list_section file) place → NamesFault file reach (Refused (record { kind = Unbuilt; place = place }))
-lists_refused file reach place none elf some = first_faults.names file reach Unbuilt place none (elf, some)
 
 -- PROGRAMS
 
@@ -193,7 +198,8 @@ few_programs file reach programs read are =
 programs_in_order : (file : List ℕ) (reach : Reach) → IsImageInOrder file reach → (heads : List Head) → AreRead (debug_line file) heads → (r : Linkable) × AreProgramsInOrder file reach r
 programs_in_order file reach order heads read =
     let p = programs_read (debug_line file) heads read in
-    (record { programs = p.programs; units = []; addresses = []; contexts = []; ranges = record { section = []; parts = [] } }, record { before = order; programs = p.read; few = p.few })
+    let none : ListSection = record { section = []; parts = [] } in
+    (record { programs = p.programs; units = []; addresses = []; contexts = []; ranges = none; locations = none }, record { before = order; programs = p.read; few = p.few })
 
 -- a fault of the pass that reads units and contributions
 units_fault : (file : List ℕ) (reach : Reach) (heads : List Head) (fault : Fault) → AreRead (debug_line file) heads → IsImageInOrder file reach → FaultOfUnits file fault.kind fault.place → NamesFault file reach (Refused fault)
@@ -212,37 +218,41 @@ pub units_refused_in : (file : List ℕ) (heads : List Head) (refusal : Refusal)
 units_refused_in file heads refusal info abbrevs info_origin abbrev_origin i a io ao read f =
     units_refused file heads refusal read (subst (λ (z : List ℕ). IsRefusedFor (IsUnitsFault z (debug_abbrev file) (offset_named file info_name) (offset_named file abbrev_name)) refusal) i (subst (λ (z : List ℕ). IsRefusedFor (IsUnitsFault info z (offset_named file info_name) (offset_named file abbrev_name)) refusal) a (subst (λ (o : ℕ). IsRefusedFor (IsUnitsFault info abbrevs o (offset_named file abbrev_name)) refusal) io (subst (λ (o : ℕ). IsRefusedFor (IsUnitsFault info abbrevs info_origin o) refusal) ao f))))
 
-pub ranges_refused : (file : List ℕ) (heads : List Head) (refusal : Refusal) → AreRead (debug_line file) heads → IsRefusedFor (IsFaultOf (FaultContributions (debug_rnglists file)) (offset_named file rnglists_name)) refusal → (reach : Reach) → NamesLaterFault file reach refusal
-ranges_refused file heads (Refused fault) read f reach order = units_fault file reach heads fault read order (inr (inr f))
-ranges_refused file heads NoMemory read f reach order = tt
+pub parts_refused : (file : List ℕ) (heads : List Head) (kind : ListKind) (refusal : Refusal) → AreRead (debug_line file) heads → IsRefusedFor (IsFaultOf (FaultContributions (debug_lists file kind)) (offset_named file (lists_name kind))) refusal → (reach : Reach) → NamesLaterFault file reach refusal
+parts_refused file heads kind (Refused fault) read f reach order = units_fault file reach heads fault read order (inr (inr (kind, f)))
+parts_refused file heads kind NoMemory read f reach order = tt
 
 -- WHAT IS READ BEFORE EXPRESSIONS
 
+-- the contributions of lists of a kind, and of each unit the one that its root names
+pub record ContributionsRead (file : List ℕ) (kind : ListKind) (units : Units) (held : Contributions) (bases : List (Option ℕ)) : Type 0 where
+  pub section : held.section.now ≡ debug_lists file kind
+  pub parts_are : AreContributions held
+  pub bases_are : AreBasesHeld (section_held held) (base_of kind) units bases
+
 -- parts that were read, before the operations of expressions
-pub record PartsRead (file : List ℕ) (programs : List Head) (units : Units) (contexts : List Context) (addresses : List ℕ) (tables : List AddrTable) (ranges : Contributions) (bases : List (Option ℕ)) : Type 0 where
+pub record PartsRead (file : List ℕ) (programs : List Head) (units : Units) (contexts : List Context) (addresses : List ℕ) (tables : List AddrTable) (ranges locations : Contributions) (range_bases location_bases : List (Option ℕ)) : Type 0 where
   pub programs_are : AreRead (debug_line file) programs
   pub units_are : AreUnitsHeld (debug_info file) (debug_abbrev file) units
   pub contexts_are : AreContextsHeld (debug_addr file) units contexts
   pub addresses_are : addresses ≡ debug_addr file
   pub tables_are : AreAllTables (debug_addr file) tables
-  pub section : ranges.section.now ≡ debug_rnglists file
-  pub ranges_are : AreContributions ranges
-  pub bases_are : AreBasesHeld (section_held ranges) rnglists_base units bases
+  pub ranges_are : ContributionsRead file Ranges units ranges range_bases
+  pub locations_are : ContributionsRead file Locations units locations location_bases
 
-pub parts_read_in : (file info abbrevs : List ℕ) (programs : List Head) (units : Units) (contexts : List Context) (addresses : List ℕ) (tables : List AddrTable) (ranges : Contributions) (bases : List (Option ℕ)) → info ≡ debug_info file → abbrevs ≡ debug_abbrev file → addresses ≡ debug_addr file → AreRead (debug_line file) programs → AreUnitsHeld info abbrevs units → AreContextsHeld addresses units contexts → AreAllTables (debug_addr file) tables → ranges.section.now ≡ debug_rnglists file → AreContributions ranges → AreBasesHeld (section_held ranges) rnglists_base units bases → PartsRead file programs units contexts addresses tables ranges bases
-parts_read_in file info abbrevs programs units contexts addresses tables ranges bases i a d programs_are units_are contexts_are tables_are section ranges_are bases_are = record {
+pub parts_read_in : (file info abbrevs : List ℕ) (programs : List Head) (units : Units) (contexts : List Context) (addresses : List ℕ) (tables : List AddrTable) (ranges locations : Contributions) (range_bases location_bases : List (Option ℕ)) → info ≡ debug_info file → abbrevs ≡ debug_abbrev file → addresses ≡ debug_addr file → AreRead (debug_line file) programs → AreUnitsHeld info abbrevs units → AreContextsHeld addresses units contexts → AreAllTables (debug_addr file) tables → ContributionsRead file Ranges units ranges range_bases → ContributionsRead file Locations units locations location_bases → PartsRead file programs units contexts addresses tables ranges locations range_bases location_bases
+parts_read_in file info abbrevs programs units contexts addresses tables ranges locations range_bases location_bases i a d programs_are units_are contexts_are tables_are ranges_are locations_are = record {
   programs_are = programs_are;
   units_are = subst (λ (z : List ℕ). AreUnitsHeld z (debug_abbrev file) units) i (subst (λ (z : List ℕ). AreUnitsHeld info z units) a units_are);
   contexts_are = subst (λ (z : List ℕ). AreContextsHeld z units contexts) d contexts_are;
   addresses_are = d;
   tables_are = tables_are;
-  section = section;
   ranges_are = ranges_are;
-  bases_are = bases_are;
+  locations_are = locations_are;
 }
 
 -- what values refer to, of which these are the parts
-record LinkableRead (file : List ℕ) (programs : List Head) (units : Units) (contexts : List Context) (ranges : Contributions) : Type 0 where
+record LinkableRead (file : List ℕ) (programs : List Head) (units : Units) (contexts : List Context) (ranges locations : Contributions) : Type 0 where
   r : Linkable
   read : IsReadToLinks file r
   programs_are : programs ≡ line_heads r.programs
@@ -250,29 +260,32 @@ record LinkableRead (file : List ℕ) (programs : List Head) (units : Units) (co
   units_are : HoldUnits r.units units
   contexts_are : contexts ≡ r.contexts
   ranges_are : section_held ranges ≡ r.ranges
+  locations_are : section_held locations ≡ r.locations
   few : HaveFewRows r.programs
   built : AreBuilt r.units
 
-module _ (file : List ℕ) (programs : List Head) (units : Units) (contexts : List Context) (addresses : List ℕ) (tables : List AddrTable) (ranges : Contributions) (bases : List (Option ℕ)) (image : IsRead file Wide) (read : PartsRead file programs units contexts addresses tables ranges bases) where
-  linkable_read : LinkableRead file programs units contexts ranges
+module _ (file : List ℕ) (programs : List Head) (units : Units) (contexts : List Context) (addresses : List ℕ) (tables : List AddrTable) (ranges locations : Contributions) (range_bases location_bases : List (Option ℕ)) (image : IsRead file Wide) (read : PartsRead file programs units contexts addresses tables ranges locations range_bases location_bases) where
+  linkable_read : LinkableRead file programs units contexts ranges locations
   linkable_read =
       let p = programs_read (debug_line file) programs read.programs_are in
       let few : length p.programs < 2 ^ 32 = few_programs file Wide p.programs (λ i inside. (image.sound.sections i inside).short) p.read in
       let count : length programs ≡ length p.programs = ap length p.held ∙ length-map p.programs (λ (x : ProgramRead). x.head) in
+      let r : Linkable = record { programs = p.programs; units = read.units_are.read; addresses = debug_addr file; contexts = contexts; ranges = section_held ranges; locations = section_held locations } in
       record {
-        r = record { programs = p.programs; units = read.units_are.read; addresses = debug_addr file; contexts = contexts; ranges = section_held ranges };
+        r = r;
         read = record {
           programs = p.read;
           units = read.units_are.units;
           addresses = refl;
           contexts = contexts_read (debug_addr file) read.units_are.read units contexts read.units_are.holds read.contexts_are;
-          ranges = record { bytes_are = read.section; tiled = read.ranges_are.tiled };
+          lists = each_kind (λ kind. ArePartsOf (debug_lists file kind) (of_kind r kind)) (record { bytes_are = read.ranges_are.section; tiled = read.ranges_are.parts_are.tiled }) (record { bytes_are = read.locations_are.section; tiled = read.locations_are.parts_are.tiled });
         };
         programs_are = p.held;
         few_programs = subst (λ (n : ℕ). n < 2 ^ 32) (sym count) few;
         units_are = read.units_are.holds;
         contexts_are = refl;
         ranges_are = refl;
+        locations_are = refl;
         few = p.few;
         built = read.units_are.built;
       }
@@ -284,14 +297,18 @@ module _ (file : List ℕ) (programs : List Head) (units : Units) (contexts : Li
       let known : u < length l.r.units = subst (λ (n : ℕ). u < n) (held_count l.r.units units.units.items l.units_are.units) inside in
       let there : FaultExpressions (unit_at l.r u).forest reach fault.kind inner = subst (λ (z : HeadAndForest). FaultExpressions z.forest reach fault.kind inner) (held_is l.r.units units.units.items l.units_are.units u known) f in
       let of_unit : FaultExprOf l.r reach u fault.kind inner = record { number = there.number; span = there.span; stands = there.stands; inner = there.inner; fault = inl there.fault; here = there.here } in
-      let before : AreUnitsInOrder file reach l.r = record { before = record { before = order; programs = l.read.programs; few = l.few }; units = l.read.units; built = l.built; ranges = l.read.ranges } in
+      let before : AreUnitsInOrder file reach l.r = record { before = record { before = order; programs = l.read.programs; few = l.few }; units = l.read.units; built = l.built; lists = l.read.lists } in
       first_faults.links file reach l.r fault.kind fault.place before (inl (inner, here, record { r = l.r; read = l.read; u = u; inside = known; fault = inr (inr (inr of_unit)) }))
   expressions_refused reach NoMemory f order = tt
 
+-- the bases of a kind
+kind_bases : (file : List ℕ) (r : Linkable) (kind : ListKind) (units : Units) (held : Contributions) (bases : List (Option ℕ)) → HoldUnits r.units units → section_held held ≡ of_kind r kind → ContributionsRead file kind units held bases → HaveBases r kind bases
+kind_bases file r kind units held bases units_are same read = bases_read r kind units bases units_are (subst (λ (z : ListSection). AreBasesHeld z (base_of kind) units bases) same read.bases_are)
+
 -- parts that were read, with the operations of expressions
-pub parts_read : (file : List ℕ) (parts : Parts) → IsRead file Wide → PartsRead file parts.programs.items parts.units parts.contexts.items parts.addr.now parts.tables.items parts.ranges parts.bases.items → HaveOperations Wide parts.units.units.items parts.operations.items → ArePartsRead file parts
+pub parts_read : (file : List ℕ) (parts : Parts) → IsRead file Wide → PartsRead file parts.programs.items parts.units parts.contexts.items parts.addr.now parts.tables.items parts.ranges parts.locations parts.range_bases.items parts.location_bases.items → HaveOperations Wide parts.units.units.items parts.operations.items → ArePartsRead file parts
 parts_read file parts image read operations =
-    let l = linkable_read file parts.programs.items parts.units parts.contexts.items parts.addr.now parts.tables.items parts.ranges parts.bases.items image read in
+    let l = linkable_read file parts.programs.items parts.units parts.contexts.items parts.addr.now parts.tables.items parts.ranges parts.locations parts.range_bases.items parts.location_bases.items image read in
     record {
       r = l.r;
       holds = record {
@@ -301,9 +318,9 @@ parts_read file parts image read operations =
         contexts = l.contexts_are;
         addresses = read.addresses_are ∙ sym l.read.addresses;
         tables = subst (λ (z : List ℕ). AreAllTables z parts.tables.items) (sym l.read.addresses) read.tables_are;
-        ranges = l.ranges_are;
-        few_ranges = read.ranges_are.few;
-        bases = bases_read l.r parts.units parts.bases.items l.units_are (subst (λ (z : ListSection). AreBasesHeld z rnglists_base parts.units parts.bases.items) l.ranges_are read.bases_are);
+        lists = each_kind (λ kind. section_held (lists_in parts kind) ≡ of_kind l.r kind) l.ranges_are l.locations_are;
+        few_parts = each_kind (λ kind. length (lists_in parts kind).parts.items < 2 ^ 32) read.ranges_are.parts_are.few read.locations_are.parts_are.few;
+        bases = each_kind (λ kind. HaveBases l.r kind (bases_in parts kind)) (kind_bases file l.r Ranges parts.units parts.ranges parts.range_bases.items l.units_are l.ranges_are read.ranges_are) (kind_bases file l.r Locations parts.units parts.locations parts.location_bases.items l.units_are l.locations_are read.locations_are);
         operations = operations;
         few = l.few_programs;
       };
@@ -315,7 +332,7 @@ parts_read file parts image read operations =
 
 module _ (file : List ℕ) (parts : Parts) (read : ArePartsRead file parts) where
   units_in_order : (reach : Reach) → IsImageInOrder file reach → AreUnitsInOrder file reach read.r
-  units_in_order reach order = record { before = record { before = order; programs = read.holds.read.programs; few = read.few }; units = read.holds.read.units; built = read.built; ranges = read.holds.read.ranges }
+  units_in_order reach order = record { before = record { before = order; programs = read.holds.read.programs; few = read.few }; units = read.holds.read.units; built = read.built; lists = read.holds.read.lists }
 
   pub units_are_held : AreUnitsHeld (debug_info file) (debug_abbrev file) parts.units
   units_are_held = record { read = read.r.units; units = read.holds.read.units; holds = read.holds.units; built = read.built }
@@ -335,8 +352,8 @@ module _ (file : List ℕ) (parts : Parts) (read : ArePartsRead file parts) wher
 -- SETS OF ADDRESS RANGES
 
 -- a world by its parts
-abbrev pub world_by : List ℕ → Parts → List HeldList → List ArangeSet → World
-world_by image parts lists sets = record { image = image; programs = parts.programs.items; units = parts.units.units.items; operations = parts.operations.items; tables = parts.units.tables.items; table_of = parts.units.table_of.items; contexts = parts.contexts.items; contributions = parts.ranges.parts.items; lists = lists; sets = sets }
+abbrev pub world_by : List ℕ → Parts → List HeldList → List HeldList → List ArangeSet → World
+world_by image parts ranges locations sets = record { image = image; programs = parts.programs.items; units = parts.units.units.items; operations = parts.operations.items; tables = parts.units.tables.items; table_of = parts.units.table_of.items; contexts = parts.contexts.items; range_parts = parts.ranges.parts.items; ranges = ranges; location_parts = parts.locations.parts.items; locations = locations; sets = sets }
 
 starts_held : (units : List UnitRead) → starts_of (map head_and_forest units) ≡ unit_starts units
 starts_held [] = refl
@@ -368,6 +385,9 @@ module _ (file : List ℕ) (parts : Parts) (order : ArePartsInOrder file parts) 
 
   -- LISTS
 
+  pub section_is : (kind : ListKind) → (lists_in parts kind).section.now ≡ debug_lists file kind
+  section_is kind = ap (λ (z : ListSection). z.section) (order.holds.lists kind) ∙ (order.holds.read.lists kind).bytes_are
+
   pub units_held_in_order : AreUnitsHeld (debug_info file) (debug_abbrev file) parts.units
   units_held_in_order = units_are_held file parts read_before
 
@@ -375,28 +395,38 @@ module _ (file : List ℕ) (parts : Parts) (order : ArePartsInOrder file parts) 
     tiled_there : SetsTile (debug_aranges file) (unit_starts order.r.units) sets
     tiled_there = subst (λ (z : List ℕ). SetsTile (debug_aranges file) z sets) starts_are tiled
 
-    pub named_refused : (reach : Reach) (refusal : Refusal) → HaveOperations reach parts.units.units.items parts.operations.items → ((f : List ℕ) (r : Linkable) → HoldsParts f r parts → IsRefusedFor (IsFaultOf (FaultOfKind r reach Ranges) (offset_named file rnglists_name)) refusal) → NamesLaterFault file reach refusal
-    named_refused reach (Refused fault) operations refused image =
-        let (inner, here, f) = refused file order.r order.holds in
-        first_faults.lists file reach order.r fault.kind fault.place (record { before = in_order reach image; read = order.holds.read; linked = order.linked; within = expressions_within file order.r parts order.holds reach operations; roots = order.roots; sets = (sets, tiled_there) }) (inl (inner, here, (order.r, order.holds.read, f)))
-    named_refused reach NoMemory operations refused image = tt
+    pub named_refused : (reach : Reach) (kind : ListKind) (refusal : Refusal) → HaveOperations reach parts.units.units.items parts.operations.items → ((r : Linkable) → HoldsParts file r parts → IsRefusedFor (IsFaultOf (FaultOfKind r reach kind) (offset_named file (lists_name kind))) refusal) → NamesLaterFault file reach refusal
+    named_refused reach kind (Refused fault) operations refused image =
+        let (inner, here, f) = refused order.r order.holds in
+        first_faults.lists file reach order.r fault.kind fault.place (record { before = in_order reach image; read = order.holds.read; linked = order.linked; within = expressions_within file order.r parts order.holds reach operations; roots = order.roots; sets = (sets, tiled_there) }) (inl (kind, (inner, here, (order.r, order.holds.read, f))))
+    named_refused reach kind NoMemory operations refused image = tt
 
     -- THE FILE
 
-    module _ (reach : Reach) (image : IsImageInOrder file reach) (operations : HaveOperations reach parts.units.units.items parts.operations.items) (held : List HeldList) (lists : (r : Linkable) → HoldsParts file r parts → (read : List ListRead) × AreListsOf r Ranges read × HoldLists r Ranges read held × (entry_total read ≤ list_entry_limit reach)) where
-      named : (read : List ListRead) × AreListsOf order.r Ranges read × HoldLists order.r Ranges read held × (entry_total read ≤ list_entry_limit reach)
+    module _ (reach : Reach) (image : IsImageInOrder file reach) (operations : HaveOperations reach parts.units.units.items parts.operations.items) (ranges locations : List HeldList) (lists : (r : Linkable) → HoldsParts file r parts → HoldAllLists r reach ranges locations) where
+      named : HoldAllLists order.r reach ranges locations
       named = lists order.r order.holds
 
       abbrev reading : Reading
-      reading = record { links = order.r; range_lists = named.0; sets = sets }
+      reading = record { links = order.r; range_lists = named.range_lists; location_lists = named.location_lists; sets = sets }
 
       whole : IsReading file reading
-      whole = record { links = order.holds.read; roots = order.roots; ranges = named.1; sets = tiled_there }
+      whole = record { links = order.holds.read; roots = order.roots; lists = each_kind (λ kind. AreListsOf order.r kind (lists_of reading kind)) named.are_ranges named.are_locations; sets = tiled_there }
+
+      told : (kind : ListKind) → AreTold order.r kind (lists_of reading kind)
+      told = each_kind (λ kind. AreTold order.r kind (lists_of reading kind)) (lists_told order.r Ranges named.range_lists ranges named.hold_ranges) (lists_told order.r Locations named.location_lists locations named.hold_locations)
+
+      -- range lists have no expressions
+      within : (kind : ListKind) → AreWithinReach order.r kind reach (lists_of reading kind)
+      within = each_kind (λ kind. AreWithinReach order.r kind reach (lists_of reading kind)) (λ k inside. All-nil (IsSomeExpression reach)) named.within
 
       meaning : (debug : Debug) × MeansDebug file reading debug
-      meaning = linked_means file reading whole (lists_told order.r Ranges named.0 held named.2) order.linked
+      meaning = linked_means file reading whole told order.linked
 
-      abbrev world_of : IsWorldOf file reach (world_by file parts held sets)
+      abbrev world : World
+      world = world_by file parts ranges locations sets
+
+      abbrev world_of : IsWorldOf file reach world
       world_of = record {
         r = reading;
         read = whole;
@@ -407,20 +437,21 @@ module _ (file : List ℕ) (parts : Parts) (order : ArePartsInOrder file parts) 
           tables = order.holds.units.tables;
           contexts = order.holds.contexts;
           addresses = order.holds.read.addresses;
-          ranges = order.holds.read.ranges.bytes_are;
-          contributions = ap (λ (z : ListSection). z.parts) order.holds.ranges;
-          lists = named.2;
+          sections = λ kind. (order.holds.read.lists kind).bytes_are;
+          contributions = each_kind (λ kind. contributions_held world kind ≡ (of_kind order.r kind).parts) (ap (λ (z : ListSection). z.parts) (order.holds.lists Ranges)) (ap (λ (z : ListSection). z.parts) (order.holds.lists Locations));
+          lists = each_kind (λ kind. HoldLists order.r kind (lists_of reading kind) (lists_held world kind)) named.hold_ranges named.hold_locations;
           sets = refl;
         };
         operations = operations;
+        within = within;
         debug = meaning.0;
         means = meaning.1;
-        valid = valid_meaning file reach reading meaning.0 (in_order reach image) whole meaning.1 (expressions_within file order.r parts order.holds reach operations) named.3;
+        valid = valid_meaning file reach reading meaning.0 (in_order reach image) whole meaning.1 (expressions_within file order.r parts order.holds reach operations) (record { entries = named.entries; bytes = named.bytes; expressions = within });
       }
 
       -- likewise where the image that was read is the file
-      pub world_read : (bytes : List ℕ) → bytes ≡ file → IsWorldOf file reach (world_by bytes parts held sets)
-      world_read bytes same = subst (λ (z : List ℕ). IsWorldOf file reach (world_by z parts held sets)) (sym same) world_of
+      pub world_read : (bytes : List ℕ) → bytes ≡ file → IsWorldOf file reach (world_by bytes parts ranges locations sets)
+      world_read bytes same = subst (λ (z : List ℕ). IsWorldOf file reach (world_by z parts ranges locations sets)) (sym same) world_of
 
-      pub world_held : (bytes : List ℕ) → bytes ≡ file → IsHeldIn bytes parts (world_by bytes parts held sets)
-      world_held bytes same = subst (λ (z : List ℕ). IsHeldIn z parts (world_by z parts held sets)) (sym same) (record { reach = reach; is = world_of; parts_are = order.holds })
+      pub world_held : (bytes : List ℕ) → bytes ≡ file → IsHeldIn bytes parts (world_by bytes parts ranges locations sets)
+      world_held bytes same = subst (λ (z : List ℕ). IsHeldIn z parts (world_by z parts ranges locations sets)) (sym same) (record { reach = reach; is = world_of; parts_are = order.holds })

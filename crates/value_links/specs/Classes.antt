@@ -7,11 +7,13 @@ use Rattle.abbrev_tables.specs.declared.decl.Spec.{Spec}
 use Rattle.abbrev_tables.specs.Listings.{spec_at}
 use Rattle.abbrev_tables.specs.LeastColumns.{IsLeastColumn, IsFirstColumn}
 use Rattle.list_model.specs.declared.entry.ListKind.{ListKind}
-use Rattle.list_model.specs.declared.entry.ListKind.TheVariants.{Ranges}
+use Rattle.list_model.specs.declared.entry.ListKind.TheVariants.{Ranges, Locations}
 use Rattle.list_model.specs.Contributions.{bytes_from}
 use Rattle.list_model.specs.Entries.{Entry, AreSaid}
 use Rattle.list_model.specs.Items.{Bounds, Give}
 use Rattle.list_model.specs.Members.{IsLeastList, IsLeastFrozen}
+use Rattle.loc_lists.specs.Locations.{SpellsBehind}
+use Rattle.loc_lists.specs.Apart.{StandApart}
 use Rattle.value_links.specs.Reading.{ListRead, Linkable, Reading, unit_at, of_kind, lists_of, part_at, list_at, context_at}
 use Rattle.value_links.specs.Lists.{IsOwner, IsFrozen}
 use Rattle.value_links.specs.Whole.{IsReading}
@@ -89,13 +91,20 @@ pub record AreLeastBytes (r : Linkable) (kind : ListKind) (list : ListRead) (byt
   pub live : (¬ IsFrozen r kind list) → (u : ℕ) (entries : List Entry) (bounds : List Bounds) → IsOwner r kind list.at (Some u) → AreSaid kind list.raws entries → Give r.addresses (context_at r u) entries bounds → IsLeastList kind r.addresses (context_at r u) bounds bytes
   pub frozen : IsFrozen r kind list → (entries : List Entry) → AreSaid kind list.raws entries → IsLeastFrozen kind entries bytes
 
--- The list with a number is written in such bytes.
+-- the bytes of a list, and those without the expressions behind its entries and their lengths
+abbrev pub AreBare : ListKind → List ℕ → List ℕ → Type 0
+AreBare Ranges bytes bare = bytes ≡ bare
+AreBare Locations bytes bare = (locations : List (Entry × List ℕ)) × StandApart SpellsBehind locations bytes bare
+
+-- The list with a number is written in such bytes, which may have expressions between them.
 pub record IsLeastWritten (kind : ListKind) (r s : Reading) (k : ℕ) : Type 0 where
   pub bytes : List ℕ
   pub rest : List ℕ
   pub stands : bytes_from (of_kind s.links kind).section (part_at (of_kind s.links kind) (list_at (lists_of s kind) k).part) (list_at (lists_of s kind) k).at ≡ bytes ++ rest
-  pub least : AreLeastBytes r.links kind (list_at (lists_of r kind) k) bytes
+  pub bare : List ℕ
+  pub without : AreBare kind bytes bare
+  pub least : AreLeastBytes r.links kind (list_at (lists_of r kind) k) bare
 
--- all range lists are; the one with a number in the written file is the one with this number in the old file
-abbrev pub HaveLeastRanges : List ℕ → List ℕ → Type 0
-HaveLeastRanges = OfReadings (λ r s. (k : ℕ) → k < length r.range_lists → IsLeastWritten Ranges r s k)
+-- all lists are; the one of a kind with a number in the written file is the one with this number in the old file
+abbrev pub HaveLeastLists : List ℕ → List ℕ → Type 0
+HaveLeastLists = OfReadings (λ r s. (kind : ListKind) (k : ℕ) → k < length (lists_of r kind) → IsLeastWritten kind r s k)

@@ -8,7 +8,7 @@ use Rattle.entry_read.specs.Heads.{type_unit}
 use Rattle.companions.specs.declared.set.ArangeSet.{ArangeSet}
 use Rattle.value_links.specs.Sections.{debug_line}
 use Rattle.list_model.specs.declared.entry.ListKind.{ListKind}
-use Rattle.list_model.specs.declared.entry.ListKind.TheVariants.{Ranges}
+use Rattle.list_model.specs.declared.entry.ListKind.TheVariants.{Ranges, Locations}
 use Rattle.value_links.specs.Reading.{UnitRead, Linkable, Reading, line_heads, declarations, unit_at, of_kind, part_at}
 use Rattle.value_links.specs.ListPlaces.{SlotNames}
 use Rattle.value_links.specs.Whole.{IsReading}
@@ -39,12 +39,13 @@ pub record SetMeaning : Type 0 where
 pub record PartMeaning : Type 0 where
   pub slots : List ListMeaning
 
--- The debug meaning of a file: its line number programs, its units, its contributions of range lists and its sets of address
--- ranges, each in their order. What further sections mean is a field more.
+-- The debug meaning of a file: its line number programs, its units, its contributions of range lists and of location lists, and its
+-- sets of address ranges, each in their order.
 pub record Debug : Type 0 where
   pub programs : List ProgramMeaning
   pub units : List UnitMeaning
   pub ranges : List PartMeaning
+  pub locations : List PartMeaning
   pub aranges : List SetMeaning
 
 -- the entries of a unit, with their values as they stand
@@ -102,11 +103,16 @@ pub record MeanParts (r : Reading) (kind : ListKind) (parts : List PartMeaning) 
   pub count : length parts ≡ length (of_kind r.links kind).parts
   pub each : (p : ℕ) (d : PartMeaning) → p < length parts → MeansPart r kind p (slice_index_or parts p d)
 
+-- the contributions of a kind
+abbrev pub parts_of : Debug → ListKind → List PartMeaning
+parts_of debug Ranges = debug.ranges
+parts_of debug Locations = debug.locations
+
 -- what is read means this
 pub record MeansDebug (file : List ℕ) (r : Reading) (debug : Debug) : Type 0 where
   pub programs : HaveMeanings (debug_line file) (line_heads r.links.programs) debug.programs
   pub units : MeanUnits r debug.units
-  pub ranges : MeanParts r Ranges debug.ranges
+  pub lists : (kind : ListKind) → MeanParts r kind (parts_of debug kind)
   pub aranges : debug.aranges ≡ map set_meaning r.sets
 
 -- the file means this

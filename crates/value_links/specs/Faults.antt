@@ -1,18 +1,16 @@
 -- The faults of a file, as conditions on its bytes, in the order in which they decide: passes over the file, of which the
 -- first that has a fault refuses it. The place of a fault is an offset in the file.
-use Rattle.std.specs.Prelude.{◌≡◌, ◌≤◌, ◌<◌, ◌+◌, ◌⊎◌, ℕ, List, [], ◌∷◌, ◌++◌, length, drop, map, Bool, bytes_eq}
+use Rattle.std.specs.Prelude.{◌≡◌, ◌≤◌, ◌<◌, ◌+◌, ◌⊎◌, ℕ, List, [], ◌∷◌, ◌++◌, length, drop, map}
 use Rattle.std.specs.List.{All, Contains}
 use Rattle.dw_base.specs.declared.fault.Kind.{Kind}
 use Rattle.dw_base.specs.declared.fault.Kind.TheVariants.{Companion, Limit, Pointer, Unbuilt}
 use Rattle.dw_base.specs.declared.fault.Reach.{Reach}
 use Rattle.dw_base.specs.declared.fault.Refusal.{Refusal}
 use Rattle.dw_base.specs.declared.fault.Refusal.TheVariants.{Refused, NoMemory}
-use Rattle.elf_sections.specs.Elf.{IsElf64}
-use Rattle.elf_sections.specs.Names.{name_of}
-use Rattle.elf_sections.specs.Faults.{SomeSection, ElfFault, NameFault}
+use Rattle.elf_sections.specs.Faults.{ElfFault, NameFault}
 use Rattle.line_write.specs.Faults.{LinesFault}
 use Rattle.spelled.specs.Spelled.{StandsAt}
-use Rattle.form_codec.specs.declared.form.Form.TheVariants.{Ref1, Ref2}
+use Rattle.form_codec.specs.declared.form.Form.TheVariants.{Ref1, Ref2, SecOffset}
 use Rattle.form_codec.specs.Forms.{code_of}
 use Rattle.abbrev_tables.specs.declared.decl.Spec.{Spec}
 use Rattle.abbrev_tables.specs.Tables.{Declared, SpellsDeclared}
@@ -23,11 +21,12 @@ use Rattle.entry_read.specs.declared.unit.Counts.{Counts}
 use Rattle.entry_read.specs.Heads.{Follow, Tile}
 use Rattle.entry_read.specs.Units.{declarations_of}
 use Rattle.entry_read.specs.Faults.{FaultHeads, FaultUnit}
-use Rattle.list_model.specs.declared.entry.ListKind.TheVariants.{Ranges}
+use Rattle.list_model.specs.declared.entry.ListKind.{ListKind}
 use Rattle.list_model.specs.Faults.{FaultContributions}
 use Rattle.list_model.specs.Faults.{FaultTables as FaultTablesOf}
 use Rattle.companions.specs.Faults.{FaultSets}
-use Rattle.value_links.specs.Sections.{offset_named, debug_info, debug_abbrev, debug_line, debug_aranges, debug_addr, debug_rnglists, info_name, abbrev_name, line_name, aranges_name, addr_name, rnglists_name, loclists_name}
+use Rattle.value_links.specs.Sections.{offset_named, debug_info, debug_abbrev, debug_line, debug_aranges, debug_addr, debug_lists, info_name, abbrev_name, line_name, aranges_name, addr_name, lists_name}
+use Rattle.value_links.specs.Attributes.{gnu_locviews}
 use Rattle.value_links.specs.Reading.{UnitRead, Linkable, unit_heads, counts_of, AreWithin, IsUnitRead, AreUnitsOf}
 use Rattle.value_links.specs.Whole.{IsReadToLinks, HasAddrBase}
 use Rattle.value_links.specs.LinkFaults.{FaultInUnit}
@@ -44,15 +43,10 @@ FaultOfFile file reach kind place = ElfFault file reach kind place
 
 -- SECOND PASS: the names of sections
 
--- a section of location lists, which isn't rewritten yet
-abbrev pub is_list_section : List ℕ → ℕ → Bool
-is_list_section file i = bytes_eq (name_of file i) loclists_name
-
--- A section goes with debug sections and isn't known, or isn't rewritten yet.
-abbrev pub FaultOfNames : List ℕ → Reach → Kind → ℕ → Type 0
-FaultOfNames file reach Companion place = NameFault file Companion place
-FaultOfNames file reach Unbuilt place = IsElf64 file × SomeSection file (is_list_section file) place
-FaultOfNames file reach kind place = ⊥
+-- A section goes with debug sections and isn't known.
+abbrev pub FaultOfNames : List ℕ → Kind → ℕ → Type 0
+FaultOfNames file Companion place = NameFault file Companion place
+FaultOfNames file kind place = ⊥
 
 -- THIRD PASS: line number programs (DWARF 5 section 6.2)
 
@@ -74,16 +68,20 @@ FaultOffset info abbrevs kind place = ⊥
 abbrev pub IsTablePlace : List ℕ → List ℕ → ℕ → Type 0
 IsTablePlace info abbrevs at = (head : UnitHead) × IsUnitOf info head × (head.table ≡ at) × (at < length abbrevs)
 
--- a column of a declaration has the form DW_FORM_ref1 or DW_FORM_ref2
-abbrev pub HasShortReference : Declared → Type 0
-HasShortReference d = (column : Spec) × Contains d.columns column × ((column.form ≡ code_of Ref1) ⊎ (column.form ≡ code_of Ref2))
+-- a column has the form DW_FORM_ref1 or DW_FORM_ref2, or it is a DW_AT_GNU_locviews that is a section offset
+abbrev pub IsUnbuiltColumn : Spec → Type 0
+IsUnbuiltColumn column = (column.form ≡ code_of Ref1) ⊎ ((column.form ≡ code_of Ref2) ⊎ ((column.name ≡ gnu_locviews) × (column.form ≡ code_of SecOffset)))
+
+-- a declaration has such a column
+abbrev pub HasUnbuiltColumn : Declared → Type 0
+HasUnbuiltColumn d = (column : Spec) × Contains d.columns column × IsUnbuiltColumn column
 
 -- A declaration stands at a place of a table, and can't be written yet.
 pub record IsUnbuiltDeclaration (rest : List ℕ) (at : ℕ) : Type 0 where
   pub before : List Declared
   pub d : Declared
   pub stands : StandsAt SpellsDeclared rest before d at
-  pub unbuilt : HasShortReference d
+  pub unbuilt : HasUnbuiltColumn d
 
 -- the faults of the bytes from a table's first byte on
 abbrev pub FaultRest : List ℕ → Kind → ℕ → Type 0
@@ -119,12 +117,15 @@ FaultUnits info abbrevs kind place = (head : UnitHead) × (before : Counts) × I
 abbrev pub InfoFault : List ℕ → List ℕ → Kind → ℕ → Type 0
 InfoFault info abbrevs kind place = FaultHeads info kind place ⊎ (FaultOffset info abbrevs kind place ⊎ FaultUnits info abbrevs kind place)
 
--- and of the contributions to a section of lists (DWARF 5 sections 7.28 and 7.29)
+-- A contribution to a section of lists has a fault (DWARF 5 sections 7.28 and 7.29).
+abbrev pub FaultOfParts : List ℕ → Kind → ℕ → Type 0
+FaultOfParts file kind place = (of : ListKind) × FaultIn file (lists_name of) (FaultContributions (debug_lists file of)) kind place
+
 abbrev pub FaultOfUnits : List ℕ → Kind → ℕ → Type 0
 FaultOfUnits file kind place =
     FaultIn file info_name (InfoFault (debug_info file) (debug_abbrev file)) kind place
     ⊎ (FaultIn file abbrev_name (FaultTables (debug_info file) (debug_abbrev file)) kind place
-    ⊎ FaultIn file rnglists_name (FaultContributions (debug_rnglists file)) kind place)
+    ⊎ FaultOfParts file kind place)
 
 -- FIFTH PASS: what values refer to (DWARF 5 section 7.5.5), first bases, expressions, address tables, and sets of address ranges
 
@@ -146,7 +147,7 @@ FaultAddresses file kind place = (units : List UnitRead) × AreUnitsOf file unit
 abbrev pub FaultOfLinks : List ℕ → Reach → Kind → ℕ → Type 0
 FaultOfLinks file reach kind place = FaultIn file info_name (FaultLinks file reach) kind place ⊎ (FaultIn file addr_name (FaultAddresses file) kind place ⊎ FaultIn file aranges_name (FaultAranges file) kind place)
 
--- SIXTH PASS: lists, and the slots that name them (DWARF 5 sections 2.17.3, 7.25 and 7.28)
+-- SIXTH PASS: lists, and the slots that name them (DWARF 5 sections 2.6.2, 2.17.3, 7.25, 7.28 and 7.29)
 
 -- what is read up to the places of lists has a fault
 abbrev pub OfLinkable : List ℕ → (Linkable → Kind → ℕ → Type 0) → Kind → ℕ → Type 0
@@ -154,7 +155,7 @@ OfLinkable file FaultOf kind place = (r : Linkable) × IsReadToLinks file r × F
 
 abbrev pub FaultOfLists : List ℕ → Reach → Kind → ℕ → Type 0
 FaultOfLists file reach kind place =
-    FaultIn file rnglists_name (OfLinkable file (λ r. FaultOfKind r reach Ranges)) kind place
+    ((of : ListKind) × FaultIn file (lists_name of) (OfLinkable file (λ r. FaultOfKind r reach of)) kind place)
     ⊎ FaultIn file info_name (OfLinkable file FaultOfUses) kind place
 
 -- THE PASSES
@@ -179,7 +180,7 @@ order_of OfLists = 6
 -- A pass has a fault of a kind at a place.
 abbrev pub FaultOfPass : Pass → List ℕ → Reach → Kind → ℕ → Type 0
 FaultOfPass OfFile file reach kind place = FaultOfFile file reach kind place
-FaultOfPass OfNames file reach kind place = FaultOfNames file reach kind place
+FaultOfPass OfNames file reach kind place = FaultOfNames file kind place
 FaultOfPass OfPrograms file reach kind place = FaultOfPrograms file kind place
 FaultOfPass OfUnits file reach kind place = FaultOfUnits file kind place
 FaultOfPass OfLinks file reach kind place = FaultOfLinks file reach kind place

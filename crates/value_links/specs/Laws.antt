@@ -1,38 +1,36 @@
 -- Laws of readings, meanings and faults.
-use Rattle.std.specs.Prelude.{◌≡◌, ◌≢◌, ◌≤◌, ◌<◌, ◌⊎◌, ℕ, List, length, true}
+use Rattle.std.specs.Prelude.{◌≡◌, ◌≤◌, ◌<◌, ◌+◌, ◌⊎◌, ℕ, List, length}
 use Rattle.std.specs.List.{All, sum_by}
 use Rattle.dw_base.specs.declared.fault.Kind.{Kind}
 use Rattle.dw_base.specs.declared.fault.Reach.{Reach}
-use Rattle.elf_sections.specs.Elf.{section_count}
 use Rattle.elf_sections.specs.Faults.{IsRead}
 use Rattle.line_machine.specs.Faults.{row_limit}
 use Rattle.line_write.specs.Faults.{total_limit}
 use Rattle.dw_base.specs.declared.fault.Span.{Span}
 use Rattle.spelled.specs.Spelled.{AreBytes}
-use Rattle.expr_ops.specs.Expressions.{Operation, IsExpression}
 use Rattle.form_codec.specs.Forms.{Meaning}
 use Rattle.form_codec.specs.Values.{bytes_in}
 use Rattle.abbrev_tables.specs.Tables.{Declared}
 use Rattle.entry_read.specs.Heads.{type_unit}
 use Rattle.entry_read.specs.Expressions.{IsExprAt}
-use Rattle.list_model.specs.declared.entry.ListKind.TheVariants.{Ranges}
+use Rattle.list_model.specs.declared.entry.ListKind.{ListKind}
 use Rattle.list_model.specs.Reading.{list_entry_limit}
 use Rattle.companions.specs.declared.set.ArangeSet.{ArangeSet}
 use Rattle.companions.specs.Aranges.{SetsTile}
-use Rattle.value_links.specs.Sections.{debug_aranges, debug_rnglists}
-use Rattle.value_links.specs.Reading.{ProgramRead, UnitRead, Linkable, Reading, declarations, unit_at, unit_starts, AreProgramsOf, AreUnitsOf}
+use Rattle.value_links.specs.Sections.{debug_aranges, debug_lists}
+use Rattle.value_links.specs.Reading.{ProgramRead, UnitRead, Linkable, Reading, of_kind, lists_of, declarations, unit_at, unit_starts, AreProgramsOf, AreUnitsOf}
 use Rattle.value_links.specs.Whole.{ArePartsOf, IsReadToLinks, AreRootsRead, IsReading}
-use Rattle.value_links.specs.Lists.{AreTold}
-use Rattle.value_links.specs.ListFaults.{entry_total}
+use Rattle.value_links.specs.Lists.{AreTold, AreWithinReach}
+use Rattle.value_links.specs.ListFaults.{list_total, entry_total, expression_bytes, expression_limit}
 use Rattle.value_links.specs.Values.{HasValueAt}
-use Rattle.value_links.specs.Operations.{LinkedOperation, LinksExpression}
+use Rattle.value_links.specs.Operations.{IsSomeExpression, LinkedOperation, LinksExpression}
 use Rattle.value_links.specs.Linked.{Linked, Links, IsLinked, IsTypeEntry}
 use Rattle.value_links.specs.Resolved.{Resolved, Resolves}
 use Rattle.value_links.specs.declared.link.Link.{Link}
 use Rattle.value_links.specs.Links.{HasLink}
 use Rattle.value_links.specs.Debug.{Debug, MeansDebug, Means}
 use Rattle.value_links.specs.LinkFaults.{FaultValue, FaultOperations, FaultInUnit}
-use Rattle.value_links.specs.Faults.{is_list_section, HasShortReference, FaultOfFile, FaultOfNames, FaultOfPrograms, FaultOfUnits, FaultOfLinks, FaultOfLists, Faulty, IsValid}
+use Rattle.value_links.specs.Faults.{HasUnbuiltColumn, FaultOfFile, FaultOfNames, FaultOfPrograms, FaultOfUnits, FaultOfLinks, FaultOfLists, Faulty, IsValid}
 
 -- A file is read in one way.
 abbrev pub OneReading : Type 0
@@ -62,7 +60,7 @@ OneMeaning =
 -- A value that stands there and is linked means something, where all is told of lists.
 abbrev pub LinkedMean : Type 0
 LinkedMean =
-    (file : List ℕ) (r : Reading) (u id number name : ℕ) (meaning : Meaning) (place : ℕ) (linked : Linked) → IsReading file r → AreTold r.links Ranges r.range_lists → u < length r.links.units →
+    (file : List ℕ) (r : Reading) (u id number name : ℕ) (meaning : Meaning) (place : ℕ) (linked : Linked) → IsReading file r → ((kind : ListKind) → AreTold r.links kind (lists_of r kind)) → u < length r.links.units →
     HasValueAt (unit_at r.links u) id number name meaning place → Links r.links u id name meaning linked → (v : Resolved) × Resolves r u id name meaning v
 
 -- A file means one thing.
@@ -73,10 +71,6 @@ OneDebug = (file : List ℕ) (a b : Debug) → Means file a → Means file b →
 abbrev pub LinkedHaveNoFault : Type 0
 LinkedHaveNoFault =
     (r : Linkable) (u id name : ℕ) (meaning : Meaning) (linked : Linked) (kind : Kind) → Links r u id name meaning linked → FaultValue r u id name meaning kind → ⊥
-
--- The bytes are an expression within the limits of a reach.
-abbrev pub IsSomeExpression : Reach → List ℕ → Type 0
-IsSomeExpression reach bytes = (operations : List Operation) × IsExpression reach operations bytes
 
 -- An expression within the limits whose operations name what they may has no fault either.
 abbrev pub LinkedExpressionsHaveNoFault : Type 0
@@ -90,11 +84,7 @@ LinkedOrFaulty =
 
 -- A valid file that is read means something, where all is told of lists.
 abbrev pub ValidFilesMean : Type 0
-ValidFilesMean = (file : List ℕ) (reach : Reach) (r : Reading) → IsReading file r → AreTold r.links Ranges r.range_lists → IsValid file reach → (debug : Debug) × MeansDebug file r debug
-
--- no section has location lists
-abbrev pub HasNoLists : List ℕ → Type 0
-HasNoLists file = (i : ℕ) → i < section_count file → is_list_section file i ≢ true
+ValidFilesMean = (file : List ℕ) (reach : Reach) (r : Reading) → IsReading file r → ((kind : ListKind) → AreTold r.links kind (lists_of r kind)) → IsValid file reach → (debug : Debug) × MeansDebug file r debug
 
 -- the rows of programs keep the limits of one program and of all
 pub record HaveFewRows (programs : List ProgramRead) : Type 0 where
@@ -103,7 +93,7 @@ pub record HaveFewRows (programs : List ProgramRead) : Type 0 where
 
 -- a declaration whose entries can be written
 abbrev pub IsBuilt : Declared → Type 0
-IsBuilt d = ¬ HasShortReference d
+IsBuilt d = ¬ HasUnbuiltColumn d
 
 -- all declarations that units name can be written
 abbrev pub AreBuilt : List UnitRead → Type 0
@@ -118,15 +108,16 @@ pub record AreLinked (r : Linkable) : Type 0 where
   pub values : (u id number name : ℕ) (meaning : Meaning) (place : ℕ) → u < length r.units → HasValueAt (unit_at r u) id number name meaning place → (linked : Linked) × Links r u id name meaning linked
   pub types : (u : ℕ) → u < length r.units → (unit_at r u).head.kind ≡ type_unit → (id : ℕ) × IsTypeEntry r u id
 
--- the lists that something names keep the limit of their entries
-abbrev pub HaveFewEntries : Reading → Reach → Type 0
-HaveFewEntries r reach = entry_total r.range_lists ≤ list_entry_limit reach
+-- the lists that something names keep the limits of their entries and of their expressions
+pub record AreListsWithin (r : Reading) (reach : Reach) : Type 0 where
+  pub entries : entry_total r.range_lists + entry_total r.location_lists ≤ list_entry_limit reach
+  pub bytes : list_total expression_bytes r.range_lists + list_total expression_bytes r.location_lists ≤ expression_limit reach
+  pub expressions : (kind : ListKind) → AreWithinReach r.links kind reach (lists_of r kind)
 
 -- the first two passes find the image of a file in order, the third its programs too, the fourth its units and contributions, and the
 -- fifth what values refer to, first bases, address tables and sets of address ranges
-pub record IsImageInOrder (file : List ℕ) (reach : Reach) : Type 0 where
-  pub image : IsRead file reach
-  pub names : HasNoLists file
+abbrev pub IsImageInOrder : List ℕ → Reach → Type 0
+IsImageInOrder file reach = IsRead file reach
 
 pub record AreProgramsInOrder (file : List ℕ) (reach : Reach) (r : Linkable) : Type 0 where
   pub before : IsImageInOrder file reach
@@ -137,7 +128,7 @@ pub record AreUnitsInOrder (file : List ℕ) (reach : Reach) (r : Linkable) : Ty
   pub before : AreProgramsInOrder file reach r
   pub units : AreUnitsOf file r.units
   pub built : AreBuilt r.units
-  pub ranges : ArePartsOf (debug_rnglists file) r.ranges
+  pub lists : (kind : ListKind) → ArePartsOf (debug_lists file kind) (of_kind r kind)
 
 pub record AreLinksInOrder (file : List ℕ) (reach : Reach) (r : Linkable) : Type 0 where
   pub before : AreUnitsInOrder file reach r
@@ -150,7 +141,7 @@ pub record AreLinksInOrder (file : List ℕ) (reach : Reach) (r : Linkable) : Ty
 -- A fault of a pass is one of the file, where the passes before it find all in order.
 pub record FirstFaultsDecide : Type 0 where
   pub file : (file : List ℕ) (reach : Reach) (kind : Kind) (place : ℕ) → FaultOfFile file reach kind place → Faulty file reach kind place
-  pub names : (file : List ℕ) (reach : Reach) (kind : Kind) (place : ℕ) → ((k : Kind) (p : ℕ) → FaultOfFile file reach k p → ⊥) → FaultOfNames file reach kind place → Faulty file reach kind place
+  pub names : (file : List ℕ) (reach : Reach) (kind : Kind) (place : ℕ) → ((k : Kind) (p : ℕ) → FaultOfFile file reach k p → ⊥) → FaultOfNames file kind place → Faulty file reach kind place
   pub programs : (file : List ℕ) (reach : Reach) (kind : Kind) (place : ℕ) → IsImageInOrder file reach → FaultOfPrograms file kind place → Faulty file reach kind place
   pub units : (file : List ℕ) (reach : Reach) (r : Linkable) (kind : Kind) (place : ℕ) → AreProgramsInOrder file reach r → FaultOfUnits file kind place → Faulty file reach kind place
   pub links : (file : List ℕ) (reach : Reach) (r : Linkable) (kind : Kind) (place : ℕ) → AreUnitsInOrder file reach r → FaultOfLinks file reach kind place → Faulty file reach kind place
@@ -159,4 +150,4 @@ pub record FirstFaultsDecide : Type 0 where
 -- A file of which all is read, that means something and keeps the limits is valid.
 abbrev pub MeaningFilesAreValid : Type 0
 MeaningFilesAreValid =
-    (file : List ℕ) (reach : Reach) (r : Reading) (debug : Debug) → AreUnitsInOrder file reach r.links → IsReading file r → MeansDebug file r debug → AreExpressionsWithin r.links reach → HaveFewEntries r reach → IsValid file reach
+    (file : List ℕ) (reach : Reach) (r : Reading) (debug : Debug) → AreUnitsInOrder file reach r.links → IsReading file r → MeansDebug file r debug → AreExpressionsWithin r.links reach → AreListsWithin r reach → IsValid file reach

@@ -35,7 +35,7 @@ IsTargetless r u (InSection n) = ¬ ((unit : ℕ) × (target : Target) × IsSect
 IsTargetless r u meaning = ⊥
 
 -- A section offset names nothing that its class allows: no line number program, no place of a list, no contribution to a section of
--- lists, no address table; no view numbers, since no section has them yet; or its attribute has no class.
+-- lists, no address table; no view numbers, which aren't read yet; or its attribute has no class.
 abbrev pub NamesNothing : Linkable → ℕ → ℕ → OffsetClass → ℕ → Type 0
 NamesNothing r u id LinePtr n = ¬ ((p : ℕ) × IsProgramAt r n p)
 NamesNothing r u id RngList n = ¬ IsListAt r Ranges n

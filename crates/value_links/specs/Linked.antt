@@ -69,8 +69,8 @@ IndexLinks r u kind i linked = (p : ℕ) × IsBaseOf r u kind p × (i < (part_at
 abbrev pub IsAddressesAt : Linkable → ℕ → Type 0
 IsAddressesAt r base = (table : AddrTable) × HasBase r.addresses base table
 
--- What a section offset in an entry of a unit refers to, by its class. No section has view numbers yet, so that an offset of these
--- refers to nothing, and neither does an attribute of no class: it isn't linked at all.
+-- What a section offset in an entry of a unit refers to, by its class. View numbers aren't read yet: a table that declares an offset of
+-- them is refused before. Neither such an offset nor one of an attribute of no class refers to anything.
 abbrev pub OffsetLinks : Linkable → ℕ → ℕ → OffsetClass → ℕ → Linked → Type 0
 OffsetLinks r u id LinePtr n linked = (p : ℕ) × IsProgramAt r n p × (linked ≡ Program p)
 OffsetLinks r u id RngList n linked = IsListAt r Ranges n × (linked ≡ ListAt Ranges n)

@@ -63,3 +63,8 @@ IsOpLinkOf (AnEntry unit id) link = link ≡ op_link.Entry unit id
 abbrev pub IsOpLinkFound : Linkable → ℕ → Op → Option OpLink → Type 0
 IsOpLinkFound r u op (Some link) = (target : OpTarget) × Names r u op.code op.a target × IsOpLinkOf target link
 IsOpLinkFound r u op None = (target : OpTarget) → Names r u op.code op.a target → ⊥
+
+-- What is answered of what names at most one thing: the link that tells this, or none exactly where nothing is named.
+abbrev pub IsNamedThing : (OpTarget → Type 0) → Option OpLink → Type 0
+IsNamedThing IsNamed (Some link) = (target : OpTarget) × IsNamed target × IsOpLinkOf target link
+IsNamedThing IsNamed None = (target : OpTarget) → IsNamed target → ⊥

@@ -1,6 +1,14 @@
 -- The lists of a file: which are named, by which units, in which contexts, and which are frozen (DWARF 5 sections 2.6.2, 2.17.3,
 -- 7.28 and 7.29).
-use Rattle.std.specs.Prelude.{◌≡◌, ◌≢◌, ◌<◌, ◌^◌, ◌⊎◌, ℕ, List, length, filter, Option, Some, None, not}
+use Rattle.std.specs.Prelude.{◌≡◌, ◌≢◌, ◌<◌, ◌^◌, ◌⊎◌, ℕ, List, [], length, filter, Option, Some, None, not, false}
+use Rattle.std.specs.List.{All, Contains}
+use Rattle.dw_base.specs.declared.fault.Reach.{Reach}
+use Rattle.dw_base.specs.declared.fault.Reach.TheVariants.{Wide}
+use Rattle.expr_ops.specs.declared.names.Named.{Named}
+use Rattle.expr_ops.specs.declared.names.Named.TheVariants.{BaseType, UnitEntry}
+use Rattle.expr_ops.specs.Expressions.{Operation, IsExpression}
+use Rattle.expr_ops.specs.Drafts.{is_generic}
+use Rattle.expr_ops.specs.Names.{named_by}
 use Rattle.list_model.specs.declared.contribution.Contribution.{Contribution}
 use Rattle.list_model.specs.declared.entry.ListKind.{ListKind}
 use Rattle.list_model.specs.declared.entry.ListKind.TheVariants.{Ranges, Locations}
@@ -8,8 +16,10 @@ use Rattle.list_model.specs.declared.entry.RawEntry.{RawEntry}
 use Rattle.list_model.specs.Entries.{Entry, AreSaid}
 use Rattle.list_model.specs.Items.{Bounds, Give, IsDead, sets_base}
 use Rattle.range_lists.specs.Ranges.{IsRangeList}
+use Rattle.loc_lists.specs.Locations.{IsLocationList, expressions_of}
 use Rattle.value_links.specs.Reading.{ListRead, Linkable, of_kind, part_at, list_at, context_at}
 use Rattle.value_links.specs.ListPlaces.{IsListPlace, SlotNames}
+use Rattle.value_links.specs.Operations.{IsSomeExpression, LinkedOperation, LinksExpression}
 use Rattle.value_links.specs.Linked.{Linked, IsLinked}
 use Rattle.value_links.specs.Linked.Linked.{ListAt, SlotAt}
 
@@ -48,6 +58,10 @@ abbrev pub IsOwner : Linkable → ListKind → ℕ → Option ℕ → Type 0
 IsOwner r kind at (Some u) = IsNamedIn r kind at u × ((earlier : ℕ) → earlier < u → ¬ IsNamedIn r kind at earlier)
 IsOwner r kind at None = IsUnowned r kind at
 
+-- entries of two units name it
+abbrev pub IsOfTwoUnits : Linkable → ListKind → ℕ → Type 0
+IsOfTwoUnits r kind at = (u : ℕ) × (v : ℕ) × (u ≢ v) × IsNamedIn r kind at u × IsNamedIn r kind at v
+
 -- FROZEN LISTS
 
 -- A list is shared where entries of units with different contexts name it.
@@ -80,10 +94,10 @@ IsFrozen r kind list = (entries : List Entry) × AreSaid kind list.raws entries 
 
 -- WHAT IS READ
 
--- what is read of a list of a kind at a place of a contribution; location lists aren't read yet
+-- what is read of a list of a kind at a place of a contribution
 abbrev pub IsListOf : ListKind → List ℕ → Contribution → ℕ → List RawEntry → Type 0
 IsListOf Ranges section part at raws = IsRangeList section part at raws
-IsListOf Locations section part at raws = ⊥
+IsListOf Locations section part at raws = IsLocationList section part at raws
 
 -- a list of a section: something names it, and it is read in the contribution in which it begins
 pub record IsListIn (r : Linkable) (kind : ListKind) (list : ListRead) : Type 0 where
@@ -91,17 +105,58 @@ pub record IsListIn (r : Linkable) (kind : ListKind) (list : ListRead) : Type 0 
   pub begins : IsListPlace (of_kind r kind) list.part list.at
   pub read : IsListOf kind (of_kind r kind).section (part_at (of_kind r kind) list.part) list.at list.raws
 
+-- the bytes of the expressions of a list's items, in their order; ranges have none
+abbrev pub expressions_in : ListKind → List ℕ → List RawEntry → List (List ℕ)
+expressions_in Ranges section raws = []
+expressions_in Locations section raws = expressions_of section raws
+
+abbrev pub expressions_at : Linkable → ListKind → ListRead → List (List ℕ)
+expressions_at r kind list = expressions_in kind (of_kind r kind).section list.raws
+
+-- The unit in which the references of the expressions count: that of the owner. A list that no entry names has none, and the number past
+-- the last unit stands for it.
+abbrev pub owner_unit : Linkable → Option ℕ → ℕ
+owner_unit r (Some u) = u
+owner_unit r None = length r.units
+
+-- what an operation names counts from the first byte of its unit; the generic type is no such thing
+abbrev pub CountsInUnit : Named → ℕ → ℕ → Type 0
+CountsInUnit BaseType code n = is_generic code n ≡ false
+CountsInUnit UnitEntry code n = Unit {0}
+CountsInUnit _ code n = ⊥
+
+-- an expression has such an operation
+pub record HasUnitOffset (bytes : List ℕ) : Type 0 where
+  pub operations : List Operation
+  pub spelled : IsExpression Wide operations bytes
+  pub one : Operation
+  pub among : Contains operations one
+  pub counts : CountsInUnit (named_by one.code) one.code one.a
+
+-- The operations of each expression of a list name what they may: what counts in a unit does so in the owner. A list that entries of two
+-- units name has none that do.
+pub record AreExpressionsRead (r : Linkable) (kind : ListKind) (list : ListRead) : Type 0 where
+  pub owner : Option ℕ
+  pub owned : IsOwner r kind list.at owner
+  pub linked : All (λ (bytes : List ℕ). (linked : List LinkedOperation) × LinksExpression r (owner_unit r owner) bytes linked) (expressions_at r kind list)
+  pub single : IsOfTwoUnits r kind list.at → All (λ (bytes : List ℕ). ¬ HasUnitOffset bytes) (expressions_at r kind list)
+
+-- the expressions of lists are within the limits of a reach
+abbrev pub AreWithinReach : Linkable → ListKind → Reach → List ListRead → Type 0
+AreWithinReach r kind reach lists = (k : ℕ) → k < length lists → All (IsSomeExpression reach) (expressions_at r kind (list_at lists k))
+
 -- the indexes of a list are looked up in the context of a unit
 abbrev pub AreLookedUp : Linkable → ListKind → ℕ → ListRead → Type 0
 AreLookedUp r kind u list = (entries : List Entry) × (bounds : List Bounds) × AreSaid kind list.raws entries × Give r.addresses (context_at r u) entries bounds
 
 -- Each list that something names, once, by rising place. The indexes of each are looked up in the context of every unit that names
--- it, and each slot names a list.
+-- it, its expressions are read, and each slot names a list.
 pub record AreListsOf (r : Linkable) (kind : ListKind) (lists : List ListRead) : Type 0 where
   pub rising : (j k : ℕ) → j < k → k < length lists → (list_at lists j).at < (list_at lists k).at
   pub each : (k : ℕ) → k < length lists → IsListIn r kind (list_at lists k)
   pub all : (at : ℕ) → IsNamed r kind at → (k : ℕ) × (k < length lists) × ((list_at lists k).at ≡ at)
   pub looked : (k u : ℕ) → k < length lists → IsNamedIn r kind (list_at lists k).at u → AreLookedUp r kind u (list_at lists k)
+  pub expressions : (k : ℕ) → k < length lists → AreExpressionsRead r kind (list_at lists k)
   pub slots : (p i : ℕ) → p < length (of_kind r kind).parts → i < (part_at (of_kind r kind) p).slots → (at : ℕ) × SlotNames (of_kind r kind) p i at
 
 -- What can be told of a list: the unit that owns it, and whether it is frozen.

@@ -1,8 +1,8 @@
 -- What the operations of expressions refer to (DWARF 5 sections 2.5.1.1, 2.5.1.3, 2.5.1.5 and 2.6.1.1).
 use Rattle.std.specs.Prelude.{◌≡◌, ◌<◌, ◌+◌, ◌⊎◌, ℕ, List, length, true, false, if◌then◌else◌}
 use Rattle.std.specs.List.{AllZip}
+use Rattle.dw_base.specs.declared.fault.Reach.{Reach}
 use Rattle.dw_base.specs.declared.fault.Reach.TheVariants.{Wide}
-use Rattle.expr_ops.specs.declared.op.Op.{Op}
 use Rattle.expr_ops.specs.declared.names.Named.{Named}
 use Rattle.expr_ops.specs.declared.names.Named.TheVariants.{Nothing, BaseType, UnitEntry, SectionEntry}
 use Rattle.expr_ops.specs.Expressions.{Operation, IsExpression}
@@ -50,6 +50,10 @@ Names r u code n target = LinksReference r u (named_by code) code n target
 pub record LinksOperation (r : Linkable) (u : ℕ) (o : Operation) (linked : LinkedOperation) : Type 0 where
   pub operation : linked.operation ≡ without_reference o
   pub target : Names r u o.code o.a linked.target
+
+-- the bytes are an expression within the limits of a reach
+abbrev pub IsSomeExpression : Reach → List ℕ → Type 0
+IsSomeExpression reach bytes = (operations : List Operation) × IsExpression reach operations bytes
 
 -- the bytes of an expression of the unit `u` are these operations
 abbrev pub LinksExpression : Linkable → ℕ → List ℕ → List LinkedOperation → Type 0

@@ -6,7 +6,7 @@ use Rattle.dw_base.specs.Refusals.{IsFaultOf}
 use Rattle.dw_base.specs.declared.fault.Reach.{Reach}
 use Rattle.dw_base.specs.declared.fault.Reach.TheVariants.{Wide}
 use Rattle.list_model.specs.declared.entry.ListKind.{ListKind}
-use Rattle.list_model.specs.declared.entry.ListKind.TheVariants.{Ranges}
+use Rattle.list_model.specs.declared.entry.ListKind.TheVariants.{Ranges, Locations}
 use Rattle.std.specs.List.{All}
 use Rattle.list_model.specs.declared.context.Context.{Context}
 use Rattle.list_model.specs.Addresses.{AreAllTables}
@@ -15,7 +15,7 @@ use Rattle.list_model.specs.Items.{HasTable}
 use Rattle.value_links.specs.declared.units.Units.{Units}
 use Rattle.value_links.specs.declared.parts.Parts.{Parts}
 use Rattle.value_links.specs.declared.list_places.Contributions.{Contributions}
-use Rattle.value_links.specs.Reading.{UnitRead, ListSection, Linkable, Reading, AreUnitsIn, line_heads}
+use Rattle.value_links.specs.Reading.{UnitRead, ListSection, Linkable, Reading, of_kind, lists_of, AreUnitsIn, line_heads}
 use Rattle.value_links.specs.ListPlaces.{IsBaseOf}
 use Rattle.value_links.specs.Lists.{AreTold}
 use Rattle.value_links.specs.Whole.{IsReadToLinks, IsReading}
@@ -55,13 +55,22 @@ pub record HaveBases (r : Linkable) (kind : ListKind) (bases : List (Option ℕ)
   pub count : length bases ≡ length r.units
   pub each : (u : ℕ) → u < length r.units → IsBaseFound r u kind (slice_index_or bases u None)
 
+-- the section of lists of a kind, and of each unit the contribution to it that its root names
+abbrev pub lists_in : Parts → ListKind → Contributions
+lists_in parts Ranges = parts.ranges
+lists_in parts Locations = parts.locations
+
+abbrev pub bases_in : Parts → ListKind → List (Option ℕ)
+bases_in parts Ranges = parts.range_bases.items
+bases_in parts Locations = parts.location_bases.items
+
 -- The contributions and the contexts are held so that each unit's number, each base and each address table can be looked up, whatever
 -- file they are of.
 pub record HoldsLists (parts : Parts) : Type 0 where
-  pub tiled : ContributionsTile parts.ranges.section.now parts.ranges.parts.items
-  pub few : length parts.ranges.parts.items < 2 ^ 32
-  pub bases : length parts.bases.items ≡ length parts.units.units.items
-  pub inside : All (λ (base : Option ℕ). IfSome base (λ p. p < length parts.ranges.parts.items)) parts.bases.items
+  pub tiled : (kind : ListKind) → ContributionsTile (lists_in parts kind).section.now (lists_in parts kind).parts.items
+  pub few : (kind : ListKind) → length (lists_in parts kind).parts.items < 2 ^ 32
+  pub bases : (kind : ListKind) → length (bases_in parts kind) ≡ length parts.units.units.items
+  pub inside : (kind : ListKind) → All (λ (base : Option ℕ). IfSome base (λ p. p < length (lists_in parts kind).parts.items)) (bases_in parts kind)
   pub contexts : length parts.contexts.items ≡ length parts.units.units.items
   pub operations : length parts.operations.items ≡ length parts.units.units.items
   pub stand : All (λ (context : Context). HasTable parts.addr.now context.table) parts.contexts.items
@@ -74,9 +83,9 @@ pub record HoldsParts (file : List ℕ) (r : Linkable) (parts : Parts) : Type 0 
   pub contexts : parts.contexts.items ≡ r.contexts
   pub addresses : parts.addr.now ≡ r.addresses
   pub tables : AreAllTables r.addresses parts.tables.items
-  pub ranges : section_held parts.ranges ≡ r.ranges
-  pub few_ranges : length parts.ranges.parts.items < 2 ^ 32
-  pub bases : HaveBases r Ranges parts.bases.items
+  pub lists : (kind : ListKind) → section_held (lists_in parts kind) ≡ of_kind r kind
+  pub few_parts : (kind : ListKind) → length (lists_in parts kind).parts.items < 2 ^ 32
+  pub bases : (kind : ListKind) → HaveBases r kind (bases_in parts kind)
   pub operations : HaveOperations Wide parts.units.units.items parts.operations.items
   pub few : length parts.programs.items < 2 ^ 32
 
@@ -86,4 +95,4 @@ LinkFault r reach kind place = (u : ℕ) × (u < length r.units) × FaultInUnit 
 
 -- A file of which all is read and told, and all values are linked, means something.
 abbrev pub LinkedFilesMean : Type 0
-LinkedFilesMean = (file : List ℕ) (r : Reading) → IsReading file r → AreTold r.links Ranges r.range_lists → AreLinked r.links → (debug : Debug) × MeansDebug file r debug
+LinkedFilesMean = (file : List ℕ) (r : Reading) → IsReading file r → ((kind : ListKind) → AreTold r.links kind (lists_of r kind)) → AreLinked r.links → (debug : Debug) × MeansDebug file r debug

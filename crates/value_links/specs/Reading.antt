@@ -38,13 +38,14 @@ pub record ListSection : Type 0 where
   pub parts : List Contribution
 
 -- What values refer to, up to the places of lists: line number programs and units, each in the order in which they stand, the bytes
--- of .debug_addr, of each unit the context of its lists, and the section of range lists.
+-- of .debug_addr, of each unit the context of its lists, and the sections of range lists and of location lists.
 pub record Linkable : Type 0 where
   pub programs : List ProgramRead
   pub units : List UnitRead
   pub addresses : List ℕ
   pub contexts : List Context
   pub ranges : ListSection
+  pub locations : ListSection
 
 -- a list: where it begins, the number of the contribution in which it does, and its entries
 pub record ListRead : Type 0 where
@@ -52,10 +53,11 @@ pub record ListRead : Type 0 where
   pub part : ℕ
   pub raws : List RawEntry
 
--- Then the range lists that something names, by rising place, and the sets of address ranges.
+-- Then the range lists and the location lists that something names, each by rising place, and the sets of address ranges.
 pub record Reading : Type 0 where
   pub links : Linkable
   pub range_lists : List ListRead
+  pub location_lists : List ListRead
   pub sets : List ArangeSet
 
 -- LINE NUMBER PROGRAMS
@@ -151,15 +153,15 @@ context_at r u = slice_index_or r.contexts u no_context
 
 -- LISTS
 
--- the section of lists of a kind; none has location lists yet
+-- the section of lists of a kind
 abbrev pub of_kind : Linkable → ListKind → ListSection
 of_kind r Ranges = r.ranges
-of_kind r Locations = record { section = []; parts = [] }
+of_kind r Locations = r.locations
 
 -- the lists of a kind
 abbrev pub lists_of : Reading → ListKind → List ListRead
 lists_of r Ranges = r.range_lists
-lists_of r Locations = []
+lists_of r Locations = r.location_lists
 
 -- the contribution with a number; past the end there is none, and an empty one stands for it
 abbrev pub part_at : ListSection → ℕ → Contribution

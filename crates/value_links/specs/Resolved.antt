@@ -1,6 +1,6 @@
--- What the values of attributes mean, with no place of the file left in them (DWARF 5 sections 2.3, 2.17.3 and 7.5.5).
+-- What the values of attributes mean, with no place of the file left in them (DWARF 5 sections 2.3, 2.6.2, 2.17.3 and 7.5.5).
 use Rattle.std.specs.Prelude.{◌≡◌, ℕ, List, Option, Some, None}
-use Rattle.std.specs.List.{All, Contains}
+use Rattle.std.specs.List.{All, AllZip, Contains}
 use Rattle.form_codec.specs.Forms.{Meaning}
 use Rattle.entry_arena.specs.declared.entry.Target.{Target}
 use Rattle.list_model.specs.declared.entry.ListKind.{ListKind}
@@ -10,8 +10,8 @@ use Rattle.value_links.specs.Reading.{ListRead, Linkable, Reading, lists_of, of_
 use Rattle.value_links.specs.ListPlaces.{SlotNames}
 use Rattle.value_links.specs.Linked.{Linked, Links}
 use Rattle.value_links.specs.Linked.Linked.{Itself as LinkItself, Operates as LinkOperates, Refers as LinkRefers, Program as LinkProgram, ListAt, SlotAt, BaseOf, Kept as LinkKept}
-use Rattle.value_links.specs.Operations.{LinkedOperation}
-use Rattle.value_links.specs.Lists.{IsOwner, IsFrozen}
+use Rattle.value_links.specs.Operations.{LinkedOperation, LinksExpression}
+use Rattle.value_links.specs.Lists.{IsOwner, IsFrozen, owner_unit, expressions_at}
 
 -- LISTS
 
@@ -20,9 +20,11 @@ pub data Content : Type 0 where
   Items : List Bounds → Content
   Entries : List Entry → Content
 
+-- and of each item, in their order, the operations of its expression; ranges have none
 pub record ListMeaning : Type 0 where
   pub kind : ListKind
   pub content : Content
+  pub expressions : List (List LinkedOperation)
 
 -- a list that belongs to a unit and isn't frozen means its items in the unit's context
 abbrev pub MeansItems : Linkable → Option ℕ → List Entry → List Bounds → Type 0
@@ -44,6 +46,7 @@ pub record MeansList (r : Reading) (kind : ListKind) (at : ℕ) (meaning : ListM
   pub said : AreSaid kind list.raws entries
   pub same : meaning.kind ≡ kind
   pub content : MeansContent r.links kind list owner entries meaning.content
+  pub expressions : AllZip (LinksExpression r.links (owner_unit r.links owner)) (expressions_at r.links kind list) meaning.expressions
 
 -- VALUES
 

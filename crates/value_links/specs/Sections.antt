@@ -4,6 +4,8 @@ use Rattle.std.specs.List.{position, range_with_len}
 use Rattle.elf_sections.specs.Elf.{section_count, offset_of, body_of}
 use Rattle.elf_sections.specs.Names.{name_of}
 use Rattle.elf_sections.specs.Sections.{IsFirstNamed, HasNone}
+use Rattle.list_model.specs.declared.entry.ListKind.{ListKind}
+use Rattle.list_model.specs.declared.entry.ListKind.TheVariants.{Ranges, Locations}
 
 -- the number of the first section with a name. No two sections of a valid file have the same debug name.
 abbrev pub section_named : List ℕ → List ℕ → Option ℕ
@@ -70,6 +72,17 @@ debug_rnglists file = body_named file rnglists_name
 
 abbrev pub loclists_name : List ℕ
 loclists_name = codes ".debug_loclists"
+
+abbrev pub debug_loclists : List ℕ → List ℕ
+debug_loclists file = body_named file loclists_name
+
+-- the section of lists of a kind
+abbrev pub lists_name : ListKind → List ℕ
+lists_name Ranges = rnglists_name
+lists_name Locations = loclists_name
+
+abbrev pub debug_lists : List ℕ → ListKind → List ℕ
+debug_lists file kind = body_named file (lists_name kind)
 
 -- a law: the section is found by its name exactly where one has it
 pub record FindsSections : Type 0 where

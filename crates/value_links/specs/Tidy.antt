@@ -1,4 +1,4 @@
--- What .debug_abbrev, .debug_info and .debug_rnglists hold of a file that is written anew for another, and that they hold nothing else.
+-- What .debug_abbrev, .debug_info, .debug_rnglists and .debug_loclists hold of a file that is written anew for another, and that they hold nothing else.
 use Rattle.std.specs.Prelude.{◌≡◌, ◌<◌, ℕ, List, [], ◌∷◌, length, map, slice_index}
 use Rattle.std.specs.List.{All}
 use Rattle.dw_base.specs.declared.fault.Reach.TheVariants.{Wide}
@@ -20,7 +20,7 @@ use Rattle.entry_read.specs.Expressions.{IsExprAt}
 use Rattle.entry_read.specs.Short.{StandsShort, EndsShort}
 use Rattle.value_links.specs.declared.units.NamedTable.{NamedTable}
 use Rattle.value_links.specs.Sections.{debug_abbrev}
-use Rattle.list_model.specs.declared.entry.ListKind.TheVariants.{Ranges}
+use Rattle.list_model.specs.declared.entry.ListKind.{ListKind}
 use Rattle.value_links.specs.Reading.{UnitRead, Linkable, Reading, declarations, unit_at}
 use Rattle.value_links.specs.TidyLists.{AreTidyLists}
 use Rattle.value_links.specs.World.{head_and_forest, table_at, AreTablesOf}
@@ -98,12 +98,12 @@ AreTidyExpressions r s = (u number : ℕ) (old : Span) → u < length r.units �
 
 -- THE FILE
 
--- the tables, the units, their expressions and the contributions of range lists of the written file hold nothing else
+-- the tables, the units, their expressions and the contributions of lists of the written file hold nothing else
 pub record AreTidy (section : List ℕ) (r s : Reading) : Type 0 where
   pub tables : AreTidyTables r.links s.links section
   pub units : All IsTidyUnit s.links.units
   pub expressions : AreTidyExpressions r.links s.links
-  pub ranges : AreTidyLists Ranges r s
+  pub lists : (kind : ListKind) → AreTidyLists kind r s
 
 abbrev pub IsTidy : List ℕ → List ℕ → Type 0
 IsTidy file written = OfReadings (AreTidy (debug_abbrev written)) file written

@@ -4,13 +4,13 @@ use Rattle.std.specs.List.{AllZip}
 use Rattle.form_codec.specs.Forms.Meaning.{SectionPlace}
 use Rattle.list_model.specs.declared.context.Context.{Context}
 use Rattle.list_model.specs.declared.tables.AddrTable.{AddrTable}
-use Rattle.list_model.specs.declared.entry.ListKind.TheVariants.{Ranges}
+use Rattle.list_model.specs.declared.entry.ListKind.{ListKind}
 use Rattle.list_model.specs.Addresses.{TablesFollow}
 use Rattle.list_model.specs.Contributions.{ContributionsTile}
 use Rattle.companions.specs.Aranges.{SetsTile}
-use Rattle.value_links.specs.Sections.{debug_addr, debug_aranges, debug_rnglists}
+use Rattle.value_links.specs.Sections.{debug_addr, debug_aranges, debug_lists}
 use Rattle.value_links.specs.Attributes.{addr_base}
-use Rattle.value_links.specs.Reading.{UnitRead, ListSection, Linkable, Reading, unit_starts, unit_among, AreProgramsOf, AreUnitsOf}
+use Rattle.value_links.specs.Reading.{UnitRead, ListSection, Linkable, Reading, of_kind, lists_of, unit_starts, unit_among, AreProgramsOf, AreUnitsOf}
 use Rattle.value_links.specs.Values.{HasValueAt, root_of}
 use Rattle.value_links.specs.Contexts.{IsContext}
 use Rattle.value_links.specs.Linked.{IsFirstLow, HasAddress}
@@ -31,7 +31,7 @@ pub record IsReadToLinks (file : List ℕ) (r : Linkable) : Type 0 where
   pub units : AreUnitsOf file r.units
   pub addresses : r.addresses ≡ debug_addr file
   pub contexts : AreContexts r.addresses r.units r.contexts
-  pub ranges : ArePartsOf (debug_rnglists file) r.ranges
+  pub lists : (kind : ListKind) → ArePartsOf (debug_lists file kind) (of_kind r kind)
 
 -- some entry of a unit has a DW_AT_addr_base that is a section offset
 abbrev pub HasAddrBase : List UnitRead → Type 0
@@ -55,5 +55,5 @@ pub record AreRootsRead (r : Linkable) : Type 0 where
 pub record IsReading (file : List ℕ) (r : Reading) : Type 0 where
   pub links : IsReadToLinks file r.links
   pub roots : AreRootsRead r.links
-  pub ranges : AreListsOf r.links Ranges r.range_lists
+  pub lists : (kind : ListKind) → AreListsOf r.links kind (lists_of r kind)
   pub sets : SetsTile (debug_aranges file) (unit_starts r.links.units) r.sets

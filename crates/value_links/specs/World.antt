@@ -11,20 +11,22 @@ use Rattle.list_model.specs.declared.entry.ListKind.{ListKind}
 use Rattle.list_model.specs.declared.entry.ListKind.TheVariants.{Ranges, Locations}
 use Rattle.list_model.specs.declared.item.Meaning.{Meaning}
 use Rattle.list_model.specs.declared.item.Meaning.TheVariants.{Live, Dead}
-use Rattle.range_lists.specs.Ranges.{IsMeaning}
+use Rattle.list_model.specs.declared.entry.RawEntry.{RawEntry}
+use Rattle.range_lists.specs.Ranges.{IsMeaning as SayRanges}
+use Rattle.loc_lists.specs.Locations.{IsMeaning as SayLocations}
 use Rattle.companions.specs.declared.set.ArangeSet.{ArangeSet}
 use Rattle.value_links.specs.declared.units.NamedTable.{NamedTable}
 use Rattle.value_links.specs.declared.lists.ListRead.{ListRead as HeldList}
-use Rattle.value_links.specs.Reading.{UnitRead, ListRead, Linkable, Reading, line_heads, unit_among, list_at, context_at}
-use Rattle.value_links.specs.Lists.{IsOwner, IsFrozen}
-use Rattle.value_links.specs.Sections.{debug_addr, debug_rnglists}
+use Rattle.value_links.specs.Reading.{UnitRead, ListRead, Linkable, Reading, of_kind, lists_of, line_heads, unit_among, list_at, context_at}
+use Rattle.value_links.specs.Lists.{IsOwner, IsFrozen, AreWithinReach}
+use Rattle.value_links.specs.Sections.{debug_addr, debug_lists}
 use Rattle.value_links.specs.Whole.{IsReading}
 use Rattle.value_links.specs.Debug.{Debug, MeansDebug}
 use Rattle.value_links.specs.Faults.{IsValid}
 
 -- the bytes of the file, the headers of its line number programs, its units, the operations of the expressions of each, the
--- abbreviation tables that units name, of each unit the number of its table and the context of its lists, the contributions of range lists, the range lists that something names, and
--- the sets of address ranges
+-- abbreviation tables that units name, of each unit the number of its table and the context of its lists, of range lists and of location
+-- lists the contributions and the lists that something names, and the sets of address ranges
 pub record World : Type 0 where
   pub image : List ℕ
   pub programs : List Head
@@ -33,8 +35,10 @@ pub record World : Type 0 where
   pub tables : List NamedTable
   pub table_of : List ℕ
   pub contexts : List Context
-  pub contributions : List Contribution
-  pub lists : List HeldList
+  pub range_parts : List Contribution
+  pub ranges : List HeldList
+  pub location_parts : List Contribution
+  pub locations : List HeldList
   pub sets : List ArangeSet
 
 -- the operations of the unit with a number; past the end there is none, and none stand for them
@@ -65,18 +69,23 @@ pub record AreTablesOf (units : List UnitRead) (tables : List NamedTable) (table
   pub rising : (i j : ℕ) → i < j → j < length tables → (table_at tables i).place < (table_at tables j).place
   pub named : (i : ℕ) → i < length tables → (u : ℕ) × (u < length units) × (slice_index table_of u ≡ i)
 
--- the contributions and the lists of a kind; no location lists are held yet
+-- the contributions and the lists of a kind
 abbrev pub contributions_held : World → ListKind → List Contribution
-contributions_held world Ranges = world.contributions
-contributions_held world Locations = []
+contributions_held world Ranges = world.range_parts
+contributions_held world Locations = world.location_parts
 
 abbrev pub lists_held : World → ListKind → List HeldList
-lists_held world Ranges = world.lists
-lists_held world Locations = []
+lists_held world Ranges = world.ranges
+lists_held world Locations = world.locations
+
+-- what a list of a kind says in a context
+abbrev pub IsMeaningOf : ListKind → List ℕ → Context → List RawEntry → Meaning → Type 0
+IsMeaningOf Ranges addresses context raws meaning = SayRanges addresses context raws meaning
+IsMeaningOf Locations addresses context raws meaning = SayLocations addresses context raws meaning
 
 -- a list that isn't frozen is held by its items in the context of its owner, and a frozen one as dead
 abbrev pub HoldsMeaning : Linkable → ListKind → ListRead → Option ℕ → Meaning → Type 0
-HoldsMeaning r kind list owner (Live items) = (¬ IsFrozen r kind list) × ((u : ℕ) × (owner ≡ Some u) × IsMeaning r.addresses (context_at r u) list.raws (Live items))
+HoldsMeaning r kind list owner (Live items) = (¬ IsFrozen r kind list) × ((u : ℕ) × (owner ≡ Some u) × IsMeaningOf kind r.addresses (context_at r u) list.raws (Live items))
 HoldsMeaning r kind list owner Dead = IsFrozen r kind list
 
 -- a list as it was read is held
@@ -100,9 +109,9 @@ pub record Holds (file : List ℕ) (world : World) (r : Reading) : Type 0 where
   pub tables : AreTablesOf r.links.units world.tables world.table_of
   pub contexts : world.contexts ≡ r.links.contexts
   pub addresses : r.links.addresses ≡ debug_addr file
-  pub ranges : r.links.ranges.section ≡ debug_rnglists file
-  pub contributions : world.contributions ≡ r.links.ranges.parts
-  pub lists : HoldLists r.links Ranges r.range_lists world.lists
+  pub sections : (kind : ListKind) → (of_kind r.links kind).section ≡ debug_lists file kind
+  pub contributions : (kind : ListKind) → contributions_held world kind ≡ (of_kind r.links kind).parts
+  pub lists : (kind : ListKind) → HoldLists r.links kind (lists_of r kind) (lists_held world kind)
   pub sets : world.sets ≡ r.sets
 
 -- The world is that of a valid file: all is read, what is read means something, and the world holds it.
@@ -111,6 +120,7 @@ pub record IsWorldOf (file : List ℕ) (reach : Reach) (world : World) : Type 0 
   pub read : IsReading file r
   pub holds : Holds file world r
   pub operations : HaveOperations reach world.units world.operations
+  pub within : (kind : ListKind) → AreWithinReach r.links kind reach (lists_of r kind)
   pub debug : Debug
   pub means : MeansDebug file r debug
   pub valid : IsValid file reach

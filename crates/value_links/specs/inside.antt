@@ -1,6 +1,7 @@
 -- What inner functions and proofs need, and no public clause says.
 pub mod Checks
 pub mod Links
+pub mod ListExpressions
 pub mod ListPlaces
 pub mod NamedLists
 pub mod Namings

@@ -9,8 +9,8 @@ pub fn sections_found()
 {}
 
 /// Laws: a file is read in one way: what its values refer to, which is its line number programs and their rows, its units with
-/// their tables, entries and values, the contexts of their lists, and its contributions of range lists; the range lists that
-/// something names; and its sets of address ranges.
+/// their tables, entries and values, the contexts of their lists, and its contributions of range lists and of location lists;
+/// the lists of both kinds that something names; and its sets of address ranges.
 pub fn one_reading()
     ensures links { OneLinkable }
     ensures reading { OneReading }
@@ -18,8 +18,8 @@ pub fn one_reading()
 
 /// Laws: the value of an attribute refers to one thing and means one thing. A place in .debug_info is that of one entry, or of one
 /// code 0 that ends the children of an entry, of one unit; a place in .debug_line that of one program; and a place in
-/// .debug_rnglists that of one list, whose owner is one. A value that is linked means something, where it is told of each list
-/// who owns it and whether it is frozen.
+/// .debug_rnglists or .debug_loclists that of one list, whose owner is one. A value that is linked means something, where it is
+/// told of each list who owns it and whether it is frozen.
 pub fn one_meaning()
     ensures linked { OneLinked }
     ensures meaning { OneMeaning }
@@ -52,8 +52,7 @@ pub fn first_faults_decide()
 {}
 
 /// Laws: a valid file that is read means something. And a file that is in order, of which all is read, that means something
-/// and keeps the limits is valid. So no fault stands beside a meaning, and none is missing where
-/// there is no meaning.
+/// and keeps the limits is valid. So no fault stands beside a meaning, and none is missing where there is no meaning.
 pub fn valid_files()
     ensures mean { ValidFilesMean }
     ensures whole { MeaningFilesAreValid }

@@ -11,6 +11,7 @@ mod link;
 #[cfg(test)]
 mod link_tests;
 mod list_bases;
+mod list_expressions;
 mod list_places;
 mod lists;
 mod namings;
@@ -34,7 +35,7 @@ pub use laws::{
 };
 pub use link::{Link, resolve};
 pub use list_places::Contributions;
-pub use lists::{ListRead, read_lists};
+pub use lists::ListRead;
 pub use operations::{OpLink, resolve_op};
 pub use parts::Parts;
 pub use units::{NamedTable, Units, read_units};

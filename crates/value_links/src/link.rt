@@ -1,25 +1,28 @@
 // What values refer to.
-ghost use Rattle.std.specs.Prelude.{◌≡◌, ◌≢◌, ◌≤◌, ◌<◌, ◌+◌, ◌^◌, ℕ, List, length, IfSome, MatchOption};
+ghost use Rattle.std.specs.Prelude.{◌≡◌, ◌≢◌, ◌≤◌, ◌<◌, ◌+◌, ◌^◌, ◌↔◌, ℕ, List, length, IfSome, MatchOption, IsTrue};
 ghost use Rattle.form_codec.specs.Values.{meant_in};
 ghost use Rattle.entry_arena.specs.Order.{IsInOrder};
 ghost use Rattle.value_links.specs.Attributes.{offset_class};
 ghost use Rattle.value_links.specs.Reading.{Linkable, unit_at};
-ghost use Rattle.value_links.specs.Attributes.OffsetClass.{LinePtr, RngList, RngListsPtr, AddrPtr};
+ghost use Rattle.value_links.specs.Attributes.OffsetClass.{LinePtr, RngList, LocList, AddrPtr};
 ghost use Rattle.value_links.specs.Linked.{OffsetLinks, IndexLinks};
 ghost use Rattle.value_links.specs.Links.{held_at, IsFoundFor, IsLinkFound};
 ghost use Rattle.value_links.specs.inside.Links.{program_among, IsLastFrom, IsTargetFound, IsSectionTargetFound, AreProgramsApart, AreUnitsApart};
 ghost use Rattle.value_links.specs.inside.Checks.{IsNoExpr};
 ghost use Rattle.value_links.specs.inside.ListPlaces.{AreContributions};
-ghost use Rattle.list_model.specs.declared.entry.ListKind.TheVariants.{Ranges};
-ghost use Rattle.std.specs.List.{All};
-ghost use Rattle.value_links.specs.Parts.{HoldsParts, HoldsLists};
+ghost use Rattle.list_model.specs.declared.entry.ListKind.{ListKind as AnyKind};
+ghost use Rattle.value_links.specs.Parts.{HoldsParts, HoldsLists, lists_in};
+ghost use Rattle.value_links.specs.inside.Namings.{class_of};
+ghost use Rattle.value_links.specs.inside.Links.{base_class};
 
 use crate::list_places::{holder_of, part_with_offsets};
 use crate::parts::Parts;
 use crate::units::Units;
 use dw_base::constants::{
-    DW_AT_ADDR_BASE, DW_AT_MACROS, DW_AT_RANGES, DW_AT_RNGLISTS_BASE, DW_AT_START_SCOPE,
-    DW_AT_STMT_LIST, DW_AT_STR_OFFSETS_BASE,
+    DW_AT_ADDR_BASE, DW_AT_DATA_MEMBER_LOCATION, DW_AT_FRAME_BASE, DW_AT_LOCATION,
+    DW_AT_LOCLISTS_BASE, DW_AT_MACROS, DW_AT_RANGES, DW_AT_RETURN_ADDR, DW_AT_RNGLISTS_BASE,
+    DW_AT_SEGMENT, DW_AT_START_SCOPE, DW_AT_STATIC_LINK, DW_AT_STMT_LIST, DW_AT_STR_OFFSETS_BASE,
+    DW_AT_STRING_LENGTH, DW_AT_USE_LOCATION, DW_AT_VTABLE_ELEM_LOCATION,
 };
 use entry_arena::Target;
 use entry_read::Unit;
@@ -113,22 +116,47 @@ fn lines_at(parts: &Parts<'_>, place: u64) -> Option<Link>
     Some(Link::Lines(program))
 }
 
-// The range list that can begin at a place.
-fn list_at(parts: &Parts<'_>, place: u64) -> Option<Link>
-    requires held { AreContributions parts.now.ranges }
-    ensures { (file : List ℕ) (r : Linkable) (u id : ℕ) → HoldsParts file r parts.now → IsFoundFor (OffsetLinks r u id RngList place) result }
+// The list of a kind that can begin at a place.
+fn list_at(parts: &Parts<'_>, kind: ListKind, place: u64) -> Option<Link>
+    requires held { AreContributions (lists_in parts.now kind) }
+    ensures { (file : List ℕ) (r : Linkable) (u id : ℕ) → HoldsParts file r parts.now → IsFoundFor (OffsetLinks r u id (class_of kind) place) result }
 {
-    holder_of(&parts.ranges, place)?;
-    Some(Link::List(ListKind::Ranges, place))
+    holder_of(parts.lists(kind), place)?;
+    Some(Link::List(kind, place))
 }
 
-// The contribution of range lists whose offsets begin at a place.
-fn base_at(parts: &Parts<'_>, place: u64) -> Option<Link>
-    requires held { AreContributions parts.now.ranges }
-    ensures { (file : List ℕ) (r : Linkable) (u id : ℕ) → HoldsParts file r parts.now → IsFoundFor (OffsetLinks r u id RngListsPtr place) result }
+// The contribution to a section of lists of a kind whose offsets begin at a place.
+fn base_at(parts: &Parts<'_>, kind: ListKind, place: u64) -> Option<Link>
+    requires held { AreContributions (lists_in parts.now kind) }
+    ensures { (file : List ℕ) (r : Linkable) (u id : ℕ) → HoldsParts file r parts.now → IsFoundFor (OffsetLinks r u id (base_class kind) place) result }
 {
-    let part = part_with_offsets(&parts.ranges, place)?;
-    Some(Link::Base(ListKind::Ranges, part))
+    let part = part_with_offsets(parts.lists(kind), place)?;
+    Some(Link::Base(kind, part))
+}
+
+// Whether the section offsets of an attribute with a name are those of range lists.
+pub(crate) fn is_of_ranges(name: u64) -> bool
+    ensures { IsTrue result ↔ (offset_class name ≡ RngList) }
+{
+    matches!(name, DW_AT_RANGES | DW_AT_START_SCOPE)
+}
+
+// Whether they are those of location lists.
+pub(crate) fn is_of_locations(name: u64) -> bool
+    ensures { IsTrue result ↔ (offset_class name ≡ LocList) }
+{
+    matches!(
+        name,
+        DW_AT_LOCATION
+            | DW_AT_STRING_LENGTH
+            | DW_AT_RETURN_ADDR
+            | DW_AT_DATA_MEMBER_LOCATION
+            | DW_AT_FRAME_BASE
+            | DW_AT_SEGMENT
+            | DW_AT_STATIC_LINK
+            | DW_AT_USE_LOCATION
+            | DW_AT_VTABLE_ELEM_LOCATION
+    )
 }
 
 // The place itself, where addresses of an address table begin there.
@@ -139,40 +167,44 @@ fn addresses_at(parts: &Parts<'_>, place: u64) -> Option<Link>
     Some(Link::Kept(place))
 }
 
-// What a section offset refers to, which is the value of an attribute of this name. No section of location lists is read yet.
+// What a section offset refers to, which is the value of an attribute of this name. View numbers aren't read yet.
 fn section_place(parts: &Parts<'_>, name: u64, place: u64) -> Option<Link>
-    requires held { AreContributions parts.now.ranges }
+    requires held { (kind : AnyKind) → AreContributions (lists_in parts.now kind) }
     ensures { (file : List ℕ) (r : Linkable) (u id : ℕ) → HoldsParts file r parts.now → IsFoundFor (OffsetLinks r u id (offset_class name) place) result }
 {
+    if is_of_ranges(name) {
+        return list_at(parts, ListKind::Ranges, place);
+    }
+    if is_of_locations(name) {
+        return list_at(parts, ListKind::Locations, place);
+    }
     match name {
         DW_AT_STMT_LIST => lines_at(parts, place),
-        DW_AT_RANGES | DW_AT_START_SCOPE => list_at(parts, place),
-        DW_AT_RNGLISTS_BASE => base_at(parts, place),
+        DW_AT_RNGLISTS_BASE => base_at(parts, ListKind::Ranges, place),
+        DW_AT_LOCLISTS_BASE => base_at(parts, ListKind::Locations, place),
         DW_AT_ADDR_BASE => addresses_at(parts, place),
         DW_AT_STR_OFFSETS_BASE | DW_AT_MACROS => Some(Link::Kept(place)),
         _ => None,
     }
 }
 
-// The slot that an index of a range list counts, in the contribution that the root of the unit with a number names.
-fn range_slot(parts: &Parts<'_>, unit: u32, index: u64) -> Option<Link>
-    requires held { AreContributions parts.now.ranges }
+// The slot that an index of a list of a kind counts, in the contribution that the root of the unit with a number names.
+fn slot_at(parts: &Parts<'_>, kind: ListKind, unit: u32, index: u64) -> Option<Link>
+    requires lists { HoldsLists parts.now }
     requires unit { unit < length parts.now.units.units.items }
-    requires bases { length parts.now.bases.items ≡ length parts.now.units.units.items }
-    requires inside { All (λ base. IfSome base (λ p. p < length parts.now.ranges.parts.items)) parts.now.bases.items }
-    ensures { (file : List ℕ) (r : Linkable) → HoldsParts file r parts.now → IsFoundFor (IndexLinks r unit Ranges index) result }
+    ensures { (file : List ℕ) (r : Linkable) → HoldsParts file r parts.now → IsFoundFor (IndexLinks r unit kind index) result }
 {
-    let part = parts.bases[unit as usize]?;
+    let part = parts.bases(kind)[unit as usize]?;
     let slot = narrow(index)?;
-    if slot < parts.ranges.parts[part as usize].slots {
-        Some(Link::Slot(ListKind::Ranges, part, slot))
+    if slot < parts.lists(kind).parts[part as usize].slots {
+        Some(Link::Slot(kind, part, slot))
     } else {
         None
     }
 }
 
 /// What a value refers to that stands in the unit with this number, counted from 0, as the value of an attribute of this name
-/// (DWARF 5 sections 7.5.4 and 7.5.5), or None exactly where it names nothing that it may name. An index of a range list refers to
+/// (DWARF 5 sections 7.5.4 and 7.5.5), or None exactly where it names nothing that it may name. An index of a list refers to
 /// its slot, whatever the slot tells. The value is no expression: the operations of one name things themselves. It takes no memory.
 pub fn resolve(parts: &Parts<'_>, unit: u32, name: u64, value: &Value) -> Option<Link>
     requires unit { unit < length parts.now.units.units.items }
@@ -187,8 +219,8 @@ pub fn resolve(parts: &Parts<'_>, unit: u32, name: u64, value: &Value) -> Option
         }
         Value::SectionRef(place) => section_target(&parts.units.units, place),
         Value::Offset(place) => section_place(parts, name, place),
-        Value::RangeIndex(index) => range_slot(parts, unit, index),
-        Value::LocIndex(_) => None,
+        Value::RangeIndex(index) => slot_at(parts, ListKind::Ranges, unit, index),
+        Value::LocIndex(index) => slot_at(parts, ListKind::Locations, unit, index),
         _ => Some(Link::Plain),
     }
 }

@@ -51,6 +51,9 @@ const RANGES: [u8; 30] = [
     13, 0, 0, 0, 5, 0, 8, 0, 1, 0, 0, 0, 4, 0, 0, 0, 0, 9, 0, 0, 0, 5, 0, 8, 0, 0, 0, 0, 0, 0,
 ];
 
+// A contribution of location lists with one slot at 12 and a list at 16.
+const LOCATIONS: [u8; 17] = [13, 0, 0, 0, 5, 0, 8, 0, 1, 0, 0, 0, 4, 0, 0, 0, 0];
+
 // An address table of one address, which stands at 8.
 const ADDRESSES: [u8; 16] = [12, 0, 0, 0, 5, 0, 8, 0, 0, 0x10, 0, 0, 0, 0, 0, 0];
 
@@ -76,18 +79,15 @@ fn programs(alloc: Global) -> Result<Vec<Head>, Fail> {
     Ok(heads)
 }
 
-// The contributions above.
-fn ranges(alloc: Global) -> Result<Contributions<'static>, Fail>
+// The contributions to a section, at most two.
+fn contributions_to(alloc: Global, section: &[u8]) -> Result<Contributions<'_>, Fail>
     ensures { IfOk result AreContributions }
 {
-    let parts = contributions(alloc, &RANGES, 0).ok().ok_or("refused")?;
+    let parts = contributions(alloc, section, 0).ok().ok_or("refused")?;
     if parts.len() > 2 {
         Err("more contributions")?;
     }
-    Ok(Contributions {
-        section: &RANGES,
-        parts,
-    })
+    Ok(Contributions { section, parts })
 }
 
 // The operations of the expressions of units.
@@ -120,8 +120,14 @@ fn read<'a>(alloc: Global, info: &'a [u8]) -> Result<Parts<'a>, Fail>
     let contexts = contexts_of(alloc, &ADDRESSES, &tables, &units)
         .ok()
         .ok_or("no memory")?;
-    let ranges = ranges(alloc)?;
-    let bases = bases_of(alloc, &ranges, &units).ok().ok_or("no memory")?;
+    let ranges = contributions_to(alloc, &RANGES)?;
+    let locations = contributions_to(alloc, &LOCATIONS)?;
+    let range_bases = bases_of(alloc, ListKind::Ranges, &ranges, &units)
+        .ok()
+        .ok_or("no memory")?;
+    let location_bases = bases_of(alloc, ListKind::Locations, &locations, &units)
+        .ok()
+        .ok_or("no memory")?;
     let operations = operations_of(alloc, &units, info)?;
     Ok(Parts {
         programs: programs(alloc)?,
@@ -130,8 +136,10 @@ fn read<'a>(alloc: Global, info: &'a [u8]) -> Result<Parts<'a>, Fail>
         addr: &ADDRESSES,
         tables,
         ranges,
+        locations,
         operations,
-        bases,
+        range_bases,
+        location_bases,
     })
 }
 
@@ -220,7 +228,7 @@ fn links_of_values(rt: HostRuntime) -> Result<(), Fail> {
     Ok(())
 }
 
-// The same of values that name range lists.
+// The same of values that name lists.
 #[test]
 fn links_to_lists(rt: HostRuntime) -> Result<(), Fail> {
     let alloc = rt.alloc();
@@ -238,6 +246,20 @@ fn links_to_lists(rt: HostRuntime) -> Result<(), Fail> {
         (2, 0x55, Value::RangeIndex(1), None),
         (2, 0x55, Value::RangeIndex(0x1_0000_0000), None),
         (0, 0x55, Value::RangeIndex(0), None),
+        (
+            0,
+            0x02,
+            Value::Offset(16),
+            Some(Link::List(ListKind::Locations, 16)),
+        ),
+        (0, 0x02, Value::Offset(17), None),
+        (
+            0,
+            0x8c,
+            Value::Offset(12),
+            Some(Link::Base(ListKind::Locations, 0)),
+        ),
+        (2, 0x02, Value::LocIndex(0), None),
     ];
     for (unit, name, value, link) in rows.iter() {
         assert_eq!(rt; link_of(&parts, *unit, *name, value)?, *link);
@@ -325,7 +347,7 @@ fn linked_units(rt: HostRuntime) -> Result<(), Fail> {
     assert_eq!(rt; fault_of(alloc, &UNITS)?, None);
     // the type is the root
     assert_eq!(rt; fault_of(alloc, &type_unit(24))?, None);
-    let rows: [&[u8]; 6] = [
+    let rows: [&[u8]; 8] = [
         // DW_OP_lit0; DW_OP_convert to the generic type; and DW_OP_call4, which names the entry itself
         &[1, 4, 1, 0x30, 0],
         &[1, 4, 2, 0xa8, 0, 0],
@@ -336,6 +358,9 @@ fn linked_units(rt: HostRuntime) -> Result<(), Fail> {
         &[10, 8, 0, 0, 0, 0],
         // the list of the second contribution
         &[11, 29, 0, 0, 0],
+        // a location list by its place, and one by its index
+        &[8, 16, 0, 0, 0],
+        &[6, 12, 0, 0, 0, 5, 0, 0],
     ];
     for entries in rows.iter() {
         assert_eq!(rt; fault_in(alloc, entries)?, None);
@@ -347,7 +372,7 @@ fn linked_units(rt: HostRuntime) -> Result<(), Fail> {
 #[test]
 fn faulty_links(rt: HostRuntime) -> Result<(), Fail> {
     let alloc = rt.alloc();
-    let rows: [(&[u8], Fault); 8] = [
+    let rows: [(&[u8], Fault); 9] = [
         // a reference to the byte behind the entry's code
         (&[1, 2, 14, 0, 0, 0, 0], fault(Kind::Target, 14)),
         // a reference to the header of a unit
@@ -357,9 +382,10 @@ fn faulty_links(rt: HostRuntime) -> Result<(), Fail> {
         (&[1, 4, 2, 0xa8, 14, 0], fault(Kind::Target, 16)),
         (&[1, 4, 4, 0x30, 0xa4, 0, 0, 0], fault(Kind::Target, 17)),
         (&[1, 4, 4, 0xa5, 0x80, 1, 19, 0], fault(Kind::Target, 18)),
-        // the number of a location list whose root gives no base, and a base itself
+        // the index of a location list whose root gives no base, a base of no contribution, and an index past the slots
         (&[1, 5, 0, 0], fault(Kind::NoBase, 14)),
-        (&[6, 12, 0, 0, 0, 5, 0, 0], fault(Kind::Pointer, 13)),
+        (&[6, 16, 0, 0, 0, 5, 0, 0], fault(Kind::Pointer, 13)),
+        (&[6, 12, 0, 0, 0, 5, 1, 0], fault(Kind::Pointer, 18)),
         // no program begins there
         (&[7, 31, 0, 0, 0], fault(Kind::Pointer, 13)),
     ];

@@ -6,10 +6,10 @@ ghost use Rattle.expr_ops.specs.Drafts.{has_reference as is_reference, is_generi
 ghost use Rattle.entry_read.specs.Expressions.{IsExprAt};
 ghost use Rattle.value_links.specs.Reading.{Linkable};
 ghost use Rattle.value_links.specs.Operations.{NamesUnitEntry, NamesSectionEntry, NamesType};
-ghost use Rattle.value_links.specs.Links.{held_at, IsOpLinkFound};
+ghost use Rattle.value_links.specs.Links.{held_at, IsOpLinkFound, IsNamedThing};
 ghost use Rattle.value_links.specs.World.{HaveOperations};
 ghost use Rattle.value_links.specs.Parts.{AreUnitsHeld, HoldsLists, HoldsParts};
-ghost use Rattle.value_links.specs.inside.Links.{entry_link, IsNamedThing};
+ghost use Rattle.value_links.specs.inside.Links.{entry_link};
 ghost use Rattle.value_links.specs.inside.Checks.{AreSomeUnits, InEach, IsAstray, IsExprLinked, IsUnitFault, IsSomeExpressionFault};
 
 use crate::link::{Link, local_target, section_target, unit_of};
@@ -55,7 +55,7 @@ fn unit_entry(parts: &Parts<'_>, unit: u32, offset: u64) -> Option<OpLink>
 }
 
 // The entry of any unit that stands at a place of .debug_info.
-fn section_entry(parts: &Parts<'_>, place: u64) -> Option<OpLink>
+pub(crate) fn section_entry(parts: &Parts<'_>, place: u64) -> Option<OpLink>
     ensures { InEach parts.now (λ r. IsNamedThing (NamesSectionEntry r place) result) }
 {
     let link = section_target(&parts.units.units, place)?;
@@ -66,7 +66,7 @@ fn section_entry(parts: &Parts<'_>, place: u64) -> Option<OpLink>
 }
 
 // Whether the reference of an operation that names a base type is the 0 of convert and reinterpret.
-fn is_generic(code: u8, offset: u64) -> bool
+pub(crate) fn is_generic(code: u8, offset: u64) -> bool
     ensures { result ≡ is_generic_type code offset }
 {
     code >= DW_OP_CONVERT && offset == 0
@@ -100,7 +100,7 @@ pub fn resolve_op(parts: &Parts<'_>, unit: u32, op: &Op) -> Option<OpLink>
 
 // Whether an operation in an expression of the unit with this number names nothing, though it is to name something. Then it has a
 // reference.
-fn is_astray(parts: &Parts<'_>, unit: u32, op: &Op) -> bool
+pub(crate) fn is_astray(parts: &Parts<'_>, unit: u32, op: &Op) -> bool
     requires unit { unit < length parts.now.units.units.items }
     ensures astray { InEach parts.now (λ r. IsAstray r unit op.now result) }
     ensures reference { IsTrue result → is_reference op.now.code ≡ true }

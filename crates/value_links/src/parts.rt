@@ -1,11 +1,14 @@
 // What is read of a file before its values are looked up.
+ghost use Rattle.std.specs.Prelude.{◌≡◌};
+ghost use Rattle.value_links.specs.Parts.{lists_in, bases_in};
+
 use crate::list_places::Contributions;
 use crate::units::Units;
 use entry_arena::Operations;
 use line_machine::Head;
-use list_model::{AddrTable, Context};
+use list_model::{AddrTable, Context, ListKind};
 
-/// What the values of a file refer to. What is read of a further section is a field more.
+/// What the values of a file refer to.
 #[derive(Drop)]
 pub struct Parts<'a> {
     /// The headers of the line number programs of .debug_line, in their order.
@@ -20,8 +23,34 @@ pub struct Parts<'a> {
     pub tables: Vec<AddrTable>,
     /// The section of range lists.
     pub ranges: Contributions<'a>,
+    /// The section of location lists.
+    pub locations: Contributions<'a>,
     /// Of each unit the operations of its expressions.
     pub operations: Vec<Operations>,
     /// Of each unit the number of the contribution that its root names for the indexes of range lists.
-    pub bases: Vec<Option<u32>>,
+    pub range_bases: Vec<Option<u32>>,
+    /// The same for the indexes of location lists.
+    pub location_bases: Vec<Option<u32>>,
+}
+
+impl<'a> Parts<'a> {
+    /// The section of lists of a kind.
+    pub(crate) fn lists(&self, kind: ListKind) -> &Contributions<'a>
+        ensures { result.now ≡ lists_in self.now kind }
+    {
+        match kind {
+            ListKind::Ranges => &self.ranges,
+            ListKind::Locations => &self.locations,
+        }
+    }
+
+    /// Of each unit the number of the contribution that its root names for the indexes of lists of a kind.
+    pub(crate) fn bases(&self, kind: ListKind) -> &[Option<u32>]
+        ensures { result.now ≡ bases_in self.now kind }
+    {
+        match kind {
+            ListKind::Ranges => &self.range_bases,
+            ListKind::Locations => &self.location_bases,
+        }
+    }
 }

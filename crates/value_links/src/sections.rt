@@ -1,10 +1,8 @@
 // The debug sections of a file, found by their names.
-ghost use Rattle.std.specs.Prelude.{◌≡◌, ◌≤◌, ◌<◌, ◌+◌, ◌^◌, length, slice_range, IfSome, MatchOption, bytes_eq};
+ghost use Rattle.std.specs.Prelude.{◌≡◌, ◌≤◌, ◌<◌, ◌+◌, ◌^◌, length, slice_range};
 ghost use Rattle.dw_base.specs.declared.fault.Reach.TheVariants.{Wide};
-ghost use Rattle.elf_sections.specs.Faults.{SomeSection, IsRead};
-ghost use Rattle.value_links.specs.Sections.{body_named, offset_named, loclists_name};
-ghost use Rattle.value_links.specs.Faults.{is_list_section};
-ghost use Rattle.value_links.specs.Laws.{HasNoLists};
+ghost use Rattle.elf_sections.specs.Faults.{IsRead};
+ghost use Rattle.value_links.specs.Sections.{body_named, offset_named};
 
 use dw_base::Span;
 use elf_sections::Image;
@@ -43,25 +41,4 @@ pub(crate) fn debug_section<'a>(file: &'a [u8], image: &Image<'_>, name: &[u8]) 
         bytes: bytes_in(file, image.section(number).body),
         origin: image.offset(number),
     }
-}
-
-// Whether a section of this name holds location lists.
-fn is_lists(name: &[u8]) -> bool
-    ensures { result ≡ bytes_eq name.now loclists_name }
-{
-    name == b".debug_loclists".as_slice()
-}
-
-/// The file offset of the first section that holds location lists.
-pub(crate) fn list_section(image: &Image<'_>) -> Option<u64>
-    requires { IsRead image.now Wide }
-    ensures place { MatchOption result (HasNoLists image.now) (λ place. SomeSection image.now (is_list_section image.now) place) }
-    ensures fits { IfSome result (λ place. place < 2 ^ 64) }
-{
-    for number in 0..image.count() {
-        if is_lists(image.name(number)) {
-            return Some(image.offset(number));
-        }
-    }
-    None
 }

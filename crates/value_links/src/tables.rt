@@ -7,13 +7,13 @@ ghost use Rattle.form_codec.specs.declared.form.Form.TheVariants.{Ref1, Ref2};
 ghost use Rattle.abbrev_tables.specs.declared.decl.Spec.{Spec as AnyColumn};
 ghost use Rattle.abbrev_tables.specs.Listings.{decl_at, declared_in};
 ghost use Rattle.entry_read.specs.Units.{declarations_of, IsTable};
-ghost use Rattle.value_links.specs.Faults.{HasShortReference, FaultRest};
+ghost use Rattle.value_links.specs.Faults.{IsUnbuiltColumn, HasUnbuiltColumn, FaultRest};
 ghost use Rattle.value_links.specs.Laws.{IsBuilt};
 ghost use Rattle.value_links.specs.inside.Tabled.{AreTablePlaces, AreNumbers, IsNamed, places_of, named_places};
 
 use crate::units::NamedTable;
 use abbrev_tables::{Spec, Table, listings};
-use dw_base::constants::{DW_FORM_REF1, DW_FORM_REF2};
+use dw_base::constants::{DW_AT_GNU_LOCVIEWS, DW_FORM_REF1, DW_FORM_REF2, DW_FORM_SEC_OFFSET};
 use dw_base::{Fault, Kind, NoMemory, Refusal};
 use entry_read::UnitHead;
 use std::alloc::Global;
@@ -36,20 +36,31 @@ pub(crate) fn table_places(alloc: Global, heads: &[UnitHead]) -> Result<Vec<u64>
     Ok(places)
 }
 
-// Whether a column has one of the forms that can't be written yet.
-fn has_short_reference(columns: &[Spec]) -> bool
-    ensures { IsTrue result ↔ ((column : AnyColumn) × Contains columns.now column × ((column.form ≡ code_of Ref1) ⊎ (column.form ≡ code_of Ref2))) }
+// Whether a column is one that can't be written yet.
+fn is_unbuilt(column: &Spec) -> bool
+    ensures { IsTrue result ↔ IsUnbuiltColumn column.now }
 {
-    columns.iter().any(|column| column.form == DW_FORM_REF1 || column.form == DW_FORM_REF2)
+    match column.form {
+        DW_FORM_REF1 | DW_FORM_REF2 => true,
+        DW_FORM_SEC_OFFSET => column.name == DW_AT_GNU_LOCVIEWS,
+        _ => false,
+    }
+}
+
+// Whether one of the columns is.
+fn has_unbuilt(columns: &[Spec]) -> bool
+    ensures { IsTrue result ↔ ((column : AnyColumn) × Contains columns.now column × IsUnbuiltColumn column) }
+{
+    columns.iter().any(is_unbuilt)
 }
 
 // The number of the first declaration of a table whose entries can't be written yet.
 fn unbuilt_among(table: &Table) -> Option<u32>
     requires { IsTable table.now }
-    ensures { MatchOption result (All IsBuilt (declarations_of table.now)) (λ i. (i < length table.now.decls) × HasShortReference (declared_in table.now.specs (decl_at table.now.decls i))) }
+    ensures { MatchOption result (All IsBuilt (declarations_of table.now)) (λ i. (i < length table.now.decls) × HasUnbuiltColumn (declared_in table.now.specs (decl_at table.now.decls i))) }
 {
     for number in 0..table.len() {
-        if has_short_reference(table.columns(number)) {
+        if has_unbuilt(table.columns(number)) {
             return Some(number);
         }
     }

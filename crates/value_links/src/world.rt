@@ -1,13 +1,11 @@
 // A file that is held with what is read of it.
-ghost use Rattle.std.specs.Prelude.{◌≡◌, ◌≤◌, ◌<◌, ◌↔◌, ℕ, List, length, slice_index, IfOk, IfErr, OnOk, IsTrue, MatchOption};
+ghost use Rattle.std.specs.Prelude.{◌≡◌, ◌≤◌, ◌<◌, ◌+◌, ◌^◌, ◌↔◌, ℕ, List, length, slice_index, IfOk, IfErr, OnOk, IsTrue, MatchOption};
 ghost use Rattle.std.specs.List.{Contains};
 ghost use Rattle.dw_base.specs.Refusals.{IsFaultOf, IsRefusedFor};
 ghost use Rattle.dw_base.specs.declared.fault.Refusal.TheVariants.{Refused};
-ghost use Rattle.list_model.specs.declared.entry.ListKind.TheVariants.{Ranges};
 ghost use Rattle.list_model.specs.Addresses.{TablesFollow, AreAllTables};
 ghost use Rattle.list_model.specs.Faults.{FaultContributions};
 ghost use Rattle.list_model.specs.Faults.{FaultTables as FaultTablesOf};
-ghost use Rattle.list_model.specs.Reading.{list_entry_limit as most_entries};
 ghost use Rattle.dw_base.specs.declared.fault.Reach.{Reach};
 ghost use Rattle.dw_base.specs.declared.fault.Reach.TheVariants.{Wide};
 ghost use Rattle.elf_sections.specs.Faults.{IsRead};
@@ -16,19 +14,19 @@ ghost use Rattle.entry_read.specs.Places.{HaveOwners};
 ghost use Rattle.entry_read.specs.Units.{declarations_of, IsTable};
 ghost use Rattle.line_write.specs.Readings.{AreRead};
 ghost use Rattle.companions.specs.Aranges.{SetsTile};
-ghost use Rattle.value_links.specs.Sections.{body_named, offset_named, debug_line, debug_addr, debug_rnglists, debug_aranges, addr_name, rnglists_name};
+ghost use Rattle.value_links.specs.Sections.{body_named, offset_named, debug_line, debug_addr, debug_lists, debug_aranges, addr_name, lists_name};
 ghost use Rattle.value_links.specs.Reading.{Linkable, Reading, ListRead as AnyRead, unit_at, context_at, lists_of};
-ghost use Rattle.value_links.specs.Lists.{IsFrozen, AreListsOf};
-ghost use Rattle.value_links.specs.ListFaults.{entry_total};
+ghost use Rattle.value_links.specs.Lists.{IsFrozen};
 ghost use Rattle.value_links.specs.Faults.{NamesFault};
 ghost use Rattle.value_links.specs.Laws.{IsImageInOrder};
 ghost use Rattle.value_links.specs.declared.link.Link.{Link as AnyLink};
 ghost use Rattle.value_links.specs.declared.lists.ListRead.{ListRead as AnyList};
-ghost use Rattle.value_links.specs.Links.{held_at, HasLink, IsLinkFound, IsFollowed, IsOpLinkFound};
+ghost use Rattle.value_links.specs.Links.{held_at, HasLink, IsLinkFound, IsFollowed, IsOpLinkFound, IsNamedThing};
 ghost use Rattle.value_links.specs.Parts.{HoldsParts};
 ghost use Rattle.value_links.specs.inside.ListPlaces.{AreContributions};
-ghost use Rattle.value_links.specs.inside.Passes.{starts_of, ArePartsRead, ArePartsInOrder, NamesLaterFault};
-ghost use Rattle.value_links.specs.World.{World, HoldLists, Holds, contributions_held, lists_held, table_at, IsWorldOf, HaveOperations};
+ghost use Rattle.value_links.specs.inside.Passes.{starts_of, ArePartsRead, ArePartsInOrder, HoldAllLists, NamesLaterFault};
+ghost use Rattle.value_links.specs.World.{World, Holds, contributions_held, lists_held, table_at, IsWorldOf, HaveOperations};
+ghost use Rattle.value_links.specs.Operations.{NamesSectionEntry};
 ghost use Rattle.value_links.specs.inside.Checks.{IsNoExpr};
 ghost use Rattle.value_links.specs.inside.World.{own_table, AreListsApart};
 
@@ -37,12 +35,12 @@ use crate::contexts::contexts_of;
 use crate::link::{Link, resolve};
 use crate::list_bases::bases_of;
 use crate::list_places::{Contributions, told_by};
-use crate::lists::{ListRead, read_lists};
-use crate::operations::{OpLink, read_operations, resolve_op};
+use crate::lists::{ListRead, ListTotals, read_lists};
+use crate::operations::{OpLink, read_operations, resolve_op, section_entry};
 use crate::owners::{attribute_name, owner_of};
 use crate::parts::Parts;
 use crate::roots::names_addresses;
-use crate::sections::{debug_section, list_section};
+use crate::sections::{DebugSection, debug_section};
 use crate::units::{NamedTable, read_units};
 use abbrev_tables::Table;
 use companions::{ArangeSet, read_aranges};
@@ -63,21 +61,14 @@ use std::marker::Model;
 // The most contributions, since numbers of 32 bits name them.
 const MOST_CONTRIBUTIONS: usize = 0xffff_ffff;
 
-// The image of a file in which no section holds location lists.
+// The image of a file.
 fn read_image<'a>(alloc: Global, file: &'a [u8], reach: Reach) -> Result<Image<'a>, Refusal>
     ensures image { IfOk result (λ image. image ≡ file.entry.now) }
     ensures read { OnOk result (IsRead file.entry.now Wide) }
     ensures order { OnOk result (IsImageInOrder file.entry.now reach) }
     ensures refused { IfErr result (λ refusal. NamesFault file.entry.now reach refusal) }
 {
-    let image = Image::read(alloc, file, reach)?;
-    if let Some(place) = list_section(&image) {
-        return Err(Refusal::Refused(Fault {
-            kind: Kind::Unbuilt,
-            place,
-        }));
-    }
-    Ok(image)
+    Image::read(alloc, file, reach)
 }
 
 // The headers of the line number programs of a file.
@@ -106,24 +97,39 @@ fn read_addresses<'a>(
     addr_tables(alloc, addr.bytes, addr.origin)
 }
 
-// The contributions of range lists. Numbers of 32 bits name them.
-fn read_ranges_section<'a>(
+// The section of lists of a kind.
+fn lists_section<'a>(file: &'a [u8], image: &Image<'_>, kind: ListKind) -> DebugSection<'a>
+    requires image { image.now ≡ file.now }
+    requires read { IsRead file.now Wide }
+    ensures bytes { result.bytes.now ≡ debug_lists file.entry.now kind }
+    ensures origin { result.origin ≡ offset_named file.entry.now (lists_name kind) }
+    ensures room { result.origin + length result.bytes.now < 2 ^ 64 }
+{
+    match kind {
+        ListKind::Ranges => debug_section(file, image, b".debug_rnglists".as_slice()),
+        ListKind::Locations => debug_section(file, image, b".debug_loclists".as_slice()),
+    }
+}
+
+// The contributions of lists of a kind. Numbers of 32 bits name them.
+fn read_contributions<'a>(
     alloc: Global,
     file: &'a [u8],
     image: &Image<'a>,
+    kind: ListKind,
 ) -> Result<Contributions<'a>, Refusal>
     requires image { image.now ≡ file.now }
     requires read { IsRead file.now Wide }
-    ensures section { IfOk result (λ ranges. (ranges.section.now ≡ debug_rnglists file.entry.now) × AreContributions ranges) }
-    ensures fault { IfErr result (IsRefusedFor (IsFaultOf (FaultContributions (debug_rnglists file.entry.now)) (offset_named file.entry.now rnglists_name))) }
+    ensures section { IfOk result (λ held. (held.section.now ≡ debug_lists file.entry.now kind) × AreContributions held) }
+    ensures fault { IfErr result (IsRefusedFor (IsFaultOf (FaultContributions (debug_lists file.entry.now kind)) (offset_named file.entry.now (lists_name kind)))) }
 {
-    let ranges = debug_section(file, image, b".debug_rnglists".as_slice());
-    let parts = contributions(alloc, ranges.bytes, ranges.origin)?;
+    let lists = lists_section(file, image, kind);
+    let parts = contributions(alloc, lists.bytes, lists.origin)?;
     if parts.len() > MOST_CONTRIBUTIONS {
         return Err(Refusal::NoMemory);
     }
     Ok(Contributions {
-        section: ranges.bytes,
+        section: lists.bytes,
         parts,
     })
 }
@@ -151,9 +157,11 @@ fn read_parts<'a>(
     let abbrev = debug_section(file, image, b".debug_abbrev".as_slice());
     let addr = debug_section(file, image, b".debug_addr".as_slice());
     let units = read_units(alloc, info.bytes, abbrev.bytes, info.origin, abbrev.origin)?;
-    let ranges = read_ranges_section(alloc, file, image)?;
+    let ranges = read_contributions(alloc, file, image, ListKind::Ranges)?;
+    let locations = read_contributions(alloc, file, image, ListKind::Locations)?;
     let contexts = contexts_of(alloc, addr.bytes, &tables, &units)?;
-    let bases = bases_of(alloc, &ranges, &units)?;
+    let range_bases = bases_of(alloc, ListKind::Ranges, &ranges, &units)?;
+    let location_bases = bases_of(alloc, ListKind::Locations, &locations, &units)?;
     // What keeps the narrow limits keeps the wide ones.
     narrow_is_wide();
     let operations = read_operations(alloc, &units, info.bytes, info.origin, reach)?;
@@ -164,8 +172,10 @@ fn read_parts<'a>(
         addr: addr.bytes,
         tables,
         ranges,
+        locations,
         operations,
-        bases,
+        range_bases,
+        location_bases,
     })
 }
 
@@ -219,7 +229,13 @@ fn read_sets<'a>(
     read_aranges(alloc, aranges.bytes, &starts, aranges.origin)
 }
 
-// The range lists of a file, of which these parts and sets were read.
+// What lists have together before the first one.
+const NO_TOTALS: ListTotals = ListTotals {
+    entries: 0,
+    bytes: 0,
+};
+
+// The lists of a file, of which these parts and sets were read: range lists, then location lists.
 fn read_named_lists<'a>(
     alloc: Global,
     file: &'a [u8],
@@ -227,31 +243,46 @@ fn read_named_lists<'a>(
     parts: &Parts<'a>,
     sets: &Vec<ArangeSet>,
     reach: Reach,
-) -> Result<Vec<ListRead>, Refusal>
+) -> Result<(Vec<ListRead>, Vec<ListRead>), Refusal>
     requires image { image.now ≡ file.now }
     requires read { IsRead file.now Wide }
     requires parts { (reach : Reach) × IsImageInOrder file.now reach × ArePartsInOrder file.now parts.now }
     requires operations { HaveOperations reach parts.now.units.units.items parts.now.operations.items }
     requires sets { SetsTile (debug_aranges file.now) (starts_of parts.now.units.units.items) sets.now.items }
-    ensures lists { IfOk result (λ lists. (r : Linkable) → HoldsParts file.now r parts.now → (read : List AnyRead) × AreListsOf r Ranges read × HoldLists r Ranges read lists.items × (entry_total read ≤ most_entries reach)) }
+    ensures lists { IfOk result (λ lists. (r : Linkable) → HoldsParts file.now r parts.now → HoldAllLists r reach lists.0.items lists.1.items) }
     ensures refused { IfErr result (λ refusal. NamesLaterFault file.now reach refusal) }
 {
     // The sets are of the pass before.
     let _sets = sets;
-    let info = debug_section(file, image, b".debug_info".as_slice());
-    let abbrev = debug_section(file, image, b".debug_abbrev".as_slice());
-    let ranges = debug_section(file, image, b".debug_rnglists".as_slice());
-    read_lists(alloc, parts, info.bytes, abbrev.bytes, ranges.origin, reach)
+    let info = debug_section(file, image, b".debug_info".as_slice()).bytes;
+    let abbrev = debug_section(file, image, b".debug_abbrev".as_slice()).bytes;
+    let kind = ListKind::Ranges;
+    let origin = lists_section(file, image, kind).origin;
+    let ranges = read_lists(alloc, parts, kind, info, abbrev, origin, &NO_TOTALS, reach)?;
+    let kind = ListKind::Locations;
+    let origin = lists_section(file, image, kind).origin;
+    let locations = read_lists(
+        alloc,
+        parts,
+        kind,
+        info,
+        abbrev,
+        origin,
+        &ranges.totals,
+        reach,
+    )?;
+    Ok((ranges.lists, locations.lists))
 }
 
 /// A valid file with what is read of it: its image, the headers of its line number programs, its units with the operations of their
-/// expressions, the abbreviation tables that they name and the contexts of their lists, its range lists, and its sets of address
-/// ranges. It borrows the bytes of the file.
+/// expressions, the abbreviation tables that they name and the contexts of their lists, its range lists and location lists, and its sets
+/// of address ranges. It borrows the bytes of the file.
 #[derive(Drop)]
 pub struct World<'a> {
     image: Image<'a>,
     parts: Parts<'a>,
-    lists: Vec<ListRead>,
+    ranges: Vec<ListRead>,
+    locations: Vec<ListRead>,
     sets: Vec<ArangeSet>,
 }
 
@@ -261,9 +292,9 @@ impl<'a> Model for World<'a> {
 
     ghost Value = { World };
 
-    ghost view = { λ w. record { image = w.image; programs = w.parts.programs.items; units = w.parts.units.units.items; operations = w.parts.operations.items; tables = w.parts.units.tables.items; table_of = w.parts.units.table_of.items; contexts = w.parts.contexts.items; contributions = w.parts.ranges.parts.items; lists = w.lists.items; sets = w.sets.items } };
+    ghost view = { λ w. record { image = w.image; programs = w.parts.programs.items; units = w.parts.units.units.items; operations = w.parts.operations.items; tables = w.parts.units.tables.items; table_of = w.parts.units.table_of.items; contexts = w.parts.contexts.items; range_parts = w.parts.ranges.parts.items; ranges = w.ranges.items; location_parts = w.parts.locations.parts.items; locations = w.locations.items; sets = w.sets.items } };
 
-    ghost invariant = { λ w. IsHeldIn w.image w.parts (record { image = w.image; programs = w.parts.programs.items; units = w.parts.units.units.items; operations = w.parts.operations.items; tables = w.parts.units.tables.items; table_of = w.parts.units.table_of.items; contexts = w.parts.contexts.items; contributions = w.parts.ranges.parts.items; lists = w.lists.items; sets = w.sets.items }) };
+    ghost invariant = { λ w. IsHeldIn w.image w.parts (record { image = w.image; programs = w.parts.programs.items; units = w.parts.units.units.items; operations = w.parts.operations.items; tables = w.parts.units.tables.items; table_of = w.parts.units.table_of.items; contexts = w.parts.contexts.items; range_parts = w.parts.ranges.parts.items; ranges = w.ranges.items; location_parts = w.parts.locations.parts.items; locations = w.locations.items; sets = w.sets.items }) };
 }
 
 impl<'a> World<'a> {
@@ -281,11 +312,12 @@ impl<'a> World<'a> {
         let parts = read_parts(alloc, file, &image, programs, tables, reach)?;
         check_parts(file, &image, &parts, fault)?;
         let sets = read_sets(alloc, file, &image, &parts)?;
-        let lists = read_named_lists(alloc, file, &image, &parts, &sets, reach)?;
+        let (ranges, locations) = read_named_lists(alloc, file, &image, &parts, &sets, reach)?;
         Ok(World {
             image,
             parts,
-            lists,
+            ranges,
+            locations,
             sets,
         })
     }
@@ -347,14 +379,11 @@ impl<'a> World<'a> {
         &self.parts.units.tables[self.parts.units.table_of[unit as usize] as usize].table
     }
 
-    /// The contributions to the section of lists of a kind, in their order. No location lists are read yet.
+    /// The contributions to the section of lists of a kind, in their order.
     pub fn contributions(&self, kind: ListKind) -> &[Contribution]
         ensures { result.now ≡ contributions_held self.now kind }
     {
-        match kind {
-            ListKind::Ranges => &self.parts.ranges.parts,
-            ListKind::Locations => &[],
-        }
+        &self.parts.lists(kind).parts
     }
 
     // The lists of a kind, by rising place.
@@ -363,12 +392,12 @@ impl<'a> World<'a> {
         ensures rising { AreListsApart result.now }
     {
         match kind {
-            ListKind::Ranges => &self.lists,
-            ListKind::Locations => &[],
+            ListKind::Ranges => &self.ranges,
+            ListKind::Locations => &self.locations,
         }
     }
 
-    /// The lists of a kind that something names, each once, by rising place. No location lists are read yet.
+    /// The lists of a kind that something names, each once, by rising place.
     pub fn lists(&self, kind: ListKind) -> &[ListRead]
         ensures { result.now ≡ lists_held self.now kind }
     {
@@ -418,6 +447,14 @@ impl<'a> World<'a> {
         resolve_op(&self.parts, unit, op)
     }
 
+    /// The entry of any unit that stands at a place, counted from the first byte of .debug_info, as what an operation names (DWARF 5
+    /// sections 2.5.1.5 and 2.6.1.1), or None exactly where none does. It takes no memory.
+    pub fn resolve_place(&self, place: u64) -> Option<OpLink>
+        ensures { (file : List ℕ) (r : Reading) → Holds file self.now r → IsNamedThing (NamesSectionEntry r.links place) result }
+    {
+        section_entry(&self.parts, place)
+    }
+
     // The entries of the unit with a number, each of whose values is one of an entry. What is held is of a valid file.
     fn entries_of(&self, unit: u32) -> &Forest<'a>
         requires { unit < length self.now.units }
@@ -437,7 +474,7 @@ impl<'a> World<'a> {
         match link {
             Link::Slot(kind, part, slot) => Link::List(
                 kind,
-                told_by(&self.parts.ranges, part, slot),
+                told_by(self.parts.lists(kind), part, slot),
             ),
             _ => link,
         }

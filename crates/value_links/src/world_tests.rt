@@ -418,8 +418,11 @@ fn the_first_pass_with_a_fault_decides(rt: HostRuntime) -> Result<(), Fail> {
     let alloc = rt.alloc();
     // .debug_loclists in place of .debug_aranges
     let list_name: [(usize, u8); 4] = [(512, 54), (235, 0x6c), (236, 0x6f), (237, 0x63)];
+    // .debug_xnglists, which isn't known
+    let unknown_name: [(usize, u8); 2] = [(512, 54), (235, 0x78)];
     let program_version = (93, 4);
-    let with_version = [
+    let with_version = [program_version, unknown_name[0], unknown_name[1]];
+    let lists_with_version = [
         program_version,
         list_name[0],
         list_name[1],
@@ -429,14 +432,17 @@ fn the_first_pass_with_a_fault_decides(rt: HostRuntime) -> Result<(), Fail> {
     let table_place = (80, 8);
     let program_place = (85, 1);
     let set_version = (146, 3);
-    let rows: [(&[(usize, u8)], Kind, u64); 9] = [
+    let rows: [(&[(usize, u8)], Kind, u64); 11] = [
         (&[(0, 0)], Kind::NotElf64, 0),
-        (&list_name, Kind::Unbuilt, 142),
+        (&unknown_name, Kind::Companion, 142),
+        // a set of address ranges is no contribution: its version is 2
+        (&list_name, Kind::ListEntry, 142),
         (&[program_version], Kind::LineHead, 89),
         (&[table_place], Kind::Pointer, 72),
         (&[program_place], Kind::Pointer, 85),
         (&[set_version], Kind::Aranges, 142),
-        (&with_version, Kind::Unbuilt, 142),
+        (&with_version, Kind::Companion, 142),
+        (&lists_with_version, Kind::LineHead, 89),
         (&[table_place, program_version], Kind::LineHead, 89),
         (&[set_version, table_place], Kind::Pointer, 72),
     ];

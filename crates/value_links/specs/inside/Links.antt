@@ -9,12 +9,15 @@ use Rattle.entry_arena.specs.Order.{IsInOrder}
 use Rattle.entry_read.specs.Units.{HeadAndForest}
 use Rattle.value_links.specs.declared.link.Link.{Link}
 use Rattle.value_links.specs.declared.link.Link.TheVariants.{Place}
+use Rattle.list_model.specs.declared.entry.ListKind.{ListKind}
+use Rattle.list_model.specs.declared.entry.ListKind.TheVariants.{Ranges, Locations}
+use Rattle.value_links.specs.Attributes.{OffsetClass}
+use Rattle.value_links.specs.Attributes.OffsetClass.{RngListsPtr, LocListsPtr}
 use Rattle.value_links.specs.Reading.{no_program}
 use Rattle.value_links.specs.declared.operations.OpLink.{OpLink}
 use Rattle.value_links.specs.declared.operations.OpLink.TheVariants.{Entry as AnEntry}
 use Rattle.value_links.specs.Linked.{IsTargetAt}
-use Rattle.value_links.specs.Operations.{OpTarget}
-use Rattle.value_links.specs.Links.{held_at, IsOpLinkOf}
+use Rattle.value_links.specs.Links.{held_at}
 
 -- WHAT IS HELD
 
@@ -34,6 +37,11 @@ pub record AreUnitsApart (units : List HeadAndForest) : Type 0 where
 pub record AreProgramsApart (programs : List Head) : Type 0 where
   pub few : length programs < 2 ^ 32
   pub rising : (i j : ℕ) → i < j → j < length programs → (program_among programs i).at < (program_among programs j).at
+
+-- the class of the section offsets that name contributions of a kind
+abbrev pub base_class : ListKind → OffsetClass
+base_class Ranges = RngListsPtr
+base_class Locations = LocListsPtr
 
 -- WHAT IS FOUND
 
@@ -61,8 +69,3 @@ IsSectionTargetFound units place None = (unit : ℕ) (target : Target) → unit 
 abbrev pub entry_link : ℕ → Target → Option OpLink
 entry_link unit (TheEntry id) = Some (AnEntry unit id)
 entry_link unit (TheEnd id) = None
-
--- What is answered of what names at most one thing: the link that tells this, or none exactly where nothing is named.
-abbrev pub IsNamedThing : (OpTarget → Type 0) → Option OpLink → Type 0
-IsNamedThing IsNamed (Some link) = (target : OpTarget) × IsNamed target × IsOpLinkOf target link
-IsNamedThing IsNamed None = (target : OpTarget) → IsNamed target → ⊥

@@ -1,17 +1,22 @@
--- What names range lists, as it is gathered and sorted: each naming is the place of a list, and the number of a unit of which an
+-- What names lists of a kind, as it is gathered and sorted: each naming is the place of a list, and the number of a unit of which an
 -- entry names it, or another number where a slot does.
 -- Inner functions and proofs alone need what stands here.
-use Rattle.std.specs.Prelude.{◌≡◌, ◌≤◌, ◌<◌, ◌^◌, ◌-◌, ◌⊎◌, ◌+◌, ℕ, List, length, Option, Some, None}
+use Rattle.std.specs.Prelude.{◌≡◌, ◌≢◌, ◌≤◌, ◌<◌, ◌^◌, ◌-◌, ◌⊎◌, ◌+◌, ℕ, List, length, Option, Some, None, slice_index_or}
 use Rattle.std.specs.List.{AllPairs, Contains}
 use Rattle.dw_base.specs.declared.fault.Kind.{Kind}
 use Rattle.dw_base.specs.declared.fault.Kind.TheVariants.{Pointer}
+use Rattle.form_codec.specs.declared.value.Value.{Value}
 use Rattle.form_codec.specs.Forms.{Meaning}
+use Rattle.form_codec.specs.Forms.Meaning.{LocationList, RangeList}
 use Rattle.form_codec.specs.Values.{meant_in}
 use Rattle.abbrev_tables.specs.Listings.{spec_at}
 use Rattle.entry_arena.specs.Arena.{value_at}
-use Rattle.list_model.specs.declared.entry.ListKind.TheVariants.{Ranges}
+use Rattle.list_model.specs.declared.entry.ListKind.{ListKind}
+use Rattle.list_model.specs.declared.entry.ListKind.TheVariants.{Ranges, Locations}
 use Rattle.list_model.specs.Contributions.{offset_place}
-use Rattle.value_links.specs.Reading.{ListSection, Linkable, unit_at, part_at}
+use Rattle.value_links.specs.Attributes.{OffsetClass}
+use Rattle.value_links.specs.Attributes.OffsetClass.{RngList, LocList}
+use Rattle.value_links.specs.Reading.{ListSection, Linkable, unit_at, of_kind, part_at}
 use Rattle.value_links.specs.Values.{entry_of, declaration_of}
 use Rattle.value_links.specs.ListPlaces.{IsListPlace, IsSlot, SlotNames}
 use Rattle.value_links.specs.Linked.{Linked, Links}
@@ -20,6 +25,10 @@ use Rattle.value_links.specs.Lists.{LinkNames, IsNamedIn, IsNamedBySlot}
 -- what stands for a unit where a slot names a list
 abbrev pub slot_number : ℕ
 slot_number = 2 ^ 32 - 1
+
+-- the place and the number of the first naming
+abbrev pub first_naming : List (ℕ × ℕ) → ℕ × ℕ
+first_naming named = slice_index_or named 0 (0, 0)
 
 -- WHAT IS GATHERED
 
@@ -50,30 +59,45 @@ abbrev pub FaultSlots : ListSection → Kind → ℕ → Type 0
 FaultSlots section Pointer place = (p : ℕ) × (i : ℕ) × (at : ℕ) × IsSlot section p i at × (¬ SlotNames section p i at) × (place ≡ offset_place (part_at section p).at i)
 FaultSlots section kind place = ⊥
 
--- the value of an attribute names the range list at a place
-abbrev pub ValueNames : Linkable → ℕ → ℕ → ℕ → Meaning → ℕ → Type 0
-ValueNames r u id name meaning at = (linked : Linked) × Links r u id name meaning linked × LinkNames r linked Ranges at
+-- the class of the section offsets that name lists of a kind
+abbrev pub class_of : ListKind → OffsetClass
+class_of Ranges = RngList
+class_of Locations = LocList
+
+-- the index of a list of a kind
+abbrev pub index_meaning : ListKind → ℕ → Meaning
+index_meaning Ranges i = RangeList i
+index_meaning Locations i = LocationList i
+
+-- the index of a list of a kind that a value is, or none
+abbrev pub IsIndexIn : ListKind → Value → Option ℕ → Type 0
+IsIndexIn kind held (Some i) = (section : List ℕ) → meant_in section held ≡ index_meaning kind i
+IsIndexIn kind held None = (section : List ℕ) (i : ℕ) → meant_in section held ≢ index_meaning kind i
+
+-- the value of an attribute names the list of a kind at a place
+abbrev pub ValueNames : Linkable → ListKind → ℕ → ℕ → ℕ → Meaning → ℕ → Type 0
+ValueNames r kind u id name meaning at = (linked : Linked) × Links r u id name meaning linked × LinkNames r linked kind at
 
 -- the place of the one that it names, or none
-abbrev pub IsPlaceNamed : Linkable → ℕ → ℕ → ℕ → Meaning → Option ℕ → Type 0
-IsPlaceNamed r u id name meaning (Some at) = ValueNames r u id name meaning at × ((other : ℕ) → ValueNames r u id name meaning other → other ≡ at)
-IsPlaceNamed r u id name meaning None = (other : ℕ) → ¬ ValueNames r u id name meaning other
+abbrev pub IsPlaceNamed : Linkable → ListKind → ℕ → ℕ → ℕ → Meaning → Option ℕ → Type 0
+IsPlaceNamed r kind u id name meaning (Some at) = ValueNames r kind u id name meaning at × ((other : ℕ) → ValueNames r kind u id name meaning other → other ≡ at)
+IsPlaceNamed r kind u id name meaning None = (other : ℕ) → ¬ ValueNames r kind u id name meaning other
 
--- the value of a column of an entry names the range list at a place
-abbrev pub ColumnNames : Linkable → ℕ → ℕ → ℕ → ℕ → Type 0
-ColumnNames r u id column at = ValueNames r u id (spec_at (declaration_of (unit_at r u) id).columns column).name (meant_in (unit_at r u).forest.section (value_at (unit_at r u).forest.values ((entry_of (unit_at r u) id).first + column))) at
+-- the value of a column of an entry names the list of a kind at a place
+abbrev pub ColumnNames : Linkable → ListKind → ℕ → ℕ → ℕ → ℕ → Type 0
+ColumnNames r kind u id column at = ValueNames r kind u id (spec_at (declaration_of (unit_at r u) id).columns column).name (meant_in (unit_at r u).forest.section (value_at (unit_at r u).forest.values ((entry_of (unit_at r u) id).first + column))) at
 
 -- a naming of one of the first columns of an entry
-abbrev pub IsColumnNaming : Linkable → ℕ → ℕ → ℕ → ℕ × ℕ → Type 0
-IsColumnNaming r u id n naming = (column : ℕ) × (column < n) × (ColumnNames r u id column naming.0 × (naming.1 ≡ u))
+abbrev pub IsColumnNaming : Linkable → ListKind → ℕ → ℕ → ℕ → ℕ × ℕ → Type 0
+IsColumnNaming r kind u id n naming = (column : ℕ) × (column < n) × (ColumnNames r kind u id column naming.0 × (naming.1 ≡ u))
 
 -- a naming of one of the first entries of a unit
-abbrev pub IsEntryNaming : Linkable → ℕ → ℕ → ℕ × ℕ → Type 0
-IsEntryNaming r u n naming = (id : ℕ) × (id < n) × IsColumnNaming r u id (entry_of (unit_at r u) id).count naming
+abbrev pub IsEntryNaming : Linkable → ListKind → ℕ → ℕ → ℕ × ℕ → Type 0
+IsEntryNaming r kind u n naming = (id : ℕ) × (id < n) × IsColumnNaming r kind u id (entry_of (unit_at r u) id).count naming
 
 -- a naming of one of the first units
-abbrev pub IsUnitNaming : Linkable → ℕ → ℕ × ℕ → Type 0
-IsUnitNaming r n naming = (u : ℕ) × (u < n) × IsEntryNaming r u (length (unit_at r u).forest.entries) naming
+abbrev pub IsUnitNaming : Linkable → ListKind → ℕ → ℕ × ℕ → Type 0
+IsUnitNaming r kind n naming = (u : ℕ) × (u < n) × IsEntryNaming r kind u (length (unit_at r u).forest.entries) naming
 
 -- A list can begin at the place of a naming, and so many units there are that its number is one of a unit, or that of slots.
 pub record IsSomeNaming (section : ListSection) (units : ℕ) (naming : ℕ × ℕ) : Type 0 where
@@ -81,15 +105,15 @@ pub record IsSomeNaming (section : ListSection) (units : ℕ) (naming : ℕ × �
   pub numbered : (naming.1 < units) ⊎ (naming.1 ≡ slot_number)
 
 -- a naming stands for an entry of a unit that names the list, or for a slot
-abbrev pub IsNaming : Linkable → ℕ × ℕ → Type 0
-IsNaming r naming = IsNamedIn r Ranges naming.0 naming.1 ⊎ (IsNamedBySlot r Ranges naming.0 × (naming.1 ≡ slot_number))
+abbrev pub IsNaming : Linkable → ListKind → ℕ × ℕ → Type 0
+IsNaming r kind naming = IsNamedIn r kind naming.0 naming.1 ⊎ (IsNamedBySlot r kind naming.0 × (naming.1 ≡ slot_number))
 
 -- These are all the namings, and each slot names a list.
-pub record AreNamings (r : Linkable) (namings : List (ℕ × ℕ)) : Type 0 where
-  pub each : (naming : ℕ × ℕ) → Contains namings naming → IsNaming r naming
-  pub by_entries : (at u : ℕ) → IsNamedIn r Ranges at u → Contains namings (at, u)
-  pub by_slots : (at : ℕ) → IsNamedBySlot r Ranges at → Contains namings (at, slot_number)
-  pub slots : ArePartsFollowed r.ranges (length r.ranges.parts)
+pub record AreNamings (r : Linkable) (kind : ListKind) (namings : List (ℕ × ℕ)) : Type 0 where
+  pub each : (naming : ℕ × ℕ) → Contains namings naming → IsNaming r kind naming
+  pub by_entries : (at u : ℕ) → IsNamedIn r kind at u → Contains namings (at, u)
+  pub by_slots : (at : ℕ) → IsNamedBySlot r kind at → Contains namings (at, slot_number)
+  pub slots : ArePartsFollowed (of_kind r kind) (length (of_kind r kind).parts)
 
 -- WHAT IS SORTED
 

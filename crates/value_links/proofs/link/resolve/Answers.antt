@@ -52,7 +52,12 @@ returns-in-Offset c = λ (file : List ℕ) (r : Linkable) (id : ℕ) (holds : Ho
 pub returns-in-RangeIndex : goal.returns-in-RangeIndex
 returns-in-RangeIndex c = λ (file : List ℕ) (r : Linkable) (id : ℕ) (holds : HoldsParts file r c.args.parts.now).
     let section = (unit_at r c.args.unit).forest.section in
-    subst (λ (z : Value). IsLinkFound r c.args.unit id c.args.name (meant_in section z) c.range_slot.result) (sym c.in-RangeIndex.is) (c.range_slot.ensures file r holds)
+    subst (λ (z : Value). IsLinkFound r c.args.unit id c.args.name (meant_in section z) c.slot_at.result) (sym c.in-RangeIndex.is) (c.slot_at.ensures file r holds)
+
+pub returns-in-LocIndex : goal.returns-in-LocIndex
+returns-in-LocIndex c = λ (file : List ℕ) (r : Linkable) (id : ℕ) (holds : HoldsParts file r c.args.parts.now).
+    let section = (unit_at r c.args.unit).forest.section in
+    subst (λ (z : Value). IsLinkFound r c.args.unit id c.args.name (meant_in section z) c.slot_at-in-LocIndex.result) (sym c.in-LocIndex.is) (c.slot_at-in-LocIndex.ensures file r holds)
 
 -- any other value is what it says
 itself : (r : Linkable) (u id name : ℕ) (section : List ℕ) (v : Value) → IsNoExpr v → ((n : ℕ) → v ≢ value.LocalRef n) → ((n : ℕ) → v ≢ value.SectionRef n) → ((n : ℕ) → v ≢ value.Offset n) → ((i : ℕ) → v ≢ value.LocIndex i) → ((i : ℕ) → v ≢ value.RangeIndex i) → IsLinkFound r u id name (meant_in section v) (Some Plain)

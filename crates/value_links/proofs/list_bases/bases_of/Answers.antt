@@ -2,7 +2,7 @@ use Rattle.std.proofs.Common.{◌<◌, ◌^◌, ◌+◌, ◌∷◌, [], ℕ, Lis
 use Rattle.std.specs.Prelude.{Option, None}
 use Rattle.std.proofs.lemmas.List.{length-append}
 use Rattle.entry_read.specs.Units.{declarations_of}
-use Rattle.value_links.specs.Attributes.{rnglists_base}
+use Rattle.value_links.specs.ListPlaces.{base_of}
 use Rattle.value_links.specs.Links.{held_at}
 use Rattle.value_links.specs.Parts.{section_held}
 use Rattle.value_links.specs.inside.Checks.{table_held, root_attributes}
@@ -23,8 +23,8 @@ loop-number-preserved c =
     let number = c.loop-number.number in
     let bases = c.loop-number.bases.items in
     let base = c.base_for.result in
-    let more = one_more (λ u base. IsPartFound section (root_attributes (held_at held.units.items u).forest (declarations_of (table_held held u))) rnglists_base base) None bases base number c.loop-number.invariant.counted c.loop-number.invariant.each c.base_for.ensures in
+    let more = one_more (λ u base. IsPartFound section (root_attributes (held_at held.units.items u).forest (declarations_of (table_held held u))) (base_of c.args.kind) base) None bases base number c.loop-number.invariant.counted c.loop-number.invariant.each c.base_for.ensures in
     record {
       counted = omega (arith, ap length c.in_ok-push.ensures.items, length-append bases (base ∷ []), c.loop-number.invariant.counted);
-      each = subst (λ (bs : List (Option ℕ)). (u : ℕ) → u < number + 1 → IsPartFound section (root_attributes (held_at held.units.items u).forest (declarations_of (table_held held u))) rnglists_base (get_or bs u None)) (sym c.in_ok-push.ensures.items) more;
+      each = subst (λ (bs : List (Option ℕ)). (u : ℕ) → u < number + 1 → IsPartFound section (root_attributes (held_at held.units.items u).forest (declarations_of (table_held held u))) (base_of c.args.kind) (get_or bs u None)) (sym c.in_ok-push.ensures.items) more;
     }

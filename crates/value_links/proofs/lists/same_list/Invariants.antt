@@ -1,6 +1,6 @@
 use Rattle.std.specs.Prelude.{◌≡◌, ◌≤◌, ◌<◌, ◌-◌, ℕ, length, take}
 use Rattle.std.specs.List.{All}
-use Rattle.value_links.specs.inside.NamedLists.{first_naming}
+use Rattle.value_links.specs.inside.Namings.{first_naming}
 use Rattle.value_links.proofs.lists.same_list.Given as goal
 
 abbrev pub invariant-loop-count : goal.invariant-loop-count

@@ -12,7 +12,7 @@ use Rattle.value_links.proofs.namings.push_unit.Goals as goal
 pub loop-id-preserved : goal.loop-id-preserved
 loop-id-preserved c = (
   λ (file : List ℕ) (r : Linkable) (holds : HoldsParts file r c.args.parts.now).
-      below_next (λ id y. IsColumnNaming r c.args.unit id (entry_of (unit_at r c.args.unit) id).count y) c.args.namings.now.items c.loop-id.namings.items c.push_entry.new.namings.items c.loop-id.id (c.loop-id.invariant.0 file r holds) (c.in_ok-push_entry.ensures.joined file r holds),
+      below_next (λ id y. IsColumnNaming r c.args.kind c.args.unit id (entry_of (unit_at r c.args.unit) id).count y) c.args.namings.now.items c.loop-id.namings.items c.push_entry.new.namings.items c.loop-id.id (c.loop-id.invariant.0 file r holds) (c.in_ok-push_entry.ensures.joined file r holds),
   λ known. c.in_ok-push_entry.ensures.known (c.loop-id.invariant.1 known),
 )
 
@@ -21,4 +21,4 @@ returns-clause-joined c = λ (file : List ℕ) (r : Linkable) (holds : HoldsPart
     let unit = held_at c.args.parts.now.units.units.items c.args.unit in
     let count : c.len-id-end.result ≡ length unit.forest.entries = c.len-id-end.ensures ∙ ap (λ z. length z.entries) c.forest.ensures ∙ ap (λ (z : HeadAndForest). length z.forest.entries) c.unit_of.ensures in
     let all : c.loop-id.id ≡ c.len-id-end.result = omega arith in
-    subst (λ (z : ℕ). AreJoined c.args.namings.now.items c.loop-id.namings.items (IsEntryNaming r c.args.unit z)) (all ∙ count ∙ entries_counted file r c.args.parts.now holds c.args.unit c.requires.unit) (c.loop-id.invariant.0 file r holds)
+    subst (λ (z : ℕ). AreJoined c.args.namings.now.items c.loop-id.namings.items (IsEntryNaming r c.args.kind c.args.unit z)) (all ∙ count ∙ entries_counted file r c.args.parts.now holds c.args.unit c.requires.unit) (c.loop-id.invariant.0 file r holds)

@@ -15,11 +15,11 @@ overflow_cast-unit-end c =
 pub loop-unit-preserved : goal.loop-unit-preserved
 loop-unit-preserved c = (
   λ (file : List ℕ) (r : Linkable) (holds : HoldsParts file r c.args.parts.now).
-      below_next (λ u y. IsEntryNaming r u (length (unit_at r u).forest.entries) y) c.args.namings.now.items c.loop-unit.namings.items c.push_unit.new.namings.items c.loop-unit.unit (c.loop-unit.invariant.0 file r holds) (c.in_ok-push_unit.ensures.joined file r holds),
+      below_next (λ u y. IsEntryNaming r c.args.kind u (length (unit_at r u).forest.entries) y) c.args.namings.now.items c.loop-unit.namings.items c.push_unit.new.namings.items c.loop-unit.unit (c.loop-unit.invariant.0 file r holds) (c.in_ok-push_unit.ensures.joined file r holds),
   λ known. c.in_ok-push_unit.ensures.known (c.loop-unit.invariant.1 known),
 )
 
 pub returns-clause-joined : goal.returns-clause-joined
 returns-clause-joined c = λ (file : List ℕ) (r : Linkable) (holds : HoldsParts file r c.args.parts.now).
     let all : c.loop-unit.unit ≡ length c.args.parts.now.units.units.items = omega arith in
-    subst (λ (z : ℕ). AreJoined c.args.namings.now.items c.loop-unit.namings.items (IsUnitNaming r z)) (all ∙ units_counted file r c.args.parts.now holds) (c.loop-unit.invariant.0 file r holds)
+    subst (λ (z : ℕ). AreJoined c.args.namings.now.items c.loop-unit.namings.items (IsUnitNaming r c.args.kind z)) (all ∙ units_counted file r c.args.parts.now holds) (c.loop-unit.invariant.0 file r holds)

@@ -7,7 +7,7 @@ use Rattle.entry_read.specs.Units.{HeadAndForest}
 use Rattle.entry_read.specs.Expressions.{HasOperations, FaultExpressions}
 use Rattle.value_links.specs.Links.{held_at}
 use Rattle.value_links.specs.World.{operations_at}
-use Rattle.value_links.specs.inside.Checks.{AreSomeUnits, IsSomeExpressionFault}
+use Rattle.value_links.specs.inside.Checks.{IsSomeExpressionFault}
 use Rattle.value_links.proofs.TabledUnits.{some_few, some_section}
 use Rattle.value_links.proofs.ContextLaws.{one_more}
 use Rattle.value_links.proofs.Refusing.{refused_more}

@@ -6,7 +6,8 @@ use Rattle.value_links.specs.declared.link.Link.TheVariants.{Place}
 use Rattle.value_links.specs.Reading.{Linkable}
 use Rattle.value_links.specs.Operations.{NamesSectionEntry}
 use Rattle.value_links.specs.Parts.{HoldsParts}
-use Rattle.value_links.specs.inside.Links.{IsSectionTargetFound, AreUnitsApart, IsNamedThing}
+use Rattle.value_links.specs.inside.Links.{IsSectionTargetFound, AreUnitsApart}
+use Rattle.value_links.specs.Links.{IsNamedThing}
 use Rattle.value_links.proofs.LinkedValues.{parts_apart}
 use Rattle.value_links.proofs.OpLinks.{section_unnamed, section_named, section_other}
 use Rattle.value_links.proofs.operations.section_entry.Goals as goal

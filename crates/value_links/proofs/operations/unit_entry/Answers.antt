@@ -3,7 +3,7 @@ use Rattle.std.specs.Prelude.{Some, None}
 use Rattle.value_links.specs.Reading.{Linkable}
 use Rattle.value_links.specs.Operations.{NamesUnitEntry}
 use Rattle.value_links.specs.Parts.{HoldsParts}
-use Rattle.value_links.specs.inside.Links.{IsNamedThing}
+use Rattle.value_links.specs.Links.{IsNamedThing}
 use Rattle.value_links.proofs.LinkedValues.{local_answer}
 use Rattle.value_links.proofs.OpLinks.{target_named, none_named}
 use Rattle.value_links.proofs.operations.unit_entry.Goals as goal

@@ -19,7 +19,7 @@ pub followed-requires : goal.followed-requires
 followed-requires c =
     let (reach, is) = c.entries_of-forest.ensures.world in
     let found = c.in-Some.ensures c.args.self.now.image is.r c.owner_of-id.result is.holds in
-    let (to, followed) = can_follow is.r.links is.read.ranges.slots c.args.unit c.owner_of-id.result c.attribute_name-name.result (meant_in (unit_at is.r.links c.args.unit).forest.section c.value-held.result) c.in-Some.link found in
+    let (to, followed) = can_follow is.r.links (λ kind. (is.read.lists kind).slots) c.args.unit c.owner_of-id.result c.attribute_name-name.result (meant_in (unit_at is.r.links c.args.unit).forest.section c.value-held.result) c.in-Some.link found in
     (c.args.self.now.image, is.r, to, is.holds, followed)
 
 pub returns : goal.returns
