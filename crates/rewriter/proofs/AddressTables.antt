@@ -28,8 +28,8 @@ use Rattle.value_links.specs.Reading.{Reading, UnitRead, no_context, no_unit, co
 use Rattle.value_links.specs.Values.{root_of}
 use Rattle.value_links.specs.Contexts.{IsTableOf, IsContext}
 use Rattle.value_links.specs.World.{World, Holds, IsWorldOf}
-use Rattle.rewriter.specs.declared.ranges.TableMap.{TableMap}
-use Rattle.rewriter.specs.declared.ranges.TableMaps.{TableMaps}
+use Rattle.rewriter.specs.declared.table_maps.TableMap.{TableMap}
+use Rattle.rewriter.specs.declared.table_maps.TableMaps.{TableMaps}
 use Rattle.rewriter.specs.inside.Plans.{context_in, table_by, IsTableIn, AreTablesIn, AreAllTables, IsTableMap, AreTableMaps, AreMapsFor, IsContextIn}
 use Rattle.rewriter.proofs.PickedLists.{each_more, counted_more}
 use Rattle.rewriter.proofs.Standing.{held_count}

@@ -1,6 +1,6 @@
 -- A file with new debug sections.
 use Rattle.std.proofs.Common.{◌≡◌, ◌≢◌, ◌≤◌, ◌<◌, ◌+◌, ◌-◌, ◌*◌, ◌^◌, ℕ, List, [], ◌∷◌, length, Bool, true, false, sym, ◌∙◌, ap, refl, subst, arith}
-use Rattle.std.specs.Prelude.{◌==◌, ◌||◌, ◌&&◌, not, if◌then◌else◌, IfOk, bytes_eq}
+use Rattle.std.specs.Prelude.{◌==◌, ◌||◌, ◌&&◌, not, if◌then◌else◌, IfOk}
 use Rattle.std.specs.declared.result.Result.{Result}
 use Rattle.std.specs.declared.result.Result.TheVariants.{Ok, Err}
 use Rattle.std.specs.List.{All}
@@ -17,7 +17,7 @@ use Rattle.elf_place.specs.Layout.{IsLaidOut, Stand}
 use Rattle.elf_place.specs.Same.{SameImage}
 use Rattle.elf_place.proofs.BodyLaws.{body_after-kept}
 use Rattle.value_links.specs.Sections.{info_name, abbrev_name, line_name, aranges_name, rnglists_name, loclists_name}
-use Rattle.value_links.specs.Laws.{HasNoLists, IsImageInOrder}
+use Rattle.value_links.specs.Laws.{IsImageInOrder}
 use Rattle.rewriter.specs.declared.sections.NewSections.{NewSections}
 use Rattle.rewriter.specs.inside.Bodies.{NewBytes, IsBodyWith, AddsBody, AreBodiesWith, new_bytes}
 use Rattle.value_links.specs.Placed.{body_in}
@@ -37,19 +37,21 @@ unlisted : (new : NewSections) (name : List ℕ) → is_written name ≡ false �
 unlisted new name kept =
     All-weaker (λ (n : NewBytes). is_written n.name ≡ true) (λ (n : NewBytes). name ≢ n.name) (λ (n : NewBytes) anew. unwritten name n.name anew kept) (new_bytes new) (written new)
 
--- the five bodies, one after the other
-pub five_added : (file : List ℕ) (new : NewSections) (first second third fourth fifth : List ℕ) (none one two three four five : List NewBody) → first ≡ info_name → second ≡ abbrev_name → third ≡ line_name → fourth ≡ rnglists_name → fifth ≡ aranges_name → none ≡ [] → AddsBody file (record { name = first; bytes = new.info.items }) none one → AddsBody file (record { name = second; bytes = new.abbrevs.items }) one two → AddsBody file (record { name = third; bytes = new.lines.items }) two three → AddsBody file (record { name = fourth; bytes = new.ranges.items }) three four → AddsBody file (record { name = fifth; bytes = new.aranges.items }) four five → AreBodiesWith file (new_bytes new) five
-five_added file new first second third fourth fifth none one two three four five e f g h i empty info abbrevs lines ranges aranges =
+-- the six bodies, one after the other
+pub six_added : (file : List ℕ) (new : NewSections) (first second third fourth fifth sixth : List ℕ) (none one two three four five six : List NewBody) → first ≡ info_name → second ≡ abbrev_name → third ≡ line_name → fourth ≡ rnglists_name → fifth ≡ loclists_name → sixth ≡ aranges_name → none ≡ [] → AddsBody file (record { name = first; bytes = new.info.items }) none one → AddsBody file (record { name = second; bytes = new.abbrevs.items }) one two → AddsBody file (record { name = third; bytes = new.lines.items }) two three → AddsBody file (record { name = fourth; bytes = new.ranges.items }) three four → AddsBody file (record { name = fifth; bytes = new.locations.items }) four five → AddsBody file (record { name = sixth; bytes = new.aranges.items }) five six → AreBodiesWith file (new_bytes new) six
+six_added file new first second third fourth fifth sixth none one two three four five six e f g h i j empty info abbrevs lines ranges locations aranges =
     let a : NewBytes = record { name = info_name; bytes = new.info.items } in
     let b : NewBytes = record { name = abbrev_name; bytes = new.abbrevs.items } in
     let c : NewBytes = record { name = line_name; bytes = new.lines.items } in
     let d : NewBytes = record { name = rnglists_name; bytes = new.ranges.items } in
+    let k : NewBytes = record { name = loclists_name; bytes = new.locations.items } in
     let l : NewBytes = record { name = aranges_name; bytes = new.aranges.items } in
     let with_info = added file [] a none one empty (subst (λ (z : List ℕ). AddsBody file (record { name = z; bytes = new.info.items }) none one) e info) in
     let with_abbrevs = added file (a ∷ []) b one two with_info (subst (λ (z : List ℕ). AddsBody file (record { name = z; bytes = new.abbrevs.items }) one two) f abbrevs) in
     let with_lines = added file (a ∷ b ∷ []) c two three with_abbrevs (subst (λ (z : List ℕ). AddsBody file (record { name = z; bytes = new.lines.items }) two three) g lines) in
     let with_ranges = added file (a ∷ b ∷ c ∷ []) d three four with_lines (subst (λ (z : List ℕ). AddsBody file (record { name = z; bytes = new.ranges.items }) three four) h ranges) in
-    added file (a ∷ b ∷ c ∷ d ∷ []) l four five with_ranges (subst (λ (z : List ℕ). AddsBody file (record { name = z; bytes = new.aranges.items }) four five) i aranges)
+    let with_locations = added file (a ∷ b ∷ c ∷ d ∷ []) k four five with_ranges (subst (λ (z : List ℕ). AddsBody file (record { name = z; bytes = new.locations.items }) four five) i locations) in
+    added file (a ∷ b ∷ c ∷ d ∷ k ∷ []) l five six with_locations (subst (λ (z : List ℕ). AddsBody file (record { name = z; bytes = new.aranges.items }) five six) j aranges)
 
 -- WHERE THE SECTIONS STAND
 
@@ -84,7 +86,7 @@ module _ (file : List ℕ) (new : NewSections) (bodies : List NewBody) (made : A
     replaceable : (name : List ℕ) → is_written name ≡ true → (i : ℕ) → IsFirstNamed file name i → IsReplaceable file i
     replaceable name anew i first = record {
       inside = first.inside;
-      moves = written_moves (is_written (name_of file i)) (is_movable file i) (i == names_index file) (order.image.sound.sections i first.inside).placed (ap is_written first.named ∙ anew);
+      moves = written_moves (is_written (name_of file i)) (is_movable file i) (i == names_index file) (order.sound.sections i first.inside).placed (ap is_written first.named ∙ anew);
     }
 
     pub movable : All (λ (body : NewBody). IsReplaceable file body.section) bodies
@@ -94,10 +96,10 @@ module _ (file : List ℕ) (new : NewSections) (bodies : List NewBody) (made : A
     pub names : KeepsNames file bodies
     names some =
         let i = names_index file in
-        kept i (names_stay (is_written (name_of file i)) (is_movable file i) (i == i) (eq-eqb i i refl) (order.image.sound.sections i (order.image.whole.section_table.names some)).placed)
+        kept i (names_stay (is_written (name_of file i)) (is_movable file i) (i == i) (eq-eqb i i refl) (order.sound.sections i (order.whole.section_table.names some)).placed)
 
   module _ (fits : AreFor file new) where
-    total : bytes_of bodies ≤ 5 * 2 ^ 32
+    total : bytes_of bodies ≤ 6 * 2 ^ 32
     total =
         let few : bytes_of bodies ≤ bytes_in (new_bytes new) = bodies_few file (new_bytes new) bodies made in
         let most : bytes_in (new_bytes new) ≤ length (new_bytes new) * 2 ^ 32 = bytes_few (new_bytes new) fits.fit in
@@ -134,14 +136,8 @@ module _ (file : List ℕ) (new : NewSections) (bodies : List NewBody) (made : A
     }
 
     module _ (same : SameImage (has_new_body bodies) file written) where
-      pub still_no_lists : HasNoLists file → HasNoLists written
-      still_no_lists none = λ i lt is.
-          let count : section_count written ≡ section_count file = same.headers.count in
-          let name : name_of written i ≡ name_of file i = same.names i (omega arith) in
-          none i (omega arith) (ap (λ z. bytes_eq z loclists_name) (sym name) ∙ is)
-
-      pub has_sections : AreFor file new → IsRead written Wide → HasNoLists file → All (λ (body : NewBody). body_of written body.section ≡ body.bytes.items) bodies → (section_count file ≡ 0 → written ≡ file) → (section_count file ≢ 0 → IsLaidOut file (body_after file bodies) written) → HasSections file new written
-      has_sections lacks read lists holds bare placed =
+      pub has_sections : AreFor file new → IsRead written Wide → All (λ (body : NewBody). body_of written body.section ≡ body.bytes.items) bodies → (section_count file ≡ 0 → written ≡ file) → (section_count file ≢ 0 → IsLaidOut file (body_after file bodies) written) → HasSections file new written
+      has_sections lacks read holds bare placed =
           record {
             sections = bodies_written file written same.headers.count same.names (new_bytes new) lacks.each (written_bodies file written (new_bytes new) bodies made holds);
             image = record {
@@ -150,7 +146,7 @@ module _ (file : List ℕ) (new : NewSections) (bodies : List NewBody) (made : A
               names = same.names;
               bodies = λ i lt own. same.bodies i lt (kept i own);
             };
-            order = record { image = read; names = still_no_lists lists };
+            order = read;
             placed = record { bare = bare; laid_out = λ some. laid_out (placed some) };
           }
 
@@ -158,5 +154,5 @@ module _ (file : List ℕ) (new : NewSections) (bodies : List NewBody) (made : A
 pub assembled : {T E : Type 0} (file : List ℕ) (new : NewSections) (bodies : List NewBody) (items : T → List ℕ) (result : Result T E) → AreBodiesWith file (new_bytes new) bodies → IsImageInOrder file Narrow → AreFor file new → IfOk result (λ out. section_count file ≢ 0 → IsLaidOut file (body_after file bodies) (items out)) → IfOk result (λ out. section_count file ≡ 0 → items out ≡ file) → IfOk result (λ out. KeepsNames file bodies → SameImage (has_new_body bodies) file (items out)) → IfOk result (λ out. All (λ (body : NewBody). body_of (items out) body.section ≡ body.bytes.items) bodies) → IfOk result (λ out. IsRead file Narrow → KeepsNames file bodies → AreSmall bodies → IsRead (items out) Wide) → IfOk result (λ out. HasSections file new (items out))
 assembled file new bodies items (Ok out) made order fits placed bare same holds read =
     let stay : KeepsNames file bodies = names file new bodies made order in
-    has_sections file new bodies made (items out) (same stay) fits (read order.image stay (small file new bodies made fits)) order.names holds bare placed
+    has_sections file new bodies made (items out) (same stay) fits (read order stay (small file new bodies made fits)) holds bare placed
 assembled file new bodies items (Err e) made order fits placed bare same holds read = tt

@@ -1,15 +1,14 @@
--- No declaration of a valid file has a column of a form that isn't written.
-use Rattle.std.proofs.Common.{◌≡◌, ◌<◌, ◌+◌, ◌-◌, ℕ, List, [], length, take, drop, get_or, sym, refl, subst, arith, inl, inr}
+-- No declaration of a valid file has a column that isn't written.
+use Rattle.std.proofs.Common.{◌≡◌, ◌<◌, ◌+◌, ◌-◌, ℕ, List, [], length, take, get_or, sym, refl, subst, arith, inl, inr}
 use Rattle.std.specs.List.{All}
 use Rattle.std.specs.Prelude.{pos}
 use Rattle.std.proofs.lemmas.List.{get_or-map, length-map}
 use Rattle.std.proofs.lemmas.List.Elements.{All-weaker, All-get_or, All-from_get_or, Contains-get_or}
 use Rattle.dw_base.specs.declared.fault.Kind.TheVariants.{Unbuilt}
 use Rattle.dw_base.specs.declared.fault.Reach.{Reach}
-use Rattle.abbrev_tables.specs.declared.decl.Decl.{Decl}
 use Rattle.abbrev_tables.specs.declared.decl.Spec.{Spec}
 use Rattle.abbrev_tables.specs.Tables.{Declared}
-use Rattle.abbrev_tables.specs.Listings.{Listing, decl_at, declared_in, declarations_in, AreAdjacent}
+use Rattle.abbrev_tables.specs.Listings.{Listing, decl_at, declared_in, declarations_in}
 use Rattle.abbrev_tables.specs.ListingLaws.{DeclarationsStand}
 use Rattle.entry_arena.specs.Trees.{declared_at}
 use Rattle.entry_read.specs.declared.head.UnitHead.{UnitHead}
@@ -20,11 +19,10 @@ use Rattle.unit_write.specs.Moved.{IsRoomy}
 use Rattle.value_links.specs.Sections.{debug_info, debug_abbrev, offset_named, abbrev_name}
 use Rattle.value_links.specs.Reading.{UnitRead, Reading, no_unit, unit_heads, unit_at, declarations, IsUnitRead}
 use Rattle.value_links.specs.Whole.{IsReading}
-use Rattle.value_links.specs.Faults.{IsValid, IsUnitOf, FaultTables}
+use Rattle.value_links.specs.Faults.{IsUnbuiltColumn, IsValid, IsUnitOf, FaultTables}
 use Rattle.value_links.specs.Faults.Pass.{OfUnits}
 use Rattle.value_links.specs.Laws.{IsBuilt}
 use Rattle.value_links.proofs.Fronts.{unit_of}
-use Rattle.rewriter.proofs.AllColumns.{columns_all}
 
 unit_head : (info : List ℕ) (units : List UnitRead) (u : ℕ) → Tile info (unit_heads units) → u < length units → IsUnitOf info (get_or units u no_unit).head
 unit_head info units u tile inside =
@@ -53,15 +51,17 @@ module _ (stand : DeclarationsStand) (file : List ℕ) (reach : Reach) (r : Read
 
 -- COLUMNS
 
-pub built_roomy : (d : Declared) → IsBuilt d → All IsRoomy d.columns
-built_roomy d built =
-    let none : Spec = record { name = 0; form = 0; constant = pos 0 } in
-    All-from_get_or IsRoomy d.columns none (λ k inside. (
-      (λ is. built (get_or d.columns k none, Contains-get_or d.columns k none inside, inl is)),
-      (λ is. built (get_or d.columns k none, Contains-get_or d.columns k none inside, inr is)),
-    ))
+-- a column can be written
+abbrev pub IsBuiltColumn : Spec → Type 0
+IsBuiltColumn column = IsUnbuiltColumn column → ⊥
 
--- the columns of a table from one on, where its declarations can be written
-pub all_columns_roomy : (specs : List Spec) (from : ℕ) (ds : List Decl) → AreAdjacent from ds (length specs) → All IsBuilt (declarations_in specs ds) → All IsRoomy (drop from specs)
-all_columns_roomy specs from ds adjacent built =
-    columns_all IsRoomy specs from ds adjacent (All-weaker IsBuilt (λ (d : Declared). All IsRoomy d.columns) built_roomy (declarations_in specs ds) built)
+pub built_columns : (d : Declared) → IsBuilt d → All IsBuiltColumn d.columns
+built_columns d built =
+    let none : Spec = record { name = 0; form = 0; constant = pos 0 } in
+    All-from_get_or IsBuiltColumn d.columns none (λ k inside unbuilt. built (get_or d.columns k none, Contains-get_or d.columns k none inside, unbuilt))
+
+column_roomy : (column : Spec) → IsBuiltColumn column → IsRoomy column
+column_roomy column built = (λ is. built (inl is), λ is. built (inr (inl is)))
+
+pub built_roomy : (d : Declared) → IsBuilt d → All IsRoomy d.columns
+built_roomy d built = All-weaker IsBuiltColumn IsRoomy column_roomy d.columns (built_columns d built)

@@ -31,7 +31,7 @@ not_long limit len false is short = absurd (true≢false (sym is))
 found_short : (file name : List ℕ) (i : ℕ) → is_debug_name name ≡ true → IsValid file Narrow → section_named file name ≡ Some i → (body_span file i).len ≤ 2 ^ 28
 found_short file name i debug valid found =
     let first = (sections_are_found.found file name i).0 found in
-    let short = ((image_in_order file Narrow valid).image.sound.sections i first.inside).short in
+    let short = ((image_in_order file Narrow valid).sound.sections i first.inside).short in
     not_long (2 ^ 28) (body_span file i).len (is_debug_name (name_of file i)) (ap is_debug_name first.named ∙ debug) short
 
 body_short : (file : List ℕ) (found : Option ℕ) → ((i : ℕ) → found ≡ Some i → (body_span file i).len ≤ 2 ^ 28) → length (body_or_none file found) ≤ 2 ^ 28

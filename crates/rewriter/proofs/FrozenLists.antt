@@ -1,5 +1,5 @@
 -- A list that is written anew is frozen exactly where the old one is.
-use Rattle.std.proofs.Common.{◌≡◌, ◌≢◌, ◌<◌, ◌∙◌, ◌⊎◌, inl, inr, true, false, ℕ, suc, List, [], ◌∷◌, length, get_or, sym, ap, subst, refl}
+use Rattle.std.proofs.Common.{◌≡◌, ◌≢◌, ◌<◌, ◌+◌, ◌∙◌, ◌⊎◌, inl, inr, true, false, ℕ, suc, List, [], ◌∷◌, length, get_or, sym, ap, subst, refl}
 use Rattle.std.specs.Prelude.{Bool, Option, Some, None, not, filter, if◌then◌else◌}
 use Rattle.std.proofs.lemmas.Bool.{cases_eq}
 use Rattle.list_model.specs.declared.context.Context.{Context}
@@ -7,17 +7,21 @@ use Rattle.list_model.specs.declared.tables.AddrTable.{AddrTable}
 use Rattle.list_model.specs.declared.entry.EntryKind.{EntryKind}
 use Rattle.list_model.specs.declared.entry.EntryKind.TheVariants.{BaseAddressx, StartxEndx, StartxLength, OffsetPair, DefaultLocation, BaseAddress, StartEnd, StartLength}
 use Rattle.list_model.specs.declared.entry.ListKind.{ListKind}
-use Rattle.list_model.specs.declared.entry.ListKind.TheVariants.{Ranges}
+use Rattle.list_model.specs.declared.entry.ListKind.TheVariants.{Ranges, Locations}
+use Rattle.list_model.specs.declared.entry.RawEntry.{RawEntry}
+use Rattle.list_model.specs.declared.contribution.Contribution.{Contribution}
 use Rattle.list_model.specs.declared.item.Meaning.{Meaning}
 use Rattle.list_model.specs.declared.item.Meaning.TheVariants.{Live, Dead}
 use Rattle.list_model.specs.Entries.{Entry, AreSaid}
+use Rattle.list_model.specs.Reading.{AreReadFrom}
 use Rattle.list_model.specs.Items.{Bounds, SetsBase, HasBounds, GiveFrom, Give, IsDead, sets_base}
 use Rattle.list_model.proofs.WalkLaws.{one_saying, one_walk}
 use Rattle.range_lists.proofs.RangeLaws.{spelled}
+use Rattle.loc_lists.specs.Locations.{IsRead as IsLocationRead}
 use Rattle.unit_write.specs.declared.places.Places.{Places}
-use Rattle.value_links.specs.Reading.{ListRead, Linkable, Reading, part_at, list_at, context_at}
-use Rattle.value_links.specs.Lists.{IsNamedIn, IsOwner, IsFrozen, AreTold, IsDeadIn, IsLong, item_count, long_limit}
-use Rattle.value_links.specs.World.{World, HoldsMeaning, HoldsList}
+use Rattle.value_links.specs.Reading.{ListRead, Linkable, Reading, of_kind, lists_of, part_at, list_at, context_at}
+use Rattle.value_links.specs.Lists.{IsNamedIn, IsOwner, IsFrozen, IsListOf, AreTold, IsDeadIn, IsLong, item_count, long_limit}
+use Rattle.value_links.specs.World.{World, lists_held, HoldsMeaning, HoldsList}
 use Rattle.rewriter.specs.declared.tables.NewTable.{NewTable}
 use Rattle.rewriter.specs.declared.new_places.NewPlaces.{NewPlaces}
 use Rattle.rewriter.specs.inside.ListsAnew.{IsListAnew}
@@ -96,28 +100,44 @@ decided : (r : Linkable) (kind : ListKind) (list : ListRead) (owner : Option ℕ
 decided r kind list owner (Live items) (live, _) = inr live
 decided r kind list owner Dead kept = inl kept
 
-module _ {file : List ℕ} {world : World} {tables : List NewTable} {places : List Places} {new_places : NewPlaces} {info abbrevs : List ℕ} {r s : Reading} (all : AreReadAnew file world tables places new_places info abbrevs r s) where
+-- WHAT IS READ
+
+-- what is read of a location list says its entries
+locations_said : (at : ℕ) (raws : List RawEntry) (locations : List (Entry × List ℕ)) (bytes : List ℕ) → AreReadFrom IsLocationRead at raws locations bytes → (entries : List Entry) × AreSaid Locations raws entries
+locations_said at [] [] bytes read = ([], tt)
+locations_said at [] (l ∷ locations) bytes read = absurd read
+locations_said at (raw ∷ raws) [] bytes read = absurd read
+locations_said at (raw ∷ raws) (l ∷ locations) bytes (first, rest, is, more, _) =
+    let (entries, said) = locations_said (at + length first) raws locations rest more in
+    (l.0 ∷ entries, (is.says, said))
+
+-- so does what is read of any list
+list_said : (kind : ListKind) (section : List ℕ) (part : Contribution) (at : ℕ) (raws : List RawEntry) → IsListOf kind section part at raws → (entries : List Entry) × AreSaid kind raws entries
+list_said Ranges section part at raws read =
+    let (entries, bytes, rest, said, _, _) = spelled section part at raws read in
+    (entries, said)
+list_said Locations section part at raws read = locations_said at raws read.entries read.front read.read
+
+module _ {file : List ℕ} {world : World} {tables : List NewTable} {places : List Places} {new_places : NewPlaces} {info abbrevs : List ℕ} {r s : Reading} (all : AreReadAnew file world tables places new_places info abbrevs r s) (kind : ListKind) where
   abbrev pub old_list : ℕ → ListRead
-  old_list k = list_at r.range_lists k
+  old_list k = list_at (lists_of r kind) k
 
   abbrev pub new_list : ℕ → ListRead
-  new_list k = list_at s.range_lists k
+  new_list k = list_at (lists_of s kind) k
 
   -- of each list it is known who owns it, and whether it is frozen
-  pub are_told : AreTold r.links Ranges r.range_lists
+  pub are_told : AreTold r.links kind (lists_of r kind)
   are_told k inside =
-      let held : k < length world.lists = subst (λ (z : ℕ). k < z) (sym all.holds.lists.count) inside in
-      let some = some_of world.lists k held in
-      let holds : HoldsList r.links Ranges (old_list k) (get_or world.lists k some) = all.holds.lists.each k some inside in
-      record { owner = (get_or world.lists k some).owner; owned = holds.owner; frozen = decided r.links Ranges (old_list k) (get_or world.lists k some).owner (get_or world.lists k some).meaning holds.meaning }
+      let held : k < length (lists_held world kind) = subst (λ (z : ℕ). k < z) (sym (all.holds.lists kind).count) inside in
+      let some = some_of (lists_held world kind) k held in
+      let holds : HoldsList r.links kind (old_list k) (get_or (lists_held world kind) k some) = (all.holds.lists kind).each k some inside in
+      record { owner = (get_or (lists_held world kind) k some).owner; owned = holds.owner; frozen = decided r.links kind (old_list k) (get_or (lists_held world kind) k some).owner (get_or (lists_held world kind) k some).meaning holds.meaning }
 
-  pub anew : (k : ℕ) → k < length r.range_lists → IsListAnew r s.links.ranges (old_list k) (new_list k)
-  anew k inside = all.ranges.each k inside
+  pub anew : (k : ℕ) → k < length (lists_of r kind) → IsListAnew r places kind (of_kind s.links kind) (old_list k) (new_list k)
+  anew k inside = (all.lists kind).each k inside
 
-  pub old_said : (k : ℕ) → k < length r.range_lists → (entries : List Entry) × AreSaid Ranges (old_list k).raws entries
-  old_said k inside =
-      let (entries, bytes, rest, said, _, _) = spelled r.links.ranges.section (part_at r.links.ranges (old_list k).part) (old_at all k) (old_list k).raws (all.read.ranges.each k inside).read in
-      (entries, said)
+  pub old_said : (k : ℕ) → k < length (lists_of r kind) → (entries : List Entry) × AreSaid kind (old_list k).raws entries
+  old_said k inside = list_said kind (of_kind r.links kind).section (part_at (of_kind r.links kind) (old_list k).part) (old_at all kind k) (old_list k).raws ((all.read.lists kind).each k inside).read
 
   -- what entries give in a context of the file, they give in that of the new one
   pub gives_stay : (u : ℕ) (entries : List Entry) (bounds : List Bounds) → Give r.links.addresses (context_at r.links u) entries bounds → Give s.links.addresses (context_at s.links u) entries bounds
@@ -131,19 +151,19 @@ module _ {file : List ℕ} {world : World} {tables : List NewTable} {places : Li
   -- FROZEN LISTS
 
   -- the entries of a frozen list are its own
-  pub frozen_entries : (k : ℕ) (inside : k < length r.range_lists) (old : List Entry) → AreSaid Ranges (old_list k).raws old → IsFrozen r.links Ranges (old_list k) → (anew k inside).entries ≡ old
+  pub frozen_entries : (k : ℕ) (inside : k < length (lists_of r kind)) (old : List Entry) → AreSaid kind (old_list k).raws old → IsFrozen r.links kind (old_list k) → (anew k inside).entries ≡ old
   frozen_entries k inside old said kept = ((anew k inside).same old said).frozen kept
 
-  pub frozen_stays : (k : ℕ) → k < length r.range_lists → IsFrozen r.links Ranges (old_list k) → IsFrozen s.links Ranges (new_list k)
+  pub frozen_stays : (k : ℕ) → k < length (lists_of r kind) → IsFrozen r.links kind (old_list k) → IsFrozen s.links kind (new_list k)
   frozen_stays k inside (old, said, why) =
       let is = anew k inside in
       let same : is.entries ≡ old = frozen_entries k inside old said (old, said, why) in (
         is.entries,
         is.said,
         elim why [
-          | inl d ↦ inl (record { u = d.u; named = named_stays all k d.u inside d.named; bounds = d.bounds; gives = gives_stay d.u is.entries d.bounds (subst (λ (z : List Entry). Give r.links.addresses (context_at r.links d.u) z d.bounds) (sym same) d.gives); dead = d.dead })
-          | inr (inl shared) ↦ inr (inl (shared_stays all k inside shared))
-          | inr (inr (inl none)) ↦ inr (inr (inl (unowned_stays all k inside none)))
+          | inl d ↦ inl (record { u = d.u; named = named_stays all kind k d.u inside d.named; bounds = d.bounds; gives = gives_stay d.u is.entries d.bounds (subst (λ (z : List Entry). Give r.links.addresses (context_at r.links d.u) z d.bounds) (sym same) d.gives); dead = d.dead })
+          | inr (inl shared) ↦ inr (inl (shared_stays all kind k inside shared))
+          | inr (inr (inl none)) ↦ inr (inr (inl (unowned_stays all kind k inside none)))
           | inr (inr (inr long)) ↦ inr (inr (inr (subst IsLong (sym same) long)))
         ],
       )
@@ -151,19 +171,19 @@ module _ {file : List ℕ} {world : World} {tables : List NewTable} {places : Li
   -- LISTS THAT AREN'T FROZEN
 
   -- an entry names one
-  owner_of : (k : ℕ) → k < length r.range_lists → (¬ IsFrozen r.links Ranges (old_list k)) → (owner : Option ℕ) → IsOwner r.links Ranges (old_at all k) owner → (u : ℕ) × IsOwner r.links Ranges (old_at all k) (Some u)
+  owner_of : (k : ℕ) → k < length (lists_of r kind) → (¬ IsFrozen r.links kind (old_list k)) → (owner : Option ℕ) → IsOwner r.links kind (old_at all kind k) owner → (u : ℕ) × IsOwner r.links kind (old_at all kind k) (Some u)
   owner_of k inside live (Some u) owned = (u, owned)
   owner_of k inside live None none = let (entries, said) = old_said k inside in absurd (live (entries, said, inr (inr (inl none))))
 
   -- all units that name it have one context
-  one_context : (k u v : ℕ) → k < length r.range_lists → (¬ IsFrozen r.links Ranges (old_list k)) → IsNamedIn r.links Ranges (old_at all k) u → IsNamedIn r.links Ranges (old_at all k) v → context_at r.links u ≡ context_at r.links v
+  one_context : (k u v : ℕ) → k < length (lists_of r kind) → (¬ IsFrozen r.links kind (old_list k)) → IsNamedIn r.links kind (old_at all kind k) u → IsNamedIn r.links kind (old_at all kind k) v → context_at r.links u ≡ context_at r.links v
   one_context k u v inside live one other = elim (same_or_not (context_at r.links u) (context_at r.links v)) [
     | inl same ↦ same
     | inr apart ↦ (let (entries, said) = old_said k inside in absurd (live (entries, said, inr (inl (u, v, one, other, apart)))))
   ]
 
   -- so its new entries give what its own entries give in the context of each unit that names it
-  live_gives : (k u : ℕ) (inside : k < length r.range_lists) → (¬ IsFrozen r.links Ranges (old_list k)) → IsNamedIn r.links Ranges (old_at all k) u → (old : List Entry) (bounds : List Bounds) → AreSaid Ranges (old_list k).raws old → Give r.links.addresses (context_at r.links u) old bounds → Give r.links.addresses (context_at r.links u) (anew k inside).entries bounds
+  live_gives : (k u : ℕ) (inside : k < length (lists_of r kind)) → (¬ IsFrozen r.links kind (old_list k)) → IsNamedIn r.links kind (old_at all kind k) u → (old : List Entry) (bounds : List Bounds) → AreSaid kind (old_list k).raws old → Give r.links.addresses (context_at r.links u) old bounds → Give r.links.addresses (context_at r.links u) (anew k inside).entries bounds
   live_gives k u inside live named old bounds said gives =
       let told = are_told k inside in
       let (v, owned) = owner_of k inside live told.owner told.owned in
@@ -172,57 +192,57 @@ module _ {file : List ℕ} {world : World} {tables : List NewTable} {places : Li
       subst (λ (z : Context). Give r.links.addresses z (anew k inside).entries bounds) (sym same) now
 
   -- the new entries of any list do
-  pub new_gives : (k u : ℕ) (inside : k < length r.range_lists) → IsNamedIn r.links Ranges (old_at all k) u → (old : List Entry) (bounds : List Bounds) → AreSaid Ranges (old_list k).raws old → Give r.links.addresses (context_at r.links u) old bounds → Give r.links.addresses (context_at r.links u) (anew k inside).entries bounds
+  pub new_gives : (k u : ℕ) (inside : k < length (lists_of r kind)) → IsNamedIn r.links kind (old_at all kind k) u → (old : List Entry) (bounds : List Bounds) → AreSaid kind (old_list k).raws old → Give r.links.addresses (context_at r.links u) old bounds → Give r.links.addresses (context_at r.links u) (anew k inside).entries bounds
   new_gives k u inside named old bounds said gives = elim (are_told k inside).frozen [
     | inl kept ↦ subst (λ (z : List Entry). Give r.links.addresses (context_at r.links u) z bounds) (sym (frozen_entries k inside old said kept)) gives
     | inr live ↦ live_gives k u inside live named old bounds said gives
   ]
 
   -- it isn't dead
-  live_dead : (k : ℕ) (inside : k < length r.range_lists) → (¬ IsFrozen r.links Ranges (old_list k)) → IsDeadIn s.links Ranges (new_at all k) (anew k inside).entries → ⊥
+  live_dead : (k : ℕ) (inside : k < length (lists_of r kind)) → (¬ IsFrozen r.links kind (old_list k)) → IsDeadIn s.links kind (new_at all kind k) (anew k inside).entries → ⊥
   live_dead k inside live d =
-      let named = was_named all k d.u inside d.named in
-      let (old, bounds, said, gives) = all.read.ranges.looked k d.u inside named in
+      let named = was_named all kind k d.u inside d.named in
+      let (old, bounds, said, gives) = (all.read.lists kind).looked k d.u inside named in
       let now = new_gives k d.u inside named old bounds said gives in
       let same : d.bounds ≡ bounds = one_walk r.links.addresses (context_at r.links d.u) (anew k inside).entries d.bounds bounds (gave d.u (anew k inside).entries d.bounds d.gives) now in
       live (old, said, inl (record { u = d.u; named = named; bounds = bounds; gives = gives; dead = subst IsDead same d.dead }))
 
   -- nor is it long
-  live_long : (k : ℕ) (inside : k < length r.range_lists) → (¬ IsFrozen r.links Ranges (old_list k)) → IsLong (anew k inside).entries → ⊥
+  live_long : (k : ℕ) (inside : k < length (lists_of r kind)) → (¬ IsFrozen r.links kind (old_list k)) → IsLong (anew k inside).entries → ⊥
   live_long k inside live long =
       let told = are_told k inside in
       let (v, owned) = owner_of k inside live told.owner told.owned in
-      let (old, bounds, said, gives) = all.read.ranges.looked k v inside owned.0 in
+      let (old, bounds, said, gives) = (all.read.lists kind).looked k v inside owned.0 in
       let now = new_gives k v inside owned.0 old bounds said gives in
       let same : item_count (anew k inside).entries ≡ item_count old = same_count r.links.addresses (context_at r.links v) old (anew k inside).entries bounds gives now in
       live (old, said, inr (inr (inr (subst (λ (z : ℕ). long_limit < z) same long))))
 
-  live_stays : (k : ℕ) → k < length r.range_lists → (¬ IsFrozen r.links Ranges (old_list k)) → IsFrozen s.links Ranges (new_list k) → ⊥
+  live_stays : (k : ℕ) → k < length (lists_of r kind) → (¬ IsFrozen r.links kind (old_list k)) → IsFrozen s.links kind (new_list k) → ⊥
   live_stays k inside live (entries, said, why) =
       let is = anew k inside in
-      let same : entries ≡ is.entries = one_saying Ranges (new_list k).raws entries is.entries said is.said in
+      let same : entries ≡ is.entries = one_saying kind (new_list k).raws entries is.entries said is.said in
       let (old, was) = old_said k inside in
       elim why [
-        | inl d ↦ live_dead k inside live (subst (IsDeadIn s.links Ranges (new_at all k)) same d)
-        | inr (inl shared) ↦ live (old, was, inr (inl (was_shared all k inside shared)))
-        | inr (inr (inl none)) ↦ live (old, was, inr (inr (inl (was_unowned all k inside none))))
+        | inl d ↦ live_dead k inside live (subst (IsDeadIn s.links kind (new_at all kind k)) same d)
+        | inr (inl shared) ↦ live (old, was, inr (inl (was_shared all kind k inside shared)))
+        | inr (inr (inl none)) ↦ live (old, was, inr (inr (inl (was_unowned all kind k inside none))))
         | inr (inr (inr long)) ↦ live_long k inside live (subst IsLong same long)
       ]
 
-  pub was_frozen : (k : ℕ) → k < length r.range_lists → IsFrozen s.links Ranges (new_list k) → IsFrozen r.links Ranges (old_list k)
+  pub was_frozen : (k : ℕ) → k < length (lists_of r kind) → IsFrozen s.links kind (new_list k) → IsFrozen r.links kind (old_list k)
   was_frozen k inside now = elim (are_told k inside).frozen [
     | inl kept ↦ kept
     | inr live ↦ absurd (live_stays k inside live now)
   ]
 
   -- all of this is known of the new lists too
-  pub told_stays : AreTold s.links Ranges s.range_lists
+  pub told_stays : AreTold s.links kind (lists_of s kind)
   told_stays k there =
-      let inside : k < length r.range_lists = subst (λ (z : ℕ). k < z) all.ranges.count there in
+      let inside : k < length (lists_of r kind) = subst (λ (z : ℕ). k < z) (all.lists kind).count there in
       let told = are_told k inside in
       record {
         owner = told.owner;
-        owned = owner_stays all k told.owner inside told.owned;
+        owned = owner_stays all kind k told.owner inside told.owned;
         frozen = elim told.frozen [
           | inl kept ↦ inl (frozen_stays k inside kept)
           | inr live ↦ inr (λ now. live (was_frozen k inside now))

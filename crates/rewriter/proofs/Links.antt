@@ -7,7 +7,7 @@ use Rattle.entry_arena.specs.declared.entry.Target.{Target}
 use Rattle.entry_read.specs.Units.{HeadAndForest}
 use Rattle.list_model.specs.declared.contribution.Contribution.{Contribution}
 use Rattle.list_model.specs.declared.entry.ListKind.{ListKind}
-use Rattle.list_model.specs.declared.entry.ListKind.TheVariants.{Ranges}
+use Rattle.list_model.specs.declared.entry.ListKind.TheVariants.{Ranges, Locations}
 use Rattle.list_model.specs.Contributions.{offsets_at}
 use Rattle.list_write.specs.Written.{part_at, moved_at}
 use Rattle.unit_write.specs.declared.places.Places.{Places}
@@ -15,15 +15,15 @@ use Rattle.value_links.specs.declared.link.Link.{Link}
 use Rattle.value_links.specs.declared.link.Link.TheVariants.{Place, Lines, List as AtList, Base, Kept as KeptPlace}
 use Rattle.value_links.specs.Attributes.{OffsetClass, offset_class}
 use Rattle.value_links.specs.Attributes.OffsetClass.{LinePtr, RngList, LocList, RngListsPtr, LocListsPtr, AddrPtr, StrOffsetsPtr, MacPtr, Views, NoOffset}
-use Rattle.value_links.specs.Reading.{Linkable, Reading, ProgramRead, unit_at, list_at}
+use Rattle.value_links.specs.Reading.{Linkable, Reading, ProgramRead, of_kind, lists_of, unit_at, list_at}
 use Rattle.value_links.specs.Linked.{Linked, IsTargetAt, IsLocalTarget, IsSectionTarget, OffsetLinks, Links}
 use Rattle.value_links.specs.Linked.Linked.{Program, ListAt, BaseOf, Kept}
 use Rattle.value_links.specs.Links.{IsLinkOf, IsLinkFound}
-use Rattle.value_links.specs.World.{World, Holds}
+use Rattle.value_links.specs.World.{World, contributions_held, lists_held, Holds}
 use Rattle.rewriter.specs.declared.new_places.ListPlaces.{ListPlaces}
 use Rattle.rewriter.specs.declared.new_places.NewPlaces.{NewPlaces}
 use Rattle.rewriter.specs.inside.Placed.{PlacesAnew, places_anew, places_at, unit_in}
-use Rattle.rewriter.specs.inside.NewPlaces.{IsMovedTo, IsNewOffset, IsOffsetAnew}
+use Rattle.rewriter.specs.inside.NewPlaces.{moved_lists, IsMovedTo, IsNewOffset, IsOffsetAnew}
 use Rattle.rewriter.specs.inside.Numbers.{MovesTo}
 use Rattle.rewriter.specs.inside.Held.{HavePlaces, AllHavePlaces, AreListPlaces}
 use Rattle.rewriter.proofs.Standing.{held_unit, held_count}
@@ -92,20 +92,20 @@ section_moved file world r places u n new holds inside m =
 
 -- SECTION OFFSETS
 
--- a section offset names a program, a range list or a contribution of these, or is kept
+-- a section offset names a program, a list or a contribution of lists, or is kept
 abbrev OffsetParts : Linkable → ℕ → Linked → Type 0
 OffsetParts r n linked =
     ((p : ℕ) × (p < length r.programs) × (linked ≡ Program p))
-    ⊎ ((linked ≡ ListAt Ranges n)
-    ⊎ (((p : ℕ) × (p < length r.ranges.parts) × (linked ≡ BaseOf Ranges p))
+    ⊎ (((kind : ListKind) × (linked ≡ ListAt kind n))
+    ⊎ (((kind : ListKind) × (p : ℕ) × (p < length (of_kind r kind).parts) × (linked ≡ BaseOf kind p))
     ⊎ (linked ≡ Kept n)))
 
 offset_parts : (r : Linkable) (u id n : ℕ) (class : OffsetClass) (linked : Linked) → OffsetLinks r u id class n linked → OffsetParts r n linked
 offset_parts r u id n LinePtr linked (p, is, e) = inl (p, is.0, e)
-offset_parts r u id n RngList linked (is, e) = inr (inl e)
-offset_parts r u id n LocList linked ((p, is), e) = absurd (let none : p < 0 = is.0 in omega arith)
-offset_parts r u id n RngListsPtr linked (p, is, e) = inr (inr (inl (p, is.0, e)))
-offset_parts r u id n LocListsPtr linked (p, is, e) = absurd (let none : p < 0 = is.0 in omega arith)
+offset_parts r u id n RngList linked (is, e) = inr (inl (Ranges, e))
+offset_parts r u id n LocList linked (is, e) = inr (inl (Locations, e))
+offset_parts r u id n RngListsPtr linked (p, is, e) = inr (inr (inl (Ranges, p, is.0, e)))
+offset_parts r u id n LocListsPtr linked (p, is, e) = inr (inr (inl (Locations, p, is.0, e)))
 offset_parts r u id n AddrPtr linked (is, e) = inr (inr (inr e))
 offset_parts r u id n StrOffsetsPtr linked links = inr (inr (inr links))
 offset_parts r u id n MacPtr linked links = inr (inr (inr links))
@@ -116,16 +116,16 @@ offset_parts r u id n NoOffset linked links = absurd links
 abbrev OffsetFound : Linkable → ℕ → Link → Linked → Type 0
 OffsetFound r n link linked =
     ((p : ℕ) × (p < length r.programs) × (linked ≡ Program p) × (link ≡ Lines p))
-    ⊎ (((linked ≡ ListAt Ranges n) × (link ≡ AtList Ranges n))
-    ⊎ (((p : ℕ) × (p < length r.ranges.parts) × (linked ≡ BaseOf Ranges p) × (link ≡ Base Ranges p))
+    ⊎ (((kind : ListKind) × (linked ≡ ListAt kind n) × (link ≡ AtList kind n))
+    ⊎ (((kind : ListKind) × (p : ℕ) × (p < length (of_kind r kind).parts) × (linked ≡ BaseOf kind p) × (link ≡ Base kind p))
     ⊎ ((linked ≡ Kept n) × (link ≡ KeptPlace n))))
 
 offset_found : (r : Linkable) (u id name n : ℕ) (link : Link) (found : IsLinkFound r u id name (SectionPlace n) (Some link)) → OffsetFound r n link found.0
 offset_found r u id name n link (linked, links, tells) =
     elim (offset_parts r u id n (offset_class name) linked links) [
       | inl (p, inside, is) ↦ inl (p, inside, is, subst (λ (z : Linked). IsLinkOf z link) is tells)
-      | inr (inl is) ↦ inr (inl (is, subst (λ (z : Linked). IsLinkOf z link) is tells))
-      | inr (inr (inl (p, inside, is))) ↦ inr (inr (inl (p, inside, is, subst (λ (z : Linked). IsLinkOf z link) is tells)))
+      | inr (inl (kind, is)) ↦ inr (inl (kind, is, subst (λ (z : Linked). IsLinkOf z link) is tells))
+      | inr (inr (inl (kind, p, inside, is))) ↦ inr (inr (inl (kind, p, inside, is, subst (λ (z : Linked). IsLinkOf z link) is tells)))
       | inr (inr (inr is)) ↦ inr (inr (inr (is, subst (λ (z : Linked). IsLinkOf z link) is tells)))
     ]
 
@@ -133,8 +133,8 @@ pub offset_link : (r : Linkable) (u id name n : ℕ) (link : Link) → IsLinkFou
 offset_link r u id name n link found no_lines no_list no_base no_place =
     elim (offset_found r u id name n link found) [
       | inl (p, inside, is, lines) ↦ no_lines p lines
-      | inr (inl (is, list)) ↦ no_list Ranges n list
-      | inr (inr (inl (p, inside, is, base))) ↦ no_base Ranges p base
+      | inr (inl (kind, is, list)) ↦ no_list kind n list
+      | inr (inr (inl (kind, p, inside, is, base))) ↦ no_base kind p base
       | inr (inr (inr (is, kept))) ↦ no_place n kept
     ]
 
@@ -143,26 +143,30 @@ lines_tell : (r : Linkable) (u id name n p : ℕ) (found : IsLinkFound r u id na
 lines_tell r u id name n p found =
     elim (offset_found r u id name n (Lines p) found) [
       | inl (q, inside, is, lines) ↦ (let same : q ≡ p = cc in (subst (λ (z : ℕ). z < length r.programs) same inside, is ∙ ap (λ (z : ℕ). Program z) same))
-      | inr (inl (is, list)) ↦ absurd (cc)
-      | inr (inr (inl (q, inside, is, base))) ↦ absurd (cc)
+      | inr (inl (k, is, list)) ↦ absurd (cc)
+      | inr (inr (inl (k, q, inside, is, base))) ↦ absurd (cc)
       | inr (inr (inr (is, kept))) ↦ absurd (cc)
     ]
 
-list_tells : (r : Linkable) (u id name n m : ℕ) (kind : ListKind) (found : IsLinkFound r u id name (SectionPlace n) (Some (AtList kind m))) → (kind ≡ Ranges) × (found.0 ≡ ListAt Ranges n)
+list_tells : (r : Linkable) (u id name n m : ℕ) (kind : ListKind) (found : IsLinkFound r u id name (SectionPlace n) (Some (AtList kind m))) → found.0 ≡ ListAt kind n
 list_tells r u id name n m kind found =
     elim (offset_found r u id name n (AtList kind m) found) [
       | inl (q, inside, is, lines) ↦ absurd (cc)
-      | inr (inl (is, list)) ↦ (cc, is)
-      | inr (inr (inl (q, inside, is, base))) ↦ absurd (cc)
+      | inr (inl (k, is, list)) ↦ (let same : k ≡ kind = cc in is ∙ ap (λ (z : ListKind). ListAt z n) same)
+      | inr (inr (inl (k, q, inside, is, base))) ↦ absurd (cc)
       | inr (inr (inr (is, kept))) ↦ absurd (cc)
     ]
 
-base_tells : (r : Linkable) (u id name n p : ℕ) (kind : ListKind) (found : IsLinkFound r u id name (SectionPlace n) (Some (Base kind p))) → (kind ≡ Ranges) × (p < length r.ranges.parts) × (found.0 ≡ BaseOf Ranges p)
+base_tells : (r : Linkable) (u id name n p : ℕ) (kind : ListKind) (found : IsLinkFound r u id name (SectionPlace n) (Some (Base kind p))) → (p < length (of_kind r kind).parts) × (found.0 ≡ BaseOf kind p)
 base_tells r u id name n p kind found =
     elim (offset_found r u id name n (Base kind p) found) [
       | inl (q, inside, is, lines) ↦ absurd (cc)
-      | inr (inl (is, list)) ↦ absurd (cc)
-      | inr (inr (inl (q, inside, is, base))) ↦ (let same : q ≡ p = cc in (cc, subst (λ (z : ℕ). z < length r.ranges.parts) same inside, is ∙ ap (λ (z : ℕ). BaseOf Ranges z) same))
+      | inr (inl (k, is, list)) ↦ absurd (cc)
+      | inr (inr (inl (k, q, inside, is, base))) ↦
+          let of : k ≡ kind = cc in
+          let same : q ≡ p = cc in
+          let own : q < length (of_kind r kind).parts = subst (λ (z : ListKind). q < length (of_kind r z).parts) of inside in
+          (subst (λ (z : ℕ). z < length (of_kind r kind).parts) same own, is ∙ ap (λ (z : ListKind). BaseOf z q) of ∙ ap (λ (z : ℕ). BaseOf kind z) same)
       | inr (inr (inr (is, kept))) ↦ absurd (cc)
     ]
 
@@ -170,31 +174,25 @@ kept_tells : (r : Linkable) (u id name n m : ℕ) (found : IsLinkFound r u id na
 kept_tells r u id name n m found =
     elim (offset_found r u id name n (KeptPlace m) found) [
       | inl (q, inside, is, lines) ↦ absurd (cc)
-      | inr (inl (is, list)) ↦ absurd (cc)
-      | inr (inr (inl (q, inside, is, base))) ↦ absurd (cc)
+      | inr (inl (k, is, list)) ↦ absurd (cc)
+      | inr (inr (inl (k, q, inside, is, base))) ↦ absurd (cc)
       | inr (inr (inr (is, kept))) ↦ is
     ]
 
 pub lines_inside : (r : Linkable) (u id name n p : ℕ) → IsLinkFound r u id name (SectionPlace n) (Some (Lines p)) → p < length r.programs
 lines_inside r u id name n p found = (lines_tell r u id name n p found).0
 
-pub base_kind : (r : Linkable) (u id name n p : ℕ) (kind : ListKind) → IsLinkFound r u id name (SectionPlace n) (Some (Base kind p)) → kind ≡ Ranges
-base_kind r u id name n p kind found = (base_tells r u id name n p kind found).0
+pub base_inside : (r : Linkable) (u id name n p : ℕ) (kind : ListKind) → IsLinkFound r u id name (SectionPlace n) (Some (Base kind p)) → p < length (of_kind r kind).parts
+base_inside r u id name n p kind found = (base_tells r u id name n p kind found).0
 
-pub base_inside : (r : Linkable) (u id name n p : ℕ) (kind : ListKind) → IsLinkFound r u id name (SectionPlace n) (Some (Base kind p)) → p < length r.ranges.parts
-base_inside r u id name n p kind found = (base_tells r u id name n p kind found).1
-
-pub list_kind : (r : Linkable) (u id name n m : ℕ) (kind : ListKind) → IsLinkFound r u id name (SectionPlace n) (Some (AtList kind m)) → kind ≡ Ranges
-list_kind r u id name n m kind found = (list_tells r u id name n m kind found).0
-
-pub list_links : (r : Linkable) (u id name n m : ℕ) (kind : ListKind) → IsLinkFound r u id name (SectionPlace n) (Some (AtList kind m)) → Links r u id name (SectionPlace n) (ListAt Ranges n)
-list_links r u id name n m kind found = subst (λ (z : Linked). Links r u id name (SectionPlace n) z) (list_tells r u id name n m kind found).1 found.1
+pub list_links : (r : Linkable) (u id name n m : ℕ) (kind : ListKind) → IsLinkFound r u id name (SectionPlace n) (Some (AtList kind m)) → Links r u id name (SectionPlace n) (ListAt kind n)
+list_links r u id name n m kind found = subst (λ (z : Linked). Links r u id name (SectionPlace n) z) (list_tells r u id name n m kind found) found.1
 
 pub held_programs : (file : List ℕ) (world : World) (r : Reading) → Holds file world r → length world.programs ≡ length r.links.programs
 held_programs file world r holds = ap length holds.programs ∙ length-map r.links.programs (λ (p : ProgramRead). p.head)
 
-pub held_parts : (file : List ℕ) (world : World) (r : Reading) → Holds file world r → length world.contributions ≡ length r.links.ranges.parts
-held_parts file world r holds = ap (λ (z : List Contribution). length z) holds.contributions
+pub held_parts : (file : List ℕ) (world : World) (r : Reading) (kind : ListKind) → Holds file world r → length (contributions_held world kind) ≡ length (of_kind r.links kind).parts
+held_parts file world r kind holds = ap (λ (z : List Contribution). length z) (holds.contributions kind)
 
 -- something of a list that has something
 pub some_of : {X : Type 0} (xs : List X) (k : ℕ) → k < length xs → X
@@ -202,20 +200,20 @@ some_of [] k inside = absurd (omega arith)
 some_of (x ∷ xs) k inside = x
 
 -- a list that is read began where it was moved from
-pub held_list : (file : List ℕ) (world : World) (r : Reading) (places : ListPlaces) (k : ℕ) → Holds file world r → AreListPlaces world places → k < length r.range_lists → (k < length places.lists.items) × ((moved_at places.lists.items k).old ≡ (list_at r.range_lists k).at)
-held_list file world r places k holds are inside =
-    let count : length world.lists ≡ length r.range_lists = holds.lists.count in
-    let size : length places.lists.items ≡ length world.lists = are.lists in
-    let held : k < length world.lists = omega arith in
-    let some = some_of world.lists k held in
-    (omega arith, are.from k some held ∙ (holds.lists.each k some inside).at)
+pub held_list : (file : List ℕ) (world : World) (r : Reading) (kind : ListKind) (places : ListPlaces) (k : ℕ) → Holds file world r → AreListPlaces world kind places → k < length (lists_of r kind) → (k < length places.lists.items) × ((moved_at places.lists.items k).old ≡ (list_at (lists_of r kind) k).at)
+held_list file world r kind places k holds are inside =
+    let count : length (lists_held world kind) ≡ length (lists_of r kind) = (holds.lists kind).count in
+    let size : length places.lists.items ≡ length (lists_held world kind) = are.lists in
+    let held : k < length (lists_held world kind) = omega arith in
+    let some = some_of (lists_held world kind) k held in
+    (omega arith, are.from k some held ∙ ((holds.lists kind).each k some inside).at)
 
 -- a contribution that a section offset names is at its new place
-pub part_there : (file : List ℕ) (world : World) (r : Reading) (places : ListPlaces) (u id name n p : ℕ) (kind : ListKind) → Holds file world r → AreListPlaces world places → IsLinkFound r.links u id name (SectionPlace n) (Some (Base kind p)) → p < length places.parts.items
-part_there file world r places u id name n p kind holds are found =
-    let inside : p < length r.links.ranges.parts = base_inside r.links u id name n p kind found in
-    let count : length world.contributions ≡ length r.links.ranges.parts = held_parts file world r holds in
-    let size : length places.parts.items ≡ length world.contributions = are.parts in
+pub part_there : (file : List ℕ) (world : World) (r : Reading) (kind : ListKind) (places : ListPlaces) (u id name n p : ℕ) → Holds file world r → AreListPlaces world kind places → IsLinkFound r.links u id name (SectionPlace n) (Some (Base kind p)) → p < length places.parts.items
+part_there file world r kind places u id name n p holds are found =
+    let inside : p < length (of_kind r.links kind).parts = base_inside r.links u id name n p kind found in
+    let count : length (contributions_held world kind) ≡ length (of_kind r.links kind).parts = held_parts file world r kind holds in
+    let size : length places.parts.items ≡ length (contributions_held world kind) = are.parts in
     omega arith
 
 pub part_read : (parts : List Contribution) (p : ℕ) (part : Contribution) → p < length parts → part ≡ get_or parts p part → part ≡ part_at parts p
@@ -228,11 +226,11 @@ new_offset r u id name n link places new linked found is here = (found.0, found.
 pub new_lines : (r : Linkable) (u id name n p : ℕ) (places : NewPlaces) (new : ℕ) → p < length places.programs.items → new ≡ slice_index places.programs.items p → IsLinkFound r u id name (SectionPlace n) (Some (Lines p)) → IsOffsetAnew r places u id name n new
 new_lines r u id name n p places new inside here found = new_offset r u id name n (Lines p) places new (Program p) found (lines_tell r u id name n p found).1 (inside, here)
 
-pub new_list : (r : Linkable) (u id name n m : ℕ) (kind : ListKind) (places : NewPlaces) (new : ℕ) → IsMovedTo places.ranges n new → IsLinkFound r u id name (SectionPlace n) (Some (AtList kind m)) → IsOffsetAnew r places u id name n new
-new_list r u id name n m kind places new moved found = new_offset r u id name n (AtList kind m) places new (ListAt Ranges n) found (list_tells r u id name n m kind found).1 moved
+pub new_list : (r : Linkable) (u id name n m : ℕ) (kind : ListKind) (places : NewPlaces) (new : ℕ) → IsMovedTo (moved_lists places kind) n new → IsLinkFound r u id name (SectionPlace n) (Some (AtList kind m)) → IsOffsetAnew r places u id name n new
+new_list r u id name n m kind places new moved found = new_offset r u id name n (AtList kind m) places new (ListAt kind n) found (list_tells r u id name n m kind found) moved
 
-pub new_base : (r : Linkable) (u id name n p : ℕ) (kind : ListKind) (places : NewPlaces) (new : ℕ) → p < length places.ranges.parts.items → new ≡ offsets_at (part_at places.ranges.parts.items p).at → IsLinkFound r u id name (SectionPlace n) (Some (Base kind p)) → IsOffsetAnew r places u id name n new
-new_base r u id name n p kind places new inside here found = new_offset r u id name n (Base kind p) places new (BaseOf Ranges p) found (base_tells r u id name n p kind found).2 (inside, here)
+pub new_base : (r : Linkable) (u id name n p : ℕ) (kind : ListKind) (places : NewPlaces) (new : ℕ) → p < length (moved_lists places kind).parts.items → new ≡ offsets_at (part_at (moved_lists places kind).parts.items p).at → IsLinkFound r u id name (SectionPlace n) (Some (Base kind p)) → IsOffsetAnew r places u id name n new
+new_base r u id name n p kind places new inside here found = new_offset r u id name n (Base kind p) places new (BaseOf kind p) found (base_tells r u id name n p kind found).1 (inside, here)
 
 pub new_kept : (r : Linkable) (u id name n m : ℕ) (places : NewPlaces) → IsLinkFound r u id name (SectionPlace n) (Some (KeptPlace m)) → IsOffsetAnew r places u id name n n
 new_kept r u id name n m places found = new_offset r u id name n (KeptPlace m) places n (Kept n) found (kept_tells r u id name n m found) refl

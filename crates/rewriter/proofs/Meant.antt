@@ -25,8 +25,8 @@ use Rattle.entry_read.specs.Places.{HaveOwners}
 use Rattle.entry_read.proofs.Declarations.{columns_inside, count_same, declared_is}
 use Rattle.entry_read.proofs.OwnerLaws.{values_belong}
 use Rattle.value_links.specs.Sections.{debug_info, debug_abbrev}
-use Rattle.list_model.specs.declared.entry.ListKind.TheVariants.{Ranges}
-use Rattle.value_links.specs.Reading.{UnitRead, ListRead, Reading, no_unit, declarations, unit_at, list_at, IsUnitRead}
+use Rattle.list_model.specs.declared.entry.ListKind.{ListKind}
+use Rattle.value_links.specs.Reading.{UnitRead, ListRead, Reading, lists_of, no_unit, declarations, unit_at, list_at, IsUnitRead}
 use Rattle.value_links.specs.Whole.{IsReading}
 use Rattle.value_links.specs.Linked.{Linked, Links}
 use Rattle.value_links.specs.Linked.Linked.{ListAt}
@@ -152,10 +152,10 @@ attribute_means info abbrevs r u id j unit is means inside below =
     (at.0.1, subst (λ (v : Value). Resolves r u id (spec_at (unit_at r.links u).table.specs ((decl_at (unit_at r.links u).table.decls e.decl).first + j)).name (meant_in (unit_at r.links u).forest.section v) at.0.1) (value_same info abbrevs (unit_at r.links u) is id inside j below) named)
 
 -- a list that a value means is one of those that are read
-list_read : (r : Reading) (n : ℕ) (v : Resolved) → ResolvesLink r (ListAt Ranges n) v → (k : ℕ) × (k < length r.range_lists) × ((list_at r.range_lists k).at ≡ n)
-list_read r n v (meaning, means, e) =
+list_read : (r : Reading) (kind : ListKind) (n : ℕ) (v : Resolved) → ResolvesLink r (ListAt kind n) v → (k : ℕ) × (k < length (lists_of r kind)) × ((list_at (lists_of r kind) k).at ≡ n)
+list_read r kind n v (meaning, means, e) =
     let (k, inside, is) = means.one in
-    (k, inside, ap (λ (l : ListRead). l.at) (get_or_default r.range_lists k (record { at = 0; part = 0; raws = [] }) means.list inside ∙ is) ∙ means.here)
+    (k, inside, ap (λ (l : ListRead). l.at) (get_or_default (lists_of r kind) k (record { at = 0; part = 0; raws = [] }) means.list inside ∙ is) ∙ means.here)
 
 -- a value means what that means to which it refers
 means_it : (file : List ℕ) (r : Reading) (u id name : ℕ) (meaning : Meaning) (v : Resolved) (linked : Linked) → IsReading file r → u < length r.links.units → Resolves r u id name meaning v → Links r.links u id name meaning linked → ResolvesLink r linked v
@@ -201,7 +201,7 @@ module _ (world : World) (u : ℕ) (reach : Reach) (is : IsWorldOf world.image r
     values = (owners (debug_info world.image) (debug_abbrev world.image) (unit_at is.r.links u) unit_is).inside id inside;
     means = λ column below.
         let m = attribute_means (debug_info world.image) (debug_abbrev world.image) is.r u id column (slice_index_or is.debug.units u (record { unit_type = 0; signature = 0; type_entry = None; forest = [] })) unit_is means_unit inside below in
-        record { file = world.image; r = is.r; holds = is.holds; id = id; linked = m.1.linked; links = m.1.links; listed = λ n links. list_read is.r n m.0 (means_it world.image is.r u id _ _ m.0 (ListAt Ranges n) is.read inside_read m.1 links); fits = offset_fits (debug_info world.image) (debug_abbrev world.image) (unit_at is.r.links u) unit_is id inside column below };
+        record { file = world.image; r = is.r; holds = is.holds; id = id; linked = m.1.linked; links = m.1.links; listed = λ kind n links. list_read is.r kind n m.0 (means_it world.image is.r u id _ _ m.0 (ListAt kind n) is.read inside_read m.1 links); fits = offset_fits (debug_info world.image) (debug_abbrev world.image) (unit_at is.r.links u) unit_is id inside column below };
   }
 
   pub unit_means : UnitMeans world u

@@ -5,17 +5,17 @@ use Rattle.std.proofs.lemmas.List.Elements.{All-get_or}
 use Rattle.form_codec.specs.Forms.{Meaning}
 use Rattle.form_codec.specs.Forms.Meaning.{Expression, InUnit, InSection, SectionPlace}
 use Rattle.list_model.specs.declared.contribution.Contribution.{Contribution}
-use Rattle.list_model.specs.declared.entry.ListKind.TheVariants.{Ranges}
+use Rattle.list_model.specs.declared.entry.ListKind.{ListKind}
+use Rattle.list_model.specs.declared.entry.ListKind.TheVariants.{Ranges, Locations}
 use Rattle.list_model.specs.Contributions.{offsets_at, part_end, IsContribution, ContributionsTile}
 use Rattle.list_model.proofs.Tiling.{part_inside, each_part, before}
 use Rattle.list_write.specs.Written.{part_at as new_part_at}
 use Rattle.unit_write.specs.declared.places.Places.{Places}
 use Rattle.unit_write.specs.Values.{renewed}
-use Rattle.value_links.specs.Attributes.{rnglists_base}
-use Rattle.value_links.specs.Reading.{ListSection, Linkable, Reading, unit_at, part_at}
+use Rattle.value_links.specs.Reading.{ListSection, Linkable, Reading, unit_at, of_kind, part_at}
 use Rattle.value_links.specs.Values.{IsFirstBase, root_of}
-use Rattle.value_links.specs.ListPlaces.{IsOffsetsAt, IsBaseOf}
-use Rattle.value_links.specs.Linked.{Linked}
+use Rattle.value_links.specs.ListPlaces.{IsOffsetsAt, base_of, IsBaseOf}
+use Rattle.value_links.specs.Linked.{Linked, Links}
 use Rattle.value_links.specs.Linked.Linked.{BaseOf}
 use Rattle.value_links.specs.World.{World}
 use Rattle.value_links.proofs.Bases.{IsBase, is_base, split_first, behind, none_first, one_base}
@@ -117,7 +117,7 @@ module _ (r : Linkable) (places : List Places) (new_places : NewPlaces) (u id na
   all_bases (a ∷ olds) [] moves = absurd moves
   all_bases (a ∷ olds) (b ∷ news) (move, moves) = (are_bases a b move, all_bases olds news moves)
 
--- THE BASE OF RANGE LISTS
+-- THE BASE OF LISTS
 
 -- offsets of different contributions begin at different places
 part_once : (section : ListSection) → ContributionsTile section.section section.parts → (n p q : ℕ) → IsOffsetsAt section n p → IsOffsetsAt section n q → p ≡ q
@@ -143,36 +143,43 @@ module _ {file : List ℕ} {world : World} {tables : List NewTable} {places : Li
       let some = (all_values _ _ (unit_at r.links u) (unit_is all.read all.holds all.tables_written u inside)).some in
       attributes_moved all u 0 inside some
 
-  root_bases : (u : ℕ) → u < length r.links.units → AllZip (AreBases rnglists_base (BaseMoves r.links places new_places u 0 rnglists_base)) (root_of (unit_at r.links u)).attributes (root_of (unit_at s.links u)).attributes
-  root_bases u inside = all_bases r.links places new_places u 0 rnglists_base (root_of (unit_at r.links u)).attributes (root_of (unit_at s.links u)).attributes (root_moves u inside)
+-- what a root names by its base is a contribution
+base_links : (r : Linkable) (kind : ListKind) (u id n : ℕ) (linked : Linked) → Links r u id (base_of kind) (SectionPlace n) linked → (p : ℕ) × IsOffsetsAt (of_kind r kind) n p × (linked ≡ BaseOf kind p)
+base_links r Ranges u id n linked links = links
+base_links r Locations u id n linked links = links
+
+module _ {file : List ℕ} {world : World} {tables : List NewTable} {places : List Places} {new_places : NewPlaces} {info abbrevs : List ℕ} {r s : Reading} (all : AreReadAnew file world tables places new_places info abbrevs r s) (kind : ListKind) where
+  root_bases : (u : ℕ) → u < length r.links.units → AllZip (AreBases (base_of kind) (BaseMoves r.links places new_places u 0 (base_of kind))) (root_of (unit_at r.links u)).attributes (root_of (unit_at s.links u)).attributes
+  root_bases u inside = all_bases r.links places new_places u 0 (base_of kind) (root_of (unit_at r.links u)).attributes (root_of (unit_at s.links u)).attributes (root_moves all u inside)
 
   -- where the offsets of a contribution began, and where they begin
   pub record AreOffsetsMoved (n m : ℕ) : Type 0 where
     pub part : ℕ
-    pub from : IsOffsetsAt r.links.ranges n part
-    pub to : IsOffsetsAt s.links.ranges m part
+    pub from : IsOffsetsAt (of_kind r.links kind) n part
+    pub to : IsOffsetsAt (of_kind s.links kind) m part
 
-  pub offsets_move : (n m p : ℕ) → IsOffsetsAt r.links.ranges n p → IsNewOffset new_places (BaseOf Ranges p) m → IsOffsetsAt s.links.ranges m p
+  pub offsets_move : (n m p : ℕ) → IsOffsetsAt (of_kind r.links kind) n p → IsNewOffset new_places (BaseOf kind p) m → IsOffsetsAt (of_kind s.links kind) m p
   offsets_move n m p (p_in, from) (inside, to) =
-      let place : offsets_at (new_part_at s.links.ranges.parts p).at ≡ m = ap (λ (z : List Contribution). offsets_at (new_part_at z p).at) all.ranges.parts_are ∙ sym to in
-      (subst (λ (z : ℕ). p < z) (sym all.ranges.parts) p_in, place)
+      let place : offsets_at (new_part_at (of_kind s.links kind).parts p).at ≡ m = ap (λ (z : List Contribution). offsets_at (new_part_at z p).at) (all.lists kind).parts_are ∙ sym to in
+      (subst (λ (z : ℕ). p < z) (sym (all.lists kind).parts) p_in, place)
 
-  base_moved : (u n m : ℕ) → BaseMoves r.links places new_places u 0 rnglists_base n m → AreOffsetsMoved n m
-  base_moved u n m (linked, (p, from, e), is) =
-      let to : IsOffsetsAt s.links.ranges m p = offsets_move n m p from (subst (λ (z : Linked). IsNewOffset new_places z m) e is) in
+  base_moved : (u n m : ℕ) → BaseMoves r.links places new_places u 0 (base_of kind) n m → AreOffsetsMoved n m
+  base_moved u n m (linked, links, is) =
+      let (p, from, e) = base_links r.links kind u 0 n linked links in
+      let to : IsOffsetsAt (of_kind s.links kind) m p = offsets_move n m p from (subst (λ (z : Linked). IsNewOffset new_places z m) e is) in
       record { part = p; from = from; to = to }
 
   -- a root names the contribution that it named
-  pub base_stays : (u p : ℕ) → u < length r.links.units → IsBaseOf r.links u Ranges p → IsBaseOf s.links u Ranges p
+  pub base_stays : (u p : ℕ) → u < length r.links.units → IsBaseOf r.links u kind p → IsBaseOf s.links u kind p
   base_stays u p inside (n, first, here) =
-      let (m, moves, there) = first_moves rnglists_base (BaseMoves r.links places new_places u 0 rnglists_base) (root_of (unit_at r.links u)).attributes (root_of (unit_at s.links u)).attributes n (root_bases u inside) first in
+      let (m, moves, there) = first_moves (base_of kind) (BaseMoves r.links places new_places u 0 (base_of kind)) (root_of (unit_at r.links u)).attributes (root_of (unit_at s.links u)).attributes n (root_bases u inside) first in
       let moved = base_moved u n m moves in
-      let same : moved.part ≡ p = part_once r.links.ranges all.read.links.ranges.tiled n moved.part p moved.from here in
-      (m, there, subst (IsOffsetsAt s.links.ranges m) same moved.to)
+      let same : moved.part ≡ p = part_once (of_kind r.links kind) (all.read.links.lists kind).tiled n moved.part p moved.from here in
+      (m, there, subst (IsOffsetsAt (of_kind s.links kind) m) same moved.to)
 
-  pub base_came : (u p : ℕ) → u < length r.links.units → IsBaseOf s.links u Ranges p → IsBaseOf r.links u Ranges p
+  pub base_came : (u p : ℕ) → u < length r.links.units → IsBaseOf s.links u kind p → IsBaseOf r.links u kind p
   base_came u p inside (m, first, here) =
-      let (n, moves, there) = first_came rnglists_base (BaseMoves r.links places new_places u 0 rnglists_base) (root_of (unit_at r.links u)).attributes (root_of (unit_at s.links u)).attributes m (root_bases u inside) first in
+      let (n, moves, there) = first_came (base_of kind) (BaseMoves r.links places new_places u 0 (base_of kind)) (root_of (unit_at r.links u)).attributes (root_of (unit_at s.links u)).attributes m (root_bases u inside) first in
       let moved = base_moved u n m moves in
-      let same : moved.part ≡ p = part_once s.links.ranges all.ranges.tiled m moved.part p moved.to here in
-      (n, there, subst (IsOffsetsAt r.links.ranges n) same moved.from)
+      let same : moved.part ≡ p = part_once (of_kind s.links kind) (all.lists kind).tiled m moved.part p moved.to here in
+      (n, there, subst (IsOffsetsAt (of_kind r.links kind) n) same moved.from)

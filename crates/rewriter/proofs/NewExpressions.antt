@@ -1,27 +1,22 @@
 -- The new numbers of a unit and its new expressions, from the new numbers of its values and of its operations.
-use Rattle.std.proofs.Common.{◌≡◌, ◌≤◌, ◌<◌, ◌+◌, ◌-◌, ◌^◌, ℕ, List, [], length, drop, slice_index, get_or, ◌∙◌, sym, ap, refl, subst, arith, inl, inr}
-use Rattle.std.specs.List.{AllZip}
-use Rattle.std.proofs.lemmas.List.{get_or-take, get_or-drop, length-take, length-drop, length-map}
+use Rattle.std.proofs.Common.{◌≡◌, ◌≤◌, ◌<◌, ◌+◌, ◌-◌, ◌^◌, ℕ, List, [], length, drop, slice_index, ◌∙◌, sym, ap, refl, subst, arith}
+use Rattle.std.proofs.lemmas.List.{get_or-take, get_or-drop, length-take, length-drop}
 use Rattle.std.proofs.lemmas.List.Elements.{All-take, All-drop, All-from_get_or}
-use Rattle.std.proofs.Math.ListN.{get_or-map}
 use Rattle.dw_base.specs.declared.fault.Reach.{Reach}
 use Rattle.dw_base.specs.declared.fault.Reach.TheVariants.{Narrow, Wide}
 use Rattle.dw_base.specs.declared.fault.Span.{Span}
 use Rattle.expr_ops.specs.declared.op.Op.{Op}
-use Rattle.expr_ops.specs.declared.names.Named.{Named}
-use Rattle.expr_ops.specs.declared.names.Named.TheVariants.{Nothing, BaseType, UnitEntry, SectionEntry}
 use Rattle.expr_ops.specs.Drafts.{op_at}
-use Rattle.expr_ops.specs.Expressions.{Operation, IsExpression}
+use Rattle.expr_ops.specs.Expressions.{IsExpression}
 use Rattle.expr_ops.specs.Names.{named_by}
 use Rattle.expr_ops.specs.Ops.{meant, all_meant}
-use Rattle.expr_ops.proofs.Levels.{expression_once}
 use Rattle.expr_ops.proofs.Reaches.{narrow_wide}
 use Rattle.form_codec.specs.declared.value.Value.{Value}
 use Rattle.form_codec.specs.declared.value.Value.TheVariants as value
 use Rattle.form_codec.specs.Forms.{Meaning}
 use Rattle.form_codec.specs.Forms.Meaning.{Expression}
 use Rattle.form_codec.specs.Values.{bytes_in, meant_in}
-use Rattle.entry_arena.specs.Arena.{IsEntryAt, entry_at, value_at}
+use Rattle.entry_arena.specs.Arena.{entry_at, value_at}
 use Rattle.entry_arena.specs.Operations.{HeldOps, range_of, for_value, ops_of}
 use Rattle.entry_read.specs.Expressions.{IsExprAt}
 use Rattle.entry_read.specs.Units.{HeadAndForest}
@@ -31,8 +26,7 @@ use Rattle.unit_write.specs.NewExpressions.{made_of, AreWrittenPlain}
 use Rattle.value_links.specs.Sections.{debug_info, debug_abbrev}
 use Rattle.value_links.specs.Reading.{Linkable, Reading, unit_at}
 use Rattle.value_links.specs.Values.{HasValueAt}
-use Rattle.value_links.specs.Operations.{OpTarget, LinkedOperation, NamesUnitEntry, LinksReference, LinksOperation, LinksExpression, Names}
-use Rattle.value_links.specs.Operations.OpTarget.{AnEntry}
+use Rattle.value_links.specs.Operations.{OpTarget, Names}
 use Rattle.value_links.specs.World.{World, operations_at, head_and_forest, Holds, IsWorldOf}
 use Rattle.rewriter.specs.declared.tables.NewTable.{NewTable}
 use Rattle.rewriter.specs.declared.new_places.NewPlaces.{NewPlaces}
@@ -40,45 +34,21 @@ use Rattle.rewriter.specs.inside.Tables.{new_table_at}
 use Rattle.rewriter.specs.inside.Placed.{PlacesAnew, places_anew, places_at, unit_in, AreEndsIn}
 use Rattle.rewriter.specs.inside.Numbers.{IsNewNumber, AreNewReferences, IsNewExpression, IsNewValue, AreNewNumbers}
 use Rattle.rewriter.specs.inside.Held.{MeansSomething, table_for, entry_in, name_in, value_in, AreNumbered, IsReferenceOf, AreOperationsNumbered, IsTypeMoved}
+use Rattle.rewriter.proofs.NamedOperations.{operation_named, reference_still}
 use Rattle.rewriter.proofs.Standing.{held_unit, held_count}
-use Rattle.rewriter.proofs.Meant.{owners, all_zip_at, unit_means}
+use Rattle.rewriter.proofs.Meant.{owners, unit_means}
 use Rattle.rewriter.proofs.Final.{NumbersIn, value_among, attribute_numbered, type_moved, table_known, unit_reads}
 
 -- WHAT OPERATIONS NAME
 
--- what a reference names in what is read of a world, it names in all that is read of it
-module _ (r s : Linkable) (count : length s.units ≡ length r.units) (same : (u : ℕ) → head_and_forest (unit_at s u) ≡ head_and_forest (unit_at r u)) where
-  entry_still : (u n : ℕ) (target : OpTarget) → NamesUnitEntry s u n target → NamesUnitEntry r u n target
-  entry_still u n target here = subst (λ (h : HeadAndForest). (id : ℕ) × IsEntryAt h.forest id (h.head.at + n) × (target ≡ AnEntry u id)) (same u) here
-
-  reference_still : (u : ℕ) (named : Named) (code n : ℕ) (target : OpTarget) → LinksReference s u named code n target → LinksReference r u named code n target
-  reference_still u Nothing code n found e = e
-  reference_still u BaseType code n found (inl generic) = inl generic
-  reference_still u BaseType code n found (inr (other, here)) = inr (other, entry_still u n found here)
-  reference_still u UnitEntry code n found here = entry_still u n found here
-  reference_still u SectionEntry code n found (unit, id, inside, at, e) =
-      (unit, id, subst (λ (z : ℕ). unit < z) count inside, subst (λ (h : HeadAndForest). IsEntryAt h.forest id n) (same unit) at, e)
-
--- the operations of an expression that is linked
-module _ (r : Linkable) (u : ℕ) (bytes : List ℕ) (ops : List Op) (spelled : IsExpression Wide (all_meant bytes ops) bytes) where
-  operation_named : (linked : List LinkedOperation) → LinksExpression r u bytes linked → (k : ℕ) → k < length ops → (target : OpTarget) × Names r u (op_at ops k).code (op_at ops k).a target
-  operation_named linked (operations, read, zip) k inside =
-      let same : operations ≡ all_meant bytes ops = expression_once Wide operations (all_meant bytes ops) bytes read spelled in
-      let all : AllZip (LinksOperation r u) (all_meant bytes ops) linked = subst (λ (os : List Operation). AllZip (LinksOperation r u) os linked) same zip in
-      let size : length (all_meant bytes ops) ≡ length ops = length-map ops (meant bytes) in
-      let at = all_zip_at (LinksOperation r u) (all_meant bytes ops) linked k (meant bytes (op_at [] 0)) all (omega (arith, size, inside)) in
-      let here : get_or (all_meant bytes ops) k (meant bytes (op_at [] 0)) ≡ meant bytes (op_at ops k) = get_or-map (meant bytes) ops k (op_at [] 0) in
-      (at.0.target, subst (λ (o : Operation). Names r u o.code o.a at.0.target) here at.1.target)
-
--- so those of one that means something
+-- the operations of an expression that means something
 module _ (file : List ℕ) (world : World) (r : Reading) (u : ℕ) (holds : Holds file world r) where
   means_named : (name : ℕ) (span : Span) (ops : List Op) → MeansSomething world u name (value.Expr span) → IsExpression Wide (all_meant (bytes_in (unit_at r.links u).forest.section span) ops) (bytes_in (unit_at r.links u).forest.section span) → (k : ℕ) → k < length ops → (target : OpTarget) × Names r.links u (op_at ops k).code (op_at ops k).a target
   means_named name span ops m spelled k inside =
-      let heads : (v : ℕ) → head_and_forest (unit_at m.r.links v) ≡ head_and_forest (unit_at r.links v) = λ v. sym (held_unit m.file world m.r v m.holds) ∙ held_unit file world r v holds in
-      let counts : length m.r.links.units ≡ length r.links.units = sym (held_count m.file world m.r m.holds) ∙ held_count file world r holds in
-      let there : IsExpression Wide (all_meant (bytes_in (unit_at m.r.links u).forest.section span) ops) (bytes_in (unit_at m.r.links u).forest.section span) = subst (λ (h : HeadAndForest). IsExpression Wide (all_meant (bytes_in h.forest.section span) ops) (bytes_in h.forest.section span)) (sym (heads u)) spelled in
-      let named = operation_named m.r.links u (bytes_in (unit_at m.r.links u).forest.section span) ops there m.links.0 m.links.1 k inside in
-      (named.0, reference_still r.links m.r.links counts heads u (named_by (op_at ops k).code) (op_at ops k).code (op_at ops k).a named.0 named.1)
+      let same : head_and_forest (unit_at m.r.links u) ≡ head_and_forest (unit_at r.links u) = sym (held_unit m.file world m.r u m.holds) ∙ held_unit file world r u holds in
+      let there : IsExpression Wide (all_meant (bytes_in (unit_at m.r.links u).forest.section span) ops) (bytes_in (unit_at m.r.links u).forest.section span) = subst (λ (h : HeadAndForest). IsExpression Wide (all_meant (bytes_in h.forest.section span) ops) (bytes_in h.forest.section span)) (sym same) spelled in
+      let named = operation_named m.r.links u (bytes_in (unit_at m.r.links u).forest.section span) ops there (m.links.0, m.links.1) k inside in
+      (named.0, reference_still m.file file world m.r r m.holds holds u (named_by (op_at ops k).code) (op_at ops k).code (op_at ops k).a named.0 named.1)
 
 -- NEW REFERENCES
 

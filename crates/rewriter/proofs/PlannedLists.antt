@@ -1,4 +1,4 @@
--- Plans of range lists that are held.
+-- Plans of lists that are held.
 use Rattle.std.proofs.Common.{◌≡◌, ◌≤◌, ◌<◌, ◌+◌, ◌*◌, ◌^◌, ◌∙◌, ℕ, suc, List, [], ◌∷◌, length, get_or, map, cond, Bool, true, false, Result, Ok, Err, inl, inr, sym, ap, refl, subst, arith}
 use Rattle.std.specs.Prelude.{Option, Some, None, IfOk, not, filter}
 use Rattle.std.specs.List.{All, Contains}
@@ -16,7 +16,7 @@ use Rattle.list_model.specs.declared.contribution.Contribution.{Contribution}
 use Rattle.list_model.specs.declared.entry.EntryKind.{EntryKind}
 use Rattle.list_model.specs.declared.entry.EntryKind.TheVariants.{BaseAddressx, StartxEndx, StartxLength, OffsetPair, DefaultLocation, BaseAddress, StartEnd, StartLength}
 use Rattle.list_model.specs.declared.entry.ListKind.{ListKind}
-use Rattle.list_model.specs.declared.entry.ListKind.TheVariants.{Ranges}
+use Rattle.list_model.specs.declared.entry.ListKind.TheVariants.{Ranges, Locations}
 use Rattle.list_model.specs.declared.entry.Operand.{Operand}
 use Rattle.list_model.specs.declared.entry.Operand.TheVariants.{Absent, Number, Address}
 use Rattle.list_model.specs.declared.entry.RawEntry.{RawEntry}
@@ -24,7 +24,7 @@ use Rattle.list_model.specs.declared.item.Item.{Item}
 use Rattle.list_model.specs.declared.item.Meaning.{Meaning}
 use Rattle.list_model.specs.declared.item.Meaning.TheVariants.{Live, Dead}
 use Rattle.list_model.specs.Costs.{operand_bytes, entry_bytes}
-use Rattle.list_model.specs.Entries.{Entry, SpellsOperand, AreSaid, code_of, first_operand, second_operand, no_expr}
+use Rattle.list_model.specs.Entries.{Entry, SpellsEntry, SpellsOperand, AreSaid, code_of, first_operand, second_operand, no_expr}
 use Rattle.list_model.specs.Items.{Bounds, SetsBase, HasBounds, GiveFrom, Give, sets_base, item_of}
 use Rattle.list_model.specs.Items.Bounds.{between, elsewhere}
 use Rattle.list_model.specs.Laws.{OneSaying, OneWalk}
@@ -36,14 +36,17 @@ use Rattle.list_least.specs.declared.plan.Plan.{Plan}
 use Rattle.list_least.specs.Laws.{ShortestLists, PlannedLeast, FrozenLeast}
 use Rattle.list_least.specs.Plans.{bounds_of, entries_bytes, ArePicks, IsPlanned, IsItemOf, item_at}
 use Rattle.list_least.specs.Shortest.{FitsOperand, FitOperands}
+use Rattle.list_write.specs.declared.named.NewExpressions.{NewExpressions}
 use Rattle.list_write.specs.Written.{ToWrite, to_write}
-use Rattle.range_lists.specs.Ranges.{IsRead, IsRangeList, IsMeaning}
+use Rattle.loc_lists.specs.Locations.{items_among, entries_of, AreItems}
+use Rattle.loc_lists.specs.Locations.{IsRead as IsLocationRead}
+use Rattle.range_lists.specs.Ranges.{IsRead as IsRangeRead}
 use Rattle.value_links.specs.declared.lists.ListRead.{ListRead as HeldList}
-use Rattle.value_links.specs.Reading.{ListRead, Linkable, Reading, part_at, list_at, context_at}
-use Rattle.value_links.specs.Lists.{IsOwner, IsFrozen, item_count, AreListsOf}
-use Rattle.value_links.specs.World.{World, HoldsMeaning, HoldsList, Holds, IsWorldOf}
+use Rattle.value_links.specs.Reading.{ListRead, Linkable, Reading, of_kind, lists_of, part_at, list_at, context_at}
+use Rattle.value_links.specs.Lists.{IsOwner, IsFrozen, IsListOf, item_count, AreListsOf}
+use Rattle.value_links.specs.World.{World, lists_held, IsMeaningOf, HoldsMeaning, HoldsList, Holds, IsWorldOf}
 use Rattle.rewriter.specs.inside.Plans.{with_plan, IsContextIn}
-use Rattle.rewriter.specs.inside.Ranges.{IsPlannedFor}
+use Rattle.rewriter.specs.inside.Lists.{IsPlannedFor}
 use Rattle.rewriter.proofs.Standing.{held_count}
 use Rattle.rewriter.proofs.AddressTables.{context_same}
 
@@ -105,6 +108,16 @@ pub all_back : (bounds : List Bounds) → map bounds_of (map (item_of no_expr) b
 all_back [] = refl
 all_back (b ∷ bounds) = ap (λ (z : Bounds). z ∷ map bounds_of (map (item_of no_expr) bounds)) (bounds_back no_expr b) ∙ ap (λ (z : List Bounds). b ∷ z) (all_back bounds)
 
+-- likewise with the expression of each
+each_back : (raws : List RawEntry) (bounds : List Bounds) (items : List Item) → AreItems raws bounds items → map bounds_of items ≡ bounds
+each_back [] [] [] are = refl
+each_back [] [] (i ∷ items) are = absurd are
+each_back [] (b ∷ bounds) items are = absurd are
+each_back (r ∷ raws) [] items are = absurd are
+each_back (r ∷ raws) (b ∷ bounds) [] are = absurd are
+each_back (r ∷ raws) (b ∷ bounds) (i ∷ items) (is, more) =
+    ap (λ (z : Bounds). z ∷ map bounds_of items) (ap bounds_of is ∙ bounds_back r.expr b) ∙ ap (λ (z : List Bounds). b ∷ z) (each_back raws bounds items more)
+
 -- no entry of a range list is a default location
 range_item : (addr : List ℕ) (context : Context) (base : ℕ) (kind : EntryKind) (a b code : ℕ) (item : Bounds) → code_of Ranges kind ≡ Some code → HasBounds addr context base kind a b item → IsItemOf Ranges item
 range_item addr context base StartxEndx a b code item known (s, e, i, j, is) = subst (λ (z : Bounds). IsItemOf Ranges z) (sym is) tt
@@ -123,6 +136,38 @@ range_items addr context base (r ∷ raws) [] bounds said gives = absurd said
 range_items addr context base (r ∷ raws) (e ∷ es) bounds said (inl (next, sets, rest)) = range_items addr context next raws es bounds said.1 rest
 range_items addr context base (r ∷ raws) (e ∷ es) bounds said (inr (item, rest, has, is, more)) =
     subst (λ (z : List Bounds). All (IsItemOf Ranges) z) (sym is) (All-cons (IsItemOf Ranges) item rest (range_item addr context base e.kind e.a e.b r.code item said.0.of_code has) (range_items addr context base raws es rest said.1 more))
+
+-- a location list may have items of all sorts
+location_item : (item : Bounds) → IsItemOf Locations item
+location_item elsewhere = refl
+location_item (between start end) = tt
+
+-- what a list of any kind says that has items: its entries give their bounds, which are those that a list of the kind may have
+record SaysItems (kind : ListKind) (addr : List ℕ) (context : Context) (raws : List RawEntry) (items : List Item) : Type 0 where
+  pub entries : List Entry
+  pub bounds : List Bounds
+  pub said : AreSaid kind raws entries
+  pub gives : Give addr context entries bounds
+  pub are : map bounds_of items ≡ bounds
+  pub fit : All (IsItemOf kind) bounds
+
+says_items : (kind : ListKind) (addr : List ℕ) (context : Context) (raws : List RawEntry) (items : List Item) → IsMeaningOf kind addr context raws (Live items) → SaysItems kind addr context raws items
+says_items Ranges addr context raws items m = record {
+  entries = m.entries;
+  bounds = m.bounds;
+  said = m.said;
+  gives = m.gives;
+  are = ap (λ (z : List Item). map bounds_of z) m.means.1 ∙ all_back m.bounds;
+  fit = range_items addr context context.base raws m.entries m.bounds m.said m.gives;
+}
+says_items Locations addr context raws items m = record {
+  entries = m.entries;
+  bounds = m.bounds;
+  said = m.said;
+  gives = m.gives;
+  are = each_back (items_among raws) m.bounds items m.means.1;
+  fit = λ i d less. location_item (get_or m.bounds i d);
+}
 
 -- ---- bytes
 
@@ -153,31 +198,25 @@ one_owner r kind at u v (named, first) (too, other) = elim (cases_lt u v) [
 
 -- ---- a list that isn't frozen
 
-module _ (r : Reading) (old : ListRead) (list : HeldList) (held : HoldsList r.links Ranges old list) (items : List Item) (live : list.meaning ≡ Live items) where
-  meant : HoldsMeaning r.links Ranges old list.owner (Live items)
-  meant = subst (λ (z : Meaning). HoldsMeaning r.links Ranges old list.owner z) live held.meaning
+module _ (r : Reading) (kind : ListKind) (old : ListRead) (list : HeldList) (held : HoldsList r.links kind old list) (items : List Item) (live : list.meaning ≡ Live items) where
+  meant : HoldsMeaning r.links kind old list.owner (Live items)
+  meant = subst (λ (z : Meaning). HoldsMeaning r.links kind old list.owner z) live held.meaning
 
-  meaning : IsMeaning r.links.addresses (context_at r.links meant.1.0) old.raws (Live items)
-  meaning = meant.1.2
+  meaning : SaysItems kind r.links.addresses (context_at r.links meant.1.0) old.raws items
+  meaning = says_items kind r.links.addresses (context_at r.links meant.1.0) old.raws items meant.1.2
 
-  owned : IsOwner r.links Ranges old.at (Some meant.1.0)
-  owned = subst (λ (z : Option ℕ). IsOwner r.links Ranges old.at z) meant.1.1 held.owner
+  owned : IsOwner r.links kind old.at (Some meant.1.0)
+  owned = subst (λ (z : Option ℕ). IsOwner r.links kind old.at z) meant.1.1 held.owner
 
   -- a unit owns it
   pub owner_known : (u : ℕ) → list.owner ≡ Some u → u < length r.links.units
-  owner_known u is = (subst (λ (z : Option ℕ). IsOwner r.links Ranges old.at z) is held.owner).0.known
+  owner_known u is = (subst (λ (z : Option ℕ). IsOwner r.links kind old.at z) is held.owner).0.known
 
   pub has_owner : list.owner ≡ None → ⊥
   has_owner none = none-some meant.1.0 (sym none ∙ meant.1.1)
 
-  items_are : items ≡ map (item_of no_expr) meaning.bounds
-  items_are = meaning.means.1
-
-  bounds_are : map bounds_of items ≡ meaning.bounds
-  bounds_are = ap (λ (z : List Item). map bounds_of z) items_are ∙ all_back meaning.bounds
-
   items_count : length items ≡ item_count meaning.entries
-  items_count = ap length items_are ∙ length-map meaning.bounds (item_of no_expr) ∙ items_counted r.links.addresses (context_at r.links meant.1.0) (context_at r.links meant.1.0).base meaning.entries meaning.bounds meaning.gives
+  items_count = sym (length-map items bounds_of) ∙ ap length meaning.are ∙ items_counted r.links.addresses (context_at r.links meant.1.0) (context_at r.links meant.1.0).base meaning.entries meaning.bounds meaning.gives
 
   -- it isn't long
   pub few_items : length items ≤ 16384
@@ -186,42 +225,41 @@ module _ (r : Reading) (old : ListRead) (list : HeldList) (held : HoldsList r.li
     | inr few ↦ omega (arith, items_count)
   ]
 
-  -- its items are ranges
-  pub are_ranges : (i : ℕ) → i < length items → IsItemOf Ranges (bounds_of (item_at items i))
-  are_ranges i less =
-      let within : i < length meaning.bounds = omega (arith, ap length items_are, length-map meaning.bounds (item_of no_expr)) in
-      let is : item_at items i ≡ item_of no_expr (get_or meaning.bounds i elsewhere) = ap (λ (z : List Item). item_at z i) items_are ∙ get_or-map (item_of no_expr) meaning.bounds i elsewhere (item_at [] 0) within in
-      let same : bounds_of (item_at items i) ≡ get_or meaning.bounds i elsewhere = ap bounds_of is ∙ bounds_back no_expr (get_or meaning.bounds i elsewhere) in
-      subst (λ (z : Bounds). IsItemOf Ranges z) (sym same) (range_items r.links.addresses (context_at r.links meant.1.0) (context_at r.links meant.1.0).base old.raws meaning.entries meaning.bounds meaning.said meaning.gives i elsewhere within)
+  -- its items are those of a list of its kind
+  pub are_of_kind : (i : ℕ) → i < length items → IsItemOf kind (bounds_of (item_at items i))
+  are_of_kind i less =
+      let within : i < length meaning.bounds = omega (arith, ap length meaning.are, length-map items bounds_of) in
+      let same : get_or meaning.bounds i elsewhere ≡ bounds_of (item_at items i) = ap (λ (z : List Bounds). get_or z i elsewhere) (sym meaning.are) ∙ get_or-map bounds_of items i (item_at [] 0) elsewhere less in
+      subst (λ (z : Bounds). IsItemOf kind z) same (meaning.fit i elsewhere within)
 
-  module _ (saying : OneSaying) (walk : OneWalk) (shortest : ShortestLists) (planned : PlannedLeast) (small : AreBytes r.links.addresses) (owner : ℕ) (owner_is : list.owner ≡ Some owner) (potentials : List ℕ) (plan : Plan) (is : IsPlanned Ranges r.links.addresses (context_at r.links owner) (map bounds_of items) plan.picks.items plan.size) (accepted : AcceptsList r.links.addresses (context_at r.links owner) (map bounds_of items) potentials plan.size) (few : length plan.picks.items ≤ 2 * length items) where
+  module _ (saying : OneSaying) (walk : OneWalk) (shortest : ShortestLists) (planned : PlannedLeast) (small : AreBytes r.links.addresses) (owner : ℕ) (owner_is : list.owner ≡ Some owner) (potentials : List ℕ) (plan : Plan) (is : IsPlanned kind r.links.addresses (context_at r.links owner) (map bounds_of items) plan.picks.items plan.size) (accepted : AcceptsList r.links.addresses (context_at r.links owner) (map bounds_of items) potentials plan.size) (few : length plan.picks.items ≤ 2 * length items) where
     same_owner : meant.1.0 ≡ owner
     same_owner = same_Some meant.1.0 owner (sym meant.1.1 ∙ owner_is)
 
     -- what the entries give in the context of the owner is what the plan gives
-    gives_same : (u : ℕ) (before : List Entry) (bounds : List Bounds) → IsOwner r.links Ranges old.at (Some u) → AreSaid Ranges old.raws before → Give r.links.addresses (context_at r.links u) before bounds → (owner ≡ u) × (map bounds_of items ≡ bounds)
+    gives_same : (u : ℕ) (before : List Entry) (bounds : List Bounds) → IsOwner r.links kind old.at (Some u) → AreSaid kind old.raws before → Give r.links.addresses (context_at r.links u) before bounds → (owner ≡ u) × (map bounds_of items ≡ bounds)
     gives_same u before bounds own said gives =
-        let here : meant.1.0 ≡ u = one_owner r.links Ranges old.at meant.1.0 u owned own in
-        let entries : meaning.entries ≡ before = saying Ranges old.raws meaning.entries before meaning.said said in
+        let here : meant.1.0 ≡ u = one_owner r.links kind old.at meant.1.0 u owned own in
+        let entries : meaning.entries ≡ before = saying kind old.raws meaning.entries before meaning.said said in
         let there = subst (λ (z : List Entry). Give r.links.addresses (context_at r.links u) z bounds) (sym entries) gives in
         let given = subst (λ (z : ℕ). Give r.links.addresses (context_at r.links z) meaning.entries bounds) (sym here) there in
-        (sym same_owner ∙ here, bounds_are ∙ walk r.links.addresses (context_at r.links meant.1.0) meaning.entries meaning.bounds bounds meaning.gives given)
+        (sym same_owner ∙ here, meaning.are ∙ walk r.links.addresses (context_at r.links meant.1.0) meaning.entries meaning.bounds bounds meaning.gives given)
 
     -- some bytes are the shortest of its entries
     size_is : plan.size ≡ entries_bytes is.entries + 1
     size_is =
-        let some = shortest.of_picks Ranges plan.picks.items is.entries is.picked in
-        let least = planned Ranges r.links.addresses (context_at r.links owner) (map bounds_of items) potentials plan.size plan.picks.items is.entries some.0 small accepted is is.picked some.1 in
-        sym least.1 ∙ shortest.size Ranges is.entries some.0 some.1
+        let some = shortest.of_picks kind plan.picks.items is.entries is.picked in
+        let least = planned kind r.links.addresses (context_at r.links owner) (map bounds_of items) potentials plan.size plan.picks.items is.entries some.0 small accepted is is.picked some.1 in
+        sym least.1 ∙ shortest.size kind is.entries some.0 some.1
 
-    pub live_planned : IsPlannedFor r old (to_write (with_plan list plan))
-    live_planned = record {
+    pub live_planned : (expressions : NewExpressions) → IsPlannedFor r kind old (to_write (with_plan list plan expressions))
+    live_planned expressions = record {
       part = held.part;
       at = held.at;
       entries = is.entries;
       picked = is.picked;
       size = size_is;
-      few = omega (arith, few, picks_count Ranges plan.picks.items is.entries is.picked, items_count, items_most meaning.entries, said_count Ranges old.raws meaning.entries meaning.said);
+      few = omega (arith, few, picks_count kind plan.picks.items is.entries is.picked, items_count, items_most meaning.entries, said_count kind old.raws meaning.entries meaning.said);
       same = λ before said. record {
         live = λ free u bounds own gives.
             let same = gives_same u before bounds own said gives in
@@ -231,21 +269,21 @@ module _ (r : Reading) (old : ListRead) (list : HeldList) (held : HoldsList r.li
       least = λ bytes short. record {
         live = λ free u before bounds own said gives.
             let same = gives_same u before bounds own said gives in
-            let least = planned Ranges r.links.addresses (context_at r.links owner) (map bounds_of items) potentials plan.size plan.picks.items is.entries bytes small accepted is is.picked short in
-            subst (λ (z : ℕ). IsLeastList Ranges r.links.addresses (context_at r.links z) bounds bytes) same.0 (subst (λ (z : List Bounds). IsLeastList Ranges r.links.addresses (context_at r.links owner) z bytes) same.1 least.0);
+            let least = planned kind r.links.addresses (context_at r.links owner) (map bounds_of items) potentials plan.size plan.picks.items is.entries bytes small accepted is is.picked short in
+            subst (λ (z : ℕ). IsLeastList kind r.links.addresses (context_at r.links z) bounds bytes) same.0 (subst (λ (z : List Bounds). IsLeastList kind r.links.addresses (context_at r.links owner) z bytes) same.1 least.0);
         frozen = λ kept. absurd (meant.0 kept);
       };
     }
 
 -- the same, by the bytes of .debug_addr and the context as they are given to the search
-pub planned_by : (r : Reading) (old : ListRead) (list : HeldList) → HoldsList r.links Ranges old list → (items : List Item) → list.meaning ≡ Live items → OneSaying → OneWalk → ShortestLists → PlannedLeast →
+pub planned_by : (r : Reading) (kind : ListKind) (old : ListRead) (list : HeldList) → HoldsList r.links kind old list → (items : List Item) → list.meaning ≡ Live items → OneSaying → OneWalk → ShortestLists → PlannedLeast →
     (addr : List ℕ) → AreBytes addr → addr ≡ r.links.addresses → (context : Context) (owner : ℕ) → list.owner ≡ Some owner → context ≡ context_at r.links owner → (plan : Plan) →
-    IsPlanned Ranges addr context (map bounds_of items) plan.picks.items plan.size → AcceptsList addr context (map bounds_of items) plan.potentials.items plan.size → length plan.picks.items ≤ 2 * length items → IsPlannedFor r old (to_write (with_plan list plan))
-planned_by r old list held items live saying walk shortest planned addr small addr_is context owner owner_is context_is plan is accepted few =
-    live_planned r old list held items live saying walk shortest planned (subst (λ (z : List ℕ). AreBytes z) addr_is small) owner owner_is plan.potentials.items plan
-    (subst (λ (z : Context). IsPlanned Ranges r.links.addresses z (map bounds_of items) plan.picks.items plan.size) context_is (subst (λ (z : List ℕ). IsPlanned Ranges z context (map bounds_of items) plan.picks.items plan.size) addr_is is))
+    IsPlanned kind addr context (map bounds_of items) plan.picks.items plan.size → AcceptsList addr context (map bounds_of items) plan.potentials.items plan.size → length plan.picks.items ≤ 2 * length items → (expressions : NewExpressions) → IsPlannedFor r kind old (to_write (with_plan list plan expressions))
+planned_by r kind old list held items live saying walk shortest planned addr small addr_is context owner owner_is context_is plan is accepted few expressions =
+    live_planned r kind old list held items live saying walk shortest planned (subst (λ (z : List ℕ). AreBytes z) addr_is small) owner owner_is plan.potentials.items plan
+    (subst (λ (z : Context). IsPlanned kind r.links.addresses z (map bounds_of items) plan.picks.items plan.size) context_is (subst (λ (z : List ℕ). IsPlanned kind z context (map bounds_of items) plan.picks.items plan.size) addr_is is))
     (subst (λ (z : Context). AcceptsList r.links.addresses z (map bounds_of items) plan.potentials.items plan.size) context_is (subst (λ (z : List ℕ). AcceptsList z context (map bounds_of items) plan.potentials.items plan.size) addr_is accepted))
-    few
+    few expressions
 
 -- ---- a list that is frozen
 
@@ -257,72 +295,85 @@ operand_fits Address value bytes s = subst (λ (z : ℕ). z < 2 ^ 64) (sym s.is)
 abbrev pub CanBeSpelled : Entry → Type 0
 CanBeSpelled entry = FitOperands entry.kind entry.a entry.b
 
-read_said : (at : ℕ) (raws : List RawEntry) (entries : List Entry) (bytes : List ℕ) → AreReadFrom IsRead at raws entries bytes → AreSaid Ranges raws entries × All CanBeSpelled entries
-read_said at [] [] bytes read = (tt, All-nil CanBeSpelled)
-read_said at [] (e ∷ es) bytes read = absurd read
-read_said at (r ∷ raws) [] bytes read = absurd read
-read_said at (r ∷ raws) (e ∷ es) bytes (first, rest, here, more, whole) =
-    let behind = read_said (at + length first) raws es rest more in
-    let o = here.spelled.spelled in
-    let fit : CanBeSpelled e = record { first = operand_fits (first_operand e.kind) e.a o.0 o.2; second = operand_fits (second_operand e.kind) e.b o.1 o.3 } in
-    ((here.says, behind.0), All-cons CanBeSpelled e es fit behind.1)
+entry_said : (kind : ListKind) (entry : Entry) (bytes : List ℕ) → SpellsEntry kind entry bytes → CanBeSpelled entry
+entry_said kind entry bytes spelled =
+    let o = spelled.spelled in
+    record { first = operand_fits (first_operand entry.kind) entry.a o.0 o.2; second = operand_fits (second_operand entry.kind) entry.b o.1 o.3 }
+
+ranges_said : (at : ℕ) (raws : List RawEntry) (entries : List Entry) (bytes : List ℕ) → AreReadFrom IsRangeRead at raws entries bytes → AreSaid Ranges raws entries × All CanBeSpelled entries
+ranges_said at [] [] bytes read = (tt, All-nil CanBeSpelled)
+ranges_said at [] (e ∷ es) bytes read = absurd read
+ranges_said at (r ∷ raws) [] bytes read = absurd read
+ranges_said at (r ∷ raws) (e ∷ es) bytes (first, rest, here, more, whole) =
+    let behind = ranges_said (at + length first) raws es rest more in
+    ((here.says, behind.0), All-cons CanBeSpelled e es (entry_said Ranges e first here.spelled) behind.1)
+
+locations_said : (at : ℕ) (raws : List RawEntry) (locations : List (Entry × List ℕ)) (bytes : List ℕ) → AreReadFrom IsLocationRead at raws locations bytes → AreSaid Locations raws (entries_of locations) × All CanBeSpelled (entries_of locations)
+locations_said at [] [] bytes read = (tt, All-nil CanBeSpelled)
+locations_said at [] (l ∷ ls) bytes read = absurd read
+locations_said at (r ∷ raws) [] bytes read = absurd read
+locations_said at (r ∷ raws) (l ∷ ls) bytes (first, rest, here, more, whole) =
+    let behind = locations_said (at + length first) raws ls rest more in
+    ((here.says, behind.0), All-cons CanBeSpelled l.0 (entries_of ls) (entry_said Locations l.0 here.spelled.0 here.spelled.2) behind.1)
 
 -- what is read of a list says entries, which some bytes spell
-pub range_said : (section : List ℕ) (part : Contribution) (at : ℕ) (raws : List RawEntry) → IsRangeList section part at raws → (entries : List Entry) × AreSaid Ranges raws entries × All CanBeSpelled entries
-range_said section part at raws read = let s = read_said at raws read.entries read.front read.read in (read.entries, s.0, s.1)
+pub list_said : (kind : ListKind) (section : List ℕ) (part : Contribution) (at : ℕ) (raws : List RawEntry) → IsListOf kind section part at raws → (entries : List Entry) × AreSaid kind raws entries × All CanBeSpelled entries
+list_said Ranges section part at raws read = let s = ranges_said at raws read.entries read.front read.read in (read.entries, s.0, s.1)
+list_said Locations section part at raws read = let s = locations_said at raws read.entries read.front read.read in (entries_of read.entries, s.0, s.1)
 
-module _ (r : Reading) (old : ListRead) (list : HeldList) (held : HoldsList r.links Ranges old list) (dead : list.meaning ≡ Dead) (saying : OneSaying) (frozen_least : FrozenLeast) (plan : Plan) where
-  frozen : IsFrozen r.links Ranges old
-  frozen = subst (λ (z : Meaning). HoldsMeaning r.links Ranges old list.owner z) dead held.meaning
+module _ (r : Reading) (kind : ListKind) (old : ListRead) (list : HeldList) (held : HoldsList r.links kind old list) (dead : list.meaning ≡ Dead) (saying : OneSaying) (frozen_least : FrozenLeast) (plan : Plan) where
+  frozen : IsFrozen r.links kind old
+  frozen = subst (λ (z : Meaning). HoldsMeaning r.links kind old list.owner z) dead held.meaning
 
-  said_held : AreSaid Ranges list.raw.items frozen.0
-  said_held = subst (λ (z : List RawEntry). AreSaid Ranges z frozen.0) (sym held.raws) frozen.1
+  said_held : AreSaid kind list.raw.items frozen.0
+  said_held = subst (λ (z : List RawEntry). AreSaid kind z frozen.0) (sym held.raws) frozen.1
 
-  pub frozen_planned : ((entries : List Entry) → AreSaid Ranges list.raw.items entries → ArePicks Ranges plan.picks.items entries) → ((entries : List Entry) → AreSaid Ranges list.raw.items entries → plan.size ≡ entries_bytes entries + 1) → IsPlannedFor r old (to_write (with_plan list plan))
-  frozen_planned picked bytes = record {
+  pub frozen_planned : ((entries : List Entry) → AreSaid kind list.raw.items entries → ArePicks kind plan.picks.items entries) → ((entries : List Entry) → AreSaid kind list.raw.items entries → plan.size ≡ entries_bytes entries + 1) → (expressions : NewExpressions) → IsPlannedFor r kind old (to_write (with_plan list plan expressions))
+  frozen_planned picked bytes expressions = record {
     part = held.part;
     at = held.at;
     entries = frozen.0;
     picked = picked frozen.0 said_held;
     size = bytes frozen.0 said_held;
-    few = omega (arith, said_count Ranges old.raws frozen.0 frozen.1);
+    few = omega (arith, said_count kind old.raws frozen.0 frozen.1);
     same = λ before said. record {
       live = λ free u bounds own gives. absurd (free frozen);
-      frozen = λ kept. saying Ranges old.raws frozen.0 before frozen.1 said;
+      frozen = λ kept. saying kind old.raws frozen.0 before frozen.1 said;
     };
     least = λ bytes short. record {
       live = λ free u before bounds own said gives. absurd (free frozen);
-      frozen = λ kept before said. subst (λ (z : List Entry). IsLeastFrozen Ranges z bytes) (saying Ranges old.raws frozen.0 before frozen.1 said) (frozen_least Ranges frozen.0 bytes short);
+      frozen = λ kept before said. subst (λ (z : List Entry). IsLeastFrozen kind z bytes) (saying kind old.raws frozen.0 before frozen.1 said) (frozen_least kind frozen.0 bytes short);
     };
   }
 
 -- ---- the bytes of a list that is planned
 
-pub planned_most : (r : Reading) (old : ListRead) (written : ToWrite) → IsPlannedFor r old written → written.size ≤ 42 * length old.raws + 1
-planned_most r old written is = omega (arith, is.size, is.few, picked_most Ranges written.picks is.entries is.picked)
+pub planned_most : (r : Reading) (kind : ListKind) (old : ListRead) (written : ToWrite) → IsPlannedFor r kind old written → written.size ≤ 42 * length old.raws + 1
+planned_most r kind old written is = omega (arith, is.size, is.few, picked_most kind written.picks is.entries is.picked)
 
 -- ---- what is held
 
 -- a list that is held is one that is read
-pub held_list : (file : List ℕ) (world : World) (r : Reading) (list : HeldList) → Holds file world r → Contains world.lists list → (k : ℕ) × (k < length r.range_lists) × HoldsList r.links Ranges (list_at r.range_lists k) list
-held_list file world r list holds (k, less, is) =
-    let inside : k < length r.range_lists = omega (arith, holds.lists.count) in
-    (k, inside, subst (λ (z : HeldList). HoldsList r.links Ranges (list_at r.range_lists k) z) is (holds.lists.each k list inside))
+pub held_list : (file : List ℕ) (world : World) (r : Reading) (kind : ListKind) (list : HeldList) → Holds file world r → Contains (lists_held world kind) list → (k : ℕ) × (k < length (lists_of r kind)) × HoldsList r.links kind (list_at (lists_of r kind) k) list
+held_list file world r kind list holds (k, less, is) =
+    let count : length (lists_held world kind) ≡ length (lists_of r kind) = (holds.lists kind).count in
+    let inside : k < length (lists_of r kind) = omega (arith, count, less) in
+    (k, inside, subst (λ (z : HeldList). HoldsList r.links kind (list_at (lists_of r kind) k) z) is ((holds.lists kind).each k list inside))
 
 -- the context of the owner of a list that isn't frozen is that of a unit
-pub owner_context : (world : World) (reach : Reach) (is : IsWorldOf world.image reach world) (list : HeldList) → Contains world.lists list → (items : List Item) → list.meaning ≡ Live items → (owner : ℕ) → list.owner ≡ Some owner → (context : Context) → ((file : List ℕ) (r : Reading) → Holds file world r → context ≡ context_at r.links owner) → IsContextIn world context
-owner_context world reach is list one items live owner owner_is context context_is =
-    let held = held_list world.image world is.r list is.holds one in
-    let known : owner < length is.r.links.units = owner_known is.r (list_at is.r.range_lists held.0) list held.2 items live owner owner_is in
+pub owner_context : (world : World) (reach : Reach) (is : IsWorldOf world.image reach world) (kind : ListKind) (list : HeldList) → Contains (lists_held world kind) list → (items : List Item) → list.meaning ≡ Live items → (owner : ℕ) → list.owner ≡ Some owner → (context : Context) → ((file : List ℕ) (r : Reading) → Holds file world r → context ≡ context_at r.links owner) → IsContextIn world context
+owner_context world reach is kind list one items live owner owner_is context context_is =
+    let held = held_list world.image world is.r kind list is.holds one in
+    let known : owner < length is.r.links.units = owner_known is.r kind (list_at (lists_of is.r kind) held.0) list held.2 items live owner owner_is in
     let count : length world.units ≡ length is.r.links.units = held_count world.image world is.r is.holds in
     (owner, omega (arith, known, count), context_is world.image is.r is.holds ∙ sym (context_same world.image world is.r owner is.holds))
 
 -- the entries of a list that is read are said by what is held, and some bytes spell them
-pub held_said : (r : Reading) (k : ℕ) → k < length r.range_lists → AreListsOf r.links Ranges r.range_lists → (raws : List RawEntry) → raws ≡ (list_at r.range_lists k).raws → (entries : List Entry) × AreSaid Ranges raws entries × All CanBeSpelled entries
-held_said r k inside lists raws same =
-    let list = list_at r.range_lists k in
-    let said = range_said r.links.ranges.section (part_at r.links.ranges list.part) list.at list.raws (lists.each k inside).read in
-    (said.0, subst (λ (z : List RawEntry). AreSaid Ranges z said.0) (sym same) said.1, said.2)
+pub held_said : (r : Reading) (kind : ListKind) (k : ℕ) → k < length (lists_of r kind) → AreListsOf r.links kind (lists_of r kind) → (raws : List RawEntry) → raws ≡ (list_at (lists_of r kind) k).raws → (entries : List Entry) × AreSaid kind raws entries × All CanBeSpelled entries
+held_said r kind k inside lists raws same =
+    let list = list_at (lists_of r kind) k in
+    let said = list_said kind (of_kind r.links kind).section (part_at (of_kind r.links kind) list.part) list.at list.raws (lists.each k inside).read in
+    (said.0, subst (λ (z : List RawEntry). AreSaid kind z said.0) (sym same) said.1, said.2)
 
 -- ---- answers
 

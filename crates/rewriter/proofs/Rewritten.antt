@@ -1,6 +1,6 @@
 -- A file that has its new sections is read, means what the old one means, is valid, has the codes and the forms of columns that
 -- take the least bytes, and holds nothing else.
-use Rattle.std.proofs.Common.{◌≡◌, ◌≤◌, ◌<◌, ◌*◌, ◌^◌, ◌∙◌, ℕ, List, [], length, sym, ap, subst, arith}
+use Rattle.std.proofs.Common.{◌≡◌, ◌≤◌, ◌<◌, ◌+◌, ◌^◌, ◌∙◌, ℕ, List, [], length, sym, ap, subst, arith}
 use Rattle.std.specs.Prelude.{map, slice_index}
 use Rattle.dw_base.specs.declared.fault.Reach.TheVariants.{Narrow, Wide}
 use Rattle.abbrev_tables.specs.LeastColumns.{IsLeastColumn, IsFirstColumn}
@@ -8,20 +8,22 @@ use Rattle.line_write.specs.Least.{LeastLines, OrderedLines}
 use Rattle.line_write.specs.Meaning.{HaveMeanings}
 use Rattle.companions.specs.declared.set.ArangeSet.{ArangeSet}
 use Rattle.companions.specs.Aranges.{SetsTile}
-use Rattle.value_links.specs.Sections.{debug_info, debug_abbrev, debug_addr, debug_aranges, debug_line, debug_rnglists}
-use Rattle.value_links.specs.Reading.{Linkable, Reading, line_heads, unit_starts, AreProgramsIn, AreUnitsIn}
+use Rattle.list_model.specs.declared.entry.ListKind.{ListKind}
+use Rattle.list_model.specs.declared.entry.ListKind.TheVariants.{Ranges, Locations}
+use Rattle.value_links.specs.Sections.{debug_info, debug_abbrev, debug_addr, debug_aranges, debug_line, debug_lists}
+use Rattle.value_links.specs.Reading.{Linkable, Reading, of_kind, line_heads, unit_starts, AreProgramsIn, AreUnitsIn}
 use Rattle.value_links.specs.Whole.{AreContexts, ArePartsOf, IsReading}
-use Rattle.value_links.specs.ListFaults.{entry_total}
-use Rattle.value_links.specs.Debug.{Debug, set_meaning, MeansDebug}
+use Rattle.value_links.specs.ListFaults.{list_total, entry_total, expression_bytes}
+use Rattle.value_links.specs.Debug.{Debug, set_meaning, parts_of, MeansDebug}
 use Rattle.value_links.specs.Faults.{IsValid}
-use Rattle.value_links.specs.Laws.{IsImageInOrder, AreUnitsInOrder, HaveFewEntries, MeaningFilesAreValid}
+use Rattle.value_links.specs.Laws.{IsImageInOrder, AreUnitsInOrder, MeaningFilesAreValid}
 use Rattle.value_links.specs.Same.{Same}
 use Rattle.value_links.specs.World.{World, Holds, IsWorldOf}
 use Rattle.rewriter.specs.declared.sections.NewSections.{NewSections}
 use Rattle.rewriter.specs.inside.Bodies.{NewBytes}
 use Rattle.rewriter.specs.inside.Sections.{HasSections}
-use Rattle.value_links.specs.Classes.{OfBoth, HasLeastCodes, HasOrderedCodes, HaveLeastCodes, HaveOrderedCodes, HaveColumns, HaveLeastColumns, HaveFirstColumns, HaveLeastRanges}
-use Rattle.rewriter.specs.inside.Anew.{AreAnew}
+use Rattle.value_links.specs.Classes.{OfBoth, HasLeastCodes, HasOrderedCodes, HaveLeastCodes, HaveOrderedCodes, HaveColumns, HaveLeastColumns, HaveFirstColumns, HaveLeastLists}
+use Rattle.rewriter.specs.inside.Anew.{new_lists, AreAnew}
 use Rattle.rewriter.specs.inside.Follows.{AreReadAnew}
 use Rattle.value_links.specs.Tidy.{AreTidy, IsTidy}
 use Rattle.rewriter.specs.inside.Rewritten.{IsRewritten}
@@ -29,7 +31,7 @@ use Rattle.rewriter.proofs.Codes.{least_codes, ordered_codes}
 use Rattle.rewriter.proofs.ContextsStay.{contexts_stay, addresses_stay}
 use Rattle.rewriter.proofs.Following.{links_follow}
 use Rattle.rewriter.proofs.ListMeanings.{lists_stay, parts_follow, tidy_lists}
-use Rattle.rewriter.proofs.RangesAnew.{totals_double}
+use Rattle.rewriter.proofs.ListsWithin.{lists_within}
 use Rattle.rewriter.proofs.RootsStay.{roots_stay}
 use Rattle.rewriter.proofs.WideExpressions.{expressions_are_wide}
 use Rattle.rewriter.proofs.Tidied.{are_tidy}
@@ -50,11 +52,12 @@ module _ (file written : List ℕ) (new : NewSections) (has : HasSections file n
   lines_are : debug_line written ≡ new.lines.items
   lines_are = has.sections 2 none (omega arith)
 
-  ranges_are : debug_rnglists written ≡ new.ranges.items
-  ranges_are = has.sections 3 none (omega arith)
+  lists_are : (kind : ListKind) → debug_lists written kind ≡ new_lists new kind
+  lists_are Ranges = has.sections 3 none (omega arith)
+  lists_are Locations = has.sections 4 none (omega arith)
 
   aranges_are : debug_aranges written ≡ new.aranges.items
-  aranges_are = has.sections 4 none (omega arith)
+  aranges_are = has.sections 5 none (omega arith)
 
 module _ (file written : List ℕ) (world : World) (r s : Reading) (new : NewSections) (read : IsReading file r) (holds : Holds file world r) (anew : AreAnew file world r s new) (has : HasSections file new written) where
   all_anew : AreReadAnew file world anew.tables anew.places anew.new_places new.info.items new.abbrevs.items r s
@@ -64,14 +67,14 @@ module _ (file written : List ℕ) (world : World) (r s : Reading) (new : NewSec
     tables_written = anew.tables_written;
     units = anew.units;
     programs = record { count = anew.programs.count; places = anew.programs.places };
-    ranges = anew.ranges;
+    lists = anew.lists;
     addresses = anew.addresses;
     contexts = anew.contexts;
   }
 
-  -- the contributions are all of the written section
-  parts_anew : ArePartsOf (debug_rnglists written) s.links.ranges
-  parts_anew = record { bytes_are = anew.section ∙ sym (ranges_are file written new has); tiled = anew.ranges.tiled }
+  -- the contributions of a kind are all of the written section
+  parts_anew : (kind : ListKind) → ArePartsOf (debug_lists written kind) (of_kind s.links kind)
+  parts_anew kind = record { bytes_are = anew.section kind ∙ sym (lists_are file written new has kind); tiled = (anew.lists kind).tiled }
 
   -- what is read of the new sections is what is read of the file that has them
   pub reads_anew : IsReading written s
@@ -85,10 +88,10 @@ module _ (file written : List ℕ) (world : World) (r s : Reading) (new : NewSec
           units = subst (λ (z : List ℕ). AreUnitsIn z (debug_abbrev written) s.links.units) (sym (info_is file written new has)) by_abbrevs;
           addresses = addresses;
           contexts = subst (AreContexts s.links.addresses s.links.units) (sym anew.contexts) contexts;
-          ranges = parts_anew;
+          lists = parts_anew;
         };
         roots = roots_stay all_anew;
-        ranges = lists_stay all_anew;
+        lists = lists_stay all_anew;
         sets = subst (λ (z : List ℕ). SetsTile z (unit_starts s.links.units) s.sets) (sym (aranges_are file written new has)) anew.sets.tiled;
       }
 
@@ -97,7 +100,7 @@ module _ (file written : List ℕ) (world : World) (r s : Reading) (new : NewSec
   means_anew debug means = record {
     programs = subst (λ (z : List ℕ). HaveMeanings z (line_heads s.links.programs) debug.programs) (sym (lines_are file written new has)) (anew.programs.means debug.programs means.programs);
     units = links_follow file world anew.tables anew.places anew.new_places new.info.items new.abbrevs.items r s debug.units all_anew means.units;
-    ranges = parts_follow all_anew debug.ranges means.ranges;
+    lists = λ kind. parts_follow all_anew kind (parts_of debug kind) (means.lists kind);
     aranges = means.aranges ∙ ap (λ (z : List ArangeSet). map set_meaning z) (sym anew.sets.same);
   }
 
@@ -118,19 +121,13 @@ module _ (file written : List ℕ) (world : World) (r s : Reading) (new : NewSec
     before = record { before = has.order; programs = reads_anew.links.programs; few = anew.programs.few };
     units = reads_anew.links.units;
     built = anew.units.built;
-    ranges = parts_anew;
+    lists = parts_anew;
   }
 
-  -- a list has at most twice the entries of the old one
-  few_anew : entry_total r.range_lists ≤ 2 ^ 24 → HaveFewEntries s Wide
-  few_anew few =
-      let most : entry_total s.range_lists ≤ 2 * entry_total r.range_lists = totals_double r.range_lists s.range_lists anew.ranges.count (λ k inside. (anew.ranges.each k inside).few) in
-      omega (arith, few, most)
-
   -- and it is valid
-  pub valid_anew : MeaningFilesAreValid → (debug : Debug) → MeansDebug file r debug → entry_total r.range_lists ≤ 2 ^ 24 → IsValid written Wide
-  valid_anew law debug means few =
-      law written Wide s debug units_in_order reads_anew (means_anew debug means) (expressions_are_wide file world anew.tables anew.places anew.new_places new.info.items new.abbrevs.items r s all_anew) (few_anew few)
+  pub valid_anew : MeaningFilesAreValid → (debug : Debug) → MeansDebug file r debug → entry_total r.range_lists + entry_total r.location_lists ≤ 2 ^ 24 → list_total expression_bytes r.range_lists + list_total expression_bytes r.location_lists ≤ 2 ^ 27 → IsValid written Wide
+  valid_anew law debug means few short =
+      law written Wide s debug units_in_order reads_anew (means_anew debug means) (expressions_are_wide file world anew.tables anew.places anew.new_places new.info.items new.abbrevs.items r s all_anew) (lists_within all_anew few short)
 
   -- both are read, so that what holds of what is read of them holds of both
   of_both : (Holds : Linkable → Linkable → Type 0) → Holds r.links s.links → OfBoth Holds file written
@@ -150,27 +147,27 @@ module _ (file written : List ℕ) (world : World) (r s : Reading) (new : NewSec
   columns_in_order = of_both (HaveColumns IsFirstColumn) (first_columns all_anew)
 
   -- each list is in the shortest bytes of its class
-  pub ranges_anew : HaveLeastRanges file written
-  ranges_anew =
-      (r, s, read, reads_anew, λ k inside. (let list = anew.ranges.each k inside in record { bytes = list.bytes; rest = list.rest; stands = list.stands; least = list.least }))
+  pub lists_anew : HaveLeastLists file written
+  lists_anew =
+      (r, s, read, reads_anew, λ kind k inside. (let list = (anew.lists kind).each k inside in record { bytes = list.bytes; rest = list.rest; stands = list.stands; bare = list.bare; without = list.without; least = list.least }))
 
   -- the sections hold the tables, the units and the lists, and nothing else
   pub tidy_anew : IsTidy file written
   tidy_anew =
-      let tidy : AreTidy new.abbrevs.items r s = are_tidy all_anew (tidy_lists all_anew anew.filled) in
+      let tidy : AreTidy new.abbrevs.items r s = are_tidy all_anew (λ kind. tidy_lists all_anew kind (anew.filled kind)) in
       (r, s, read, reads_anew, subst (λ (z : List ℕ). AreTidy z r s) (sym (abbrevs_are file written new has)) tidy)
 
 -- the sections of a valid file are written anew, and the file is assembled of them
-pub rewritten : (file image : List ℕ) (world : World) (new : NewSections) (written : List ℕ) → MeaningFilesAreValid → (known : IsWorldOf file Narrow world) → entry_total known.r.range_lists ≤ 2 ^ 24 → image ≡ file → ((r : Reading) → IsReading file r → Holds file world r → (s : Reading) × AreAnew file world r s new) → LeastLines (debug_line file) new.lines.items → OrderedLines (debug_line file) new.lines.items → HasSections image new written → IsRewritten file written
-rewritten file image world new written law known few is anew least order has_image =
+pub rewritten : (file image : List ℕ) (world : World) (new : NewSections) (written : List ℕ) → MeaningFilesAreValid → (known : IsWorldOf file Narrow world) → entry_total known.r.range_lists + entry_total known.r.location_lists ≤ 2 ^ 24 → list_total expression_bytes known.r.range_lists + list_total expression_bytes known.r.location_lists ≤ 2 ^ 27 → image ≡ file → ((r : Reading) → IsReading file r → Holds file world r → (s : Reading) × AreAnew file world r s new) → LeastLines (debug_line file) new.lines.items → OrderedLines (debug_line file) new.lines.items → HasSections image new written → IsRewritten file written
+rewritten file image world new written law known few short is anew least order has_image =
     let (s, all) = anew known.r known.read known.holds in
     let has : HasSections file new written = subst (λ (z : List ℕ). HasSections z new written) is has_image in
     record {
       same = same_anew file written world known.r s new known.read known.holds all has known.debug known.means;
-      still_valid = valid_anew file written world known.r s new known.read known.holds all has law known.debug known.means few;
+      still_valid = valid_anew file written world known.r s new known.read known.holds all has law known.debug known.means few short;
       least = subst (λ (z : List ℕ). LeastLines (debug_line file) z) (sym (lines_are file written new has)) least;
       order = subst (λ (z : List ℕ). OrderedLines (debug_line file) z) (sym (lines_are file written new has)) order;
-      ranges = ranges_anew file written world known.r s new known.read known.holds all has;
+      lists = lists_anew file written world known.r s new known.read known.holds all has;
       tidy = tidy_anew file written world known.r s new known.read known.holds all has;
       columns = columns_anew file written world known.r s new known.read known.holds all has;
       columns_order = columns_in_order file written world known.r s new known.read known.holds all has;

@@ -23,15 +23,19 @@ use Rattle.entry_read.specs.Units.{HeadAndForest}
 use Rattle.unit_write.specs.declared.places.Places.{Places}
 use Rattle.unit_write.specs.Sizes.{NumbersHaveSizes, ExpressionsHaveSizes, ShortestHaveSizes}
 use Rattle.unit_write.proofs.UnitLaws.{placed_order}
-use Rattle.value_links.specs.Sections.{body_named, body_or_none, debug_info, debug_abbrev, debug_line, debug_aranges, info_name, abbrev_name, line_name, rnglists_name, aranges_name}
-use Rattle.list_model.specs.declared.entry.ListKind.TheVariants.{Ranges}
-use Rattle.value_links.specs.Reading.{ProgramRead, UnitRead, ListSection, ListRead, Reading, no_program, no_unit, line_heads, unit_heads, unit_starts}
+use Rattle.value_links.specs.Sections.{body_named, body_or_none, debug_info, debug_abbrev, debug_line, debug_aranges, info_name, abbrev_name, line_name, rnglists_name, loclists_name, aranges_name}
+use Rattle.list_model.specs.declared.entry.ListKind.{ListKind}
+use Rattle.list_model.specs.declared.entry.ListKind.TheVariants.{Ranges, Locations}
+use Rattle.loc_lists.specs.Laws.{LocationsWritten}
+use Rattle.range_lists.specs.Laws.{RangesWritten}
+use Rattle.value_links.specs.Reading.{ProgramRead, UnitRead, ListSection, ListRead, Reading, of_kind, lists_of, no_program, no_unit, line_heads, unit_heads, unit_starts}
 use Rattle.value_links.specs.Whole.{IsReading}
 use Rattle.value_links.specs.TidyLists.{IsFilled}
 use Rattle.value_links.specs.Faults.{IsValid}
 use Rattle.value_links.specs.World.{World, head_and_forest, Holds, IsWorldOf}
 use Rattle.value_links.proofs.SectionLaws.{sections_are_found}
 use Rattle.rewriter.specs.declared.tables.NewTable.{NewTable}
+use Rattle.rewriter.specs.declared.new_places.ListPlaces.{ListPlaces}
 use Rattle.rewriter.specs.declared.new_places.NewPlaces.{NewPlaces}
 use Rattle.rewriter.specs.declared.sections.NewSections.{NewSections}
 use Rattle.rewriter.specs.inside.Tables.{TablesStand, table_anew, AreTablesWritten}
@@ -39,13 +43,15 @@ use Rattle.rewriter.specs.inside.Placed.{PlacesAnew, places_anew, places_at, Pla
 use Rattle.rewriter.specs.inside.Units.{AreUnitsWritten}
 use Rattle.rewriter.specs.inside.Bodies.{NewBytes, new_bytes}
 use Rattle.rewriter.specs.inside.Sections.{IsFor, AreFor}
-use Rattle.rewriter.specs.inside.Anew.{AreProgramsAnew, AreAnew}
+use Rattle.rewriter.specs.inside.Anew.{AreProgramsAnew, new_lists, AreAnew}
+use Rattle.rewriter.specs.inside.NewPlaces.{moved_lists}
 use Rattle.rewriter.specs.inside.Held.{AreListPlaces, AreNewPlaces}
-use Rattle.rewriter.specs.inside.Ranges.{AreRangesWritten}
+use Rattle.rewriter.specs.inside.Lists.{AreListsWritten}
 use Rattle.rewriter.specs.inside.ListsAnew.{AreListsAnew}
 use Rattle.rewriter.proofs.DebugSizes.{debug_short}
 use Rattle.rewriter.proofs.FewRows.{AreProgramsFew, programs_few, few_rows, programs_read}
-use Rattle.rewriter.proofs.RangesAnew.{ranges_for}
+use Rattle.rewriter.proofs.ListsAnew.{lists_anew}
+use Rattle.rewriter.proofs.ListsRead.{lists_for}
 use Rattle.rewriter.proofs.ChosenColumns.{chosen_columns_are_writable}
 use Rattle.rewriter.proofs.UsedDeclarations.{unit_is}
 
@@ -85,9 +91,9 @@ tables_empty section (table ∷ tables) none tile = absurd (omega (arith, none))
 -- THE NEW SECTIONS
 
 -- what holds of the bytes of each section holds of all
-pub each_section : (P : NewBytes → Type 0) (new : NewSections) → P (record { name = info_name; bytes = new.info.items }) → P (record { name = abbrev_name; bytes = new.abbrevs.items }) → P (record { name = line_name; bytes = new.lines.items }) → P (record { name = rnglists_name; bytes = new.ranges.items }) → P (record { name = aranges_name; bytes = new.aranges.items }) → All P (new_bytes new)
-each_section P new info abbrevs lines ranges aranges =
-    All-cons P _ (drop 1 (new_bytes new)) info (All-cons P _ (drop 2 (new_bytes new)) abbrevs (All-cons P _ (drop 3 (new_bytes new)) lines (All-cons P _ (drop 4 (new_bytes new)) ranges (All-cons P _ [] aranges (All-nil P)))))
+pub each_section : (P : NewBytes → Type 0) (new : NewSections) → P (record { name = info_name; bytes = new.info.items }) → P (record { name = abbrev_name; bytes = new.abbrevs.items }) → P (record { name = line_name; bytes = new.lines.items }) → P (record { name = rnglists_name; bytes = new.ranges.items }) → P (record { name = loclists_name; bytes = new.locations.items }) → P (record { name = aranges_name; bytes = new.aranges.items }) → All P (new_bytes new)
+each_section P new info abbrevs lines ranges locations aranges =
+    All-cons P _ (drop 1 (new_bytes new)) info (All-cons P _ (drop 2 (new_bytes new)) abbrevs (All-cons P _ (drop 3 (new_bytes new)) lines (All-cons P _ (drop 4 (new_bytes new)) ranges (All-cons P _ (drop 5 (new_bytes new)) locations (All-cons P _ [] aranges (All-nil P))))))
 
 -- PARTS
 
@@ -102,11 +108,16 @@ start_at (p ∷ places) u inside =
     ∙ sym (ap (λ (z : PlacesAnew). z.start) (get_or-map places_anew (p ∷ places) u p none inside))
 start_at [] u inside = absurd (omega arith)
 
+-- the new bytes of the section of lists of a kind
+abbrev pub list_bytes : List ℕ → List ℕ → ListKind → List ℕ
+list_bytes ranges locations Ranges = ranges
+list_bytes ranges locations Locations = locations
+
 -- What the steps of the writer give, for one reading of the file.
-pub record AreParts (file : List ℕ) (world : World) (r : Reading) (tables : List NewTable) (places : List Places) (new_places : NewPlaces) (info abbrevs lines ranges aranges : List ℕ) : Type 0 where
+pub record AreParts (file : List ℕ) (world : World) (r : Reading) (tables : List NewTable) (places : List Places) (new_places : NewPlaces) (info abbrevs lines ranges locations aranges : List ℕ) : Type 0 where
   pub holds : Holds file world r
   pub stand : StandAnew (debug_line file) world.programs lines new_places.programs.items
-  pub lists : AreRangesWritten r ranges new_places.ranges.parts.items new_places.ranges.lists.items
+  pub lists : (kind : ListKind) → AreListsWritten r places kind (list_bytes ranges locations kind) (moved_lists new_places kind).parts.items (moved_lists new_places kind).lists.items
   pub written : AreTablesWritten world abbrevs tables
   pub count : length places ≡ length world.units
   pub units : (units : List UnitRead) × AreUnitsWritten world r.links tables places new_places info abbrevs units
@@ -114,10 +125,14 @@ pub record AreParts (file : List ℕ) (world : World) (r : Reading) (tables : Li
   pub others : (k : ℕ) → IsOutside world.sets k → slice_index aranges k ≡ slice_index (debug_aranges file) k
   pub size : length aranges ≡ length (debug_aranges file)
 
-pub parts_of : {file : List ℕ} {world : World} {r : Reading} {tables : List NewTable} {places : List Places} {new_places : NewPlaces} {info abbrevs lines ranges aranges : List ℕ} → Holds file world r → StandAnew (debug_line file) world.programs lines new_places.programs.items → AreRangesWritten r ranges new_places.ranges.parts.items new_places.ranges.lists.items → AreTablesWritten world abbrevs tables → length places ≡ length world.units → ((units : List UnitRead) × AreUnitsWritten world r.links tables places new_places info abbrevs units) → SetsTile aranges (starts_of places) world.sets → ((k : ℕ) → IsOutside world.sets k → slice_index aranges k ≡ slice_index (debug_aranges file) k) → length aranges ≡ length (debug_aranges file) → AreParts file world r tables places new_places info abbrevs lines ranges aranges
-parts_of holds stand lists written count units tiled others size = record { holds = holds; stand = stand; lists = lists; written = written; count = count; units = units; tiled = tiled; others = others; size = size }
+pub parts_of : {file : List ℕ} {world : World} {r : Reading} {tables : List NewTable} {places : List Places} {new_places : NewPlaces} {info abbrevs lines ranges locations aranges : List ℕ} → Holds file world r → StandAnew (debug_line file) world.programs lines new_places.programs.items → AreListsWritten r places Ranges ranges new_places.ranges.parts.items new_places.ranges.lists.items → AreListsWritten r places Locations locations new_places.locations.parts.items new_places.locations.lists.items → AreTablesWritten world abbrevs tables → length places ≡ length world.units → ((units : List UnitRead) × AreUnitsWritten world r.links tables places new_places info abbrevs units) → SetsTile aranges (starts_of places) world.sets → ((k : ℕ) → IsOutside world.sets k → slice_index aranges k ≡ slice_index (debug_aranges file) k) → length aranges ≡ length (debug_aranges file) → AreParts file world r tables places new_places info abbrevs lines ranges locations aranges
+parts_of {file} {world} {r} {tables} {places} {new_places} {info} {abbrevs} {lines} {ranges} {locations} holds stand of_ranges of_locations written count units tiled others size = record { holds = holds; stand = stand; lists = both; written = written; count = count; units = units; tiled = tiled; others = others; size = size }
+  where
+    both : (kind : ListKind) → AreListsWritten r places kind (list_bytes ranges locations kind) (moved_lists new_places kind).parts.items (moved_lists new_places kind).lists.items
+    both Ranges = of_ranges
+    both Locations = of_locations
 
-module _ {file : List ℕ} {world : World} {r : Reading} {tables : List NewTable} {places : List Places} {new_places : NewPlaces} {info abbrevs lines ranges aranges : List ℕ} (parts : AreParts file world r tables places new_places info abbrevs lines ranges aranges) where
+module _ {file : List ℕ} {world : World} {r : Reading} {tables : List NewTable} {places : List Places} {new_places : NewPlaces} {info abbrevs lines ranges locations aranges : List ℕ} (parts : AreParts file world r tables places new_places info abbrevs lines ranges locations aranges) where
   units_count : length world.units ≡ length r.links.units
   units_count = ap (λ (z : List HeadAndForest). length z) parts.holds.units ∙ length-map r.links.units head_and_forest
 
@@ -169,11 +184,21 @@ module _ {file : List ℕ} {world : World} {r : Reading} {tables : List NewTable
       let by_sets = subst (λ (z : List ArangeSet). SetsTile aranges (starts_of places) z) parts.holds.sets parts.tiled in
       subst (λ (z : List ℕ). SetsTile aranges z r.sets) starts_are by_sets
 
-  abbrev new_ranges : ListSection
-  new_ranges = record { section = ranges; parts = new_places.ranges.parts.items }
+  -- the new section of the lists of a kind
+  abbrev new_section : ListKind → ListSection
+  new_section kind = record { section = list_bytes ranges locations kind; parts = (moved_lists new_places kind).parts.items }
 
   -- the lists are read again
-  module _ (lists : List ListRead) (lists_are : AreListsAnew r new_ranges lists new_places.ranges) (filled : (s : Reading) → s.links.ranges ≡ new_ranges → s.range_lists ≡ lists → (p : ℕ) → p < length new_places.ranges.parts.items → IsFilled Ranges s p) where
+  module _ (read : IsReading file r) (ranges_law : RangesWritten) (locations_law : LocationsWritten) where
+    abbrev Anew : ListKind → Type 0
+    Anew kind =
+        (lists : List ListRead)
+        × ((places_are : ListPlaces) → places_are.parts.items ≡ (moved_lists new_places kind).parts.items → places_are.lists.items ≡ (moved_lists new_places kind).lists.items → AreListsAnew r places kind (new_section kind) lists places_are)
+        × ((s : Reading) → of_kind s.links kind ≡ new_section kind → lists_of s kind ≡ lists → (p : ℕ) → p < length (moved_lists new_places kind).parts.items → IsFilled kind s p)
+
+    read_again : (kind : ListKind) → Anew kind
+    read_again kind = lists_anew ranges_law locations_law file r read places kind (list_bytes ranges locations kind) (moved_lists new_places kind).parts.items (moved_lists new_places kind).lists.items (parts.lists kind)
+
     abbrev new_reading : Reading
     new_reading = record {
       links = record {
@@ -181,18 +206,32 @@ module _ {file : List ℕ} {world : World} {r : Reading} {tables : List NewTable
         units = parts.units.0;
         addresses = r.links.addresses;
         contexts = r.links.contexts;
-        ranges = new_ranges;
+        ranges = new_section Ranges;
+        locations = new_section Locations;
       };
-      range_lists = lists;
+      range_lists = (read_again Ranges).0;
+      location_lists = (read_again Locations).0;
       sets = r.sets;
     }
+
+    lists_are : (kind : ListKind) → AreListsAnew r places kind (of_kind new_reading.links kind) (lists_of new_reading kind) (moved_lists new_places kind)
+    lists_are Ranges = (read_again Ranges).1 new_places.ranges refl refl
+    lists_are Locations = (read_again Locations).1 new_places.locations refl refl
+
+    lists_filled : (kind : ListKind) (p : ℕ) → p < length (of_kind new_reading.links kind).parts → IsFilled kind new_reading p
+    lists_filled Ranges = (read_again Ranges).2 new_reading refl refl
+    lists_filled Locations = (read_again Locations).2 new_reading refl refl
+
+    sections_are : (new : NewSections) → new.ranges.items ≡ ranges → new.locations.items ≡ locations → (kind : ListKind) → (of_kind new_reading.links kind).section ≡ new_lists new kind
+    sections_are new n o Ranges = sym n
+    sections_are new n o Locations = sym o
 
     programs_anew : AreProgramsAnew (debug_line file) r.links new_reading.links lines new_places
     programs_anew = record { read = few.are; few = few.few; count = programs_count; places = program_place; means = programs_mean }
 
     -- The new sections are read, and mean what the old ones mean.
-    pub are_anew : (new : NewSections) → new.info.items ≡ info → new.abbrevs.items ≡ abbrevs → new.lines.items ≡ lines → new.ranges.items ≡ ranges → new.aranges.items ≡ aranges → (s : Reading) × AreAnew file world r s new
-    are_anew new i a l n g = (
+    pub are_anew : (new : NewSections) → new.info.items ≡ info → new.abbrevs.items ≡ abbrevs → new.lines.items ≡ lines → new.ranges.items ≡ ranges → new.locations.items ≡ locations → new.aranges.items ≡ aranges → (s : Reading) × AreAnew file world r s new
+    are_anew new i a l n o g = (
       new_reading,
       record {
         tables = tables;
@@ -200,9 +239,9 @@ module _ {file : List ℕ} {world : World} {r : Reading} {tables : List NewTable
         new_places = new_places;
         tables_written = subst (λ (z : List ℕ). AreTablesWritten world z tables) (sym a) parts.written;
         programs = subst (λ (z : List ℕ). AreProgramsAnew (debug_line file) r.links new_reading.links z new_places) (sym l) programs_anew;
-        section = sym n;
-        ranges = lists_are;
-        filled = filled new_reading refl refl;
+        section = sections_are new n o;
+        lists = lists_are;
+        filled = lists_filled;
         addresses = refl;
         contexts = refl;
         units = subst (λ (z : List ℕ). AreUnitsWritten world r.links tables places new_places z new.abbrevs.items parts.units.0) (sym i) (subst (λ (z : List ℕ). AreUnitsWritten world r.links tables places new_places info z parts.units.0) (sym a) parts.units.1);
@@ -215,7 +254,7 @@ module _ {file : List ℕ} {world : World} {r : Reading} {tables : List NewTable
       },
     )
 
-module _ {file : List ℕ} {world : World} {r : Reading} {tables : List NewTable} {places : List Places} {new_places : NewPlaces} {info abbrevs lines ranges aranges : List ℕ} (parts : AreParts file world r tables places new_places info abbrevs lines ranges aranges) (read : IsReading file r) (valid : IsValid file Narrow) where
+module _ {file : List ℕ} {world : World} {r : Reading} {tables : List NewTable} {places : List Places} {new_places : NewPlaces} {info abbrevs lines ranges locations aranges : List ℕ} (parts : AreParts file world r tables places new_places info abbrevs lines ranges locations aranges) (read : IsReading file r) (valid : IsValid file Narrow) where
   -- A section that the file lacks has no new bytes.
   pub lines_for : IsFor file line_name lines
   lines_for none =
@@ -248,7 +287,10 @@ module _ {file : List ℕ} {world : World} {r : Reading} {tables : List NewTable
       ]
 
   pub rnglists_for : IsFor file rnglists_name ranges
-  rnglists_for none = ranges_for read parts.lists (none_empty file rnglists_name none)
+  rnglists_for none = lists_for read (parts.lists Ranges) (none_empty file rnglists_name none)
+
+  pub loclists_for : IsFor file loclists_name locations
+  loclists_for none = lists_for read (parts.lists Locations) (none_empty file loclists_name none)
 
   pub aranges_for : IsFor file aranges_name aranges
   aranges_for none =
@@ -262,10 +304,10 @@ module _ {file : List ℕ} {world : World} {r : Reading} {tables : List NewTable
       let size = parts.size in
       omega (arith, size, small)
 
-  pub are_for : (new : NewSections) → new.info.items ≡ info → new.abbrevs.items ≡ abbrevs → new.lines.items ≡ lines → new.ranges.items ≡ ranges → new.aranges.items ≡ aranges → length info < 2 ^ 32 - 1 → length abbrevs < 2 ^ 32 - 1 → length lines < 2 ^ 32 - 1 → length ranges < 2 ^ 32 - 1 → AreFor file new
-  are_for new i a l n g info_fits abbrevs_fit all_lines_fit all_ranges_fit = record {
-    each = each_section (λ (n : NewBytes). IsFor file n.name n.bytes) new (λ none. i ∙ info_for none) (λ none. a ∙ abbrevs_for none) (λ none. l ∙ lines_for none) (λ none. n ∙ rnglists_for none) (λ none. g ∙ aranges_for none);
-    fit = each_section (λ (n : NewBytes). length n.bytes < 2 ^ 32 - 1) new (subst (λ (z : List ℕ). length z < 2 ^ 32 - 1) (sym i) info_fits) (subst (λ (z : List ℕ). length z < 2 ^ 32 - 1) (sym a) abbrevs_fit) (subst (λ (z : List ℕ). length z < 2 ^ 32 - 1) (sym l) all_lines_fit) (subst (λ (z : List ℕ). length z < 2 ^ 32 - 1) (sym n) all_ranges_fit) (subst (λ (z : List ℕ). length z < 2 ^ 32 - 1) (sym g) aranges_fit);
+  pub are_for : (new : NewSections) → new.info.items ≡ info → new.abbrevs.items ≡ abbrevs → new.lines.items ≡ lines → new.ranges.items ≡ ranges → new.locations.items ≡ locations → new.aranges.items ≡ aranges → length info < 2 ^ 32 - 1 → length abbrevs < 2 ^ 32 - 1 → length lines < 2 ^ 32 - 1 → length ranges < 2 ^ 32 - 1 → length locations < 2 ^ 32 - 1 → AreFor file new
+  are_for new i a l n o g info_fits abbrevs_fit all_lines_fit all_ranges_fit all_locations_fit = record {
+    each = each_section (λ (n : NewBytes). IsFor file n.name n.bytes) new (λ none. i ∙ info_for none) (λ none. a ∙ abbrevs_for none) (λ none. l ∙ lines_for none) (λ none. n ∙ rnglists_for none) (λ none. o ∙ loclists_for none) (λ none. g ∙ aranges_for none);
+    fit = each_section (λ (n : NewBytes). length n.bytes < 2 ^ 32 - 1) new (subst (λ (z : List ℕ). length z < 2 ^ 32 - 1) (sym i) info_fits) (subst (λ (z : List ℕ). length z < 2 ^ 32 - 1) (sym a) abbrevs_fit) (subst (λ (z : List ℕ). length z < 2 ^ 32 - 1) (sym l) all_lines_fit) (subst (λ (z : List ℕ). length z < 2 ^ 32 - 1) (sym n) all_ranges_fit) (subst (λ (z : List ℕ). length z < 2 ^ 32 - 1) (sym o) all_locations_fit) (subst (λ (z : List ℕ). length z < 2 ^ 32 - 1) (sym g) aranges_fit);
   }
 
 -- WHAT THE STEPS ASK FOR
@@ -287,8 +329,8 @@ heads_below section (head ∷ heads) a e follow =
     let inside = b.inside in
     All-cons (λ (h : Head). h.at < length section) head heads (omega (arith, inside)) (heads_below section heads (a + head.len) e follow.2)
 
-pub places_are_new : (section : List ℕ) (world : World) (bytes : List ℕ) (new_places : NewPlaces) → StandAnew section world.programs bytes new_places.programs.items → length bytes < 2 ^ 32 → AreListPlaces world new_places.ranges → AreNewPlaces world new_places
-places_are_new section world bytes new_places stand short lists =
+pub places_are_new : (section : List ℕ) (world : World) (bytes : List ℕ) (new_places : NewPlaces) → StandAnew section world.programs bytes new_places.programs.items → length bytes < 2 ^ 32 → AreListPlaces world Ranges new_places.ranges → AreListPlaces world Locations new_places.locations → AreNewPlaces world new_places
+places_are_new section world bytes new_places stand short of_ranges of_locations =
     let size : length (map (λ (h : Head). h.at) stand.written) ≡ length stand.written = length-map stand.written (λ (h : Head). h.at) in
     let below = heads_below bytes stand.written 0 (length bytes) stand.read.tiled in
     let none : Head = no_program.head in
@@ -296,8 +338,12 @@ places_are_new section world bytes new_places stand short lists =
     record {
       programs = ap (λ (z : List ℕ). length z) stand.places ∙ size ∙ stand.count;
       programs_fit = subst (λ (z : List ℕ). All (λ start. start < 2 ^ 32) z) (sym stand.places) (All-map (λ start. start < 2 ^ 32) (λ (h : Head). h.at) stand.written each);
-      ranges = lists;
+      lists = both;
     }
+  where
+    both : (kind : ListKind) → AreListPlaces world kind (moved_lists new_places kind)
+    both Ranges = of_ranges
+    both Locations = of_locations
 
 places_from : (places : List Places) (at end : ℕ) → All (λ (p : Places). p.start ≤ p.end) places → PlacesFollow places at end → (at ≤ end) × All (λ (p : Places). p.start ≤ end) places
 places_from [] at end rise follow = (let e : at ≡ end = follow in omega (arith, e), All-nil (λ (p : Places). p.start ≤ end))

@@ -3,14 +3,14 @@ use Rattle.std.proofs.Common.{◌≡◌, ◌≢◌, ◌≤◌, ◌<◌, ◌+◌,
 use Rattle.std.specs.Prelude.{[], ◌∷◌, slice_range, bytes_eq}
 use Rattle.std.proofs.lemmas.Bool.{cases_lt, cases_eq, false_from_ne_true, true_from_ne_false}
 use Rattle.std.proofs.lemmas.Slice.Eq.{bytes_eq-Decides}
-use Rattle.dw_base.specs.declared.fault.Kind.TheVariants.{NotElf64, FileType, Torn, Overlap, Compressed, Relocated, TwoSections, Placed, Companion, Limit, Unbuilt}
+use Rattle.dw_base.specs.declared.fault.Kind.TheVariants.{NotElf64, FileType, Torn, Overlap, Compressed, Relocated, TwoSections, Placed, Companion, Limit}
 use Rattle.dw_base.specs.declared.fault.Reach.{Reach}
 use Rattle.elf_sections.specs.Elf.{IsElf64, file_type, section_count, section_size, segment_count, segment_size, segments_at, sections_at, names_index, name_offset, segment_at, header_at, segment_end, section_end, offset_of}
 use Rattle.elf_sections.specs.Names.{names_of, name_of, IsNamed, is_debug_name}
 use Rattle.elf_sections.specs.Faults.{file_limit, movable_limit, movable_bytes, is_overlapping, is_compressed, is_debug_relocation, is_misplaced, is_companion, is_too_long, is_overaligned, SomeSection, IsHeaderTorn, IsTorn, IsHeaderTooLarge, IsLimit, HasSectionTable, HasSegmentTable, IsHeaderSmall, IsWhole, IsSectionSound, IsSound}
-use Rattle.value_links.specs.Faults.{is_list_section, IsValid}
+use Rattle.value_links.specs.Faults.{IsValid}
 use Rattle.value_links.specs.Faults.Pass.{OfFile, OfNames}
-use Rattle.value_links.specs.Laws.{HasNoLists, IsImageInOrder}
+use Rattle.value_links.specs.Laws.{IsImageInOrder}
 
 -- numbers that aren't so are the contrary
 at_most : (a b : ℕ) → (b < a → ⊥) → a ≤ b
@@ -139,11 +139,5 @@ module _ (file : List ℕ) (reach : Reach) (valid : IsValid file reach) where
     movable = movable (section_count file) (omega arith);
   }
 
-  no_lists : HasNoLists file
-  no_lists i inside lists = valid OfNames Unbuilt (offset_of file i) (is_elf, some_section (is_list_section file) i inside (section_header i inside) lists)
-
   pub image_in_order : IsImageInOrder file reach
-  image_in_order = record {
-    image = record { elf = is_elf; linked = linked; small = small; whole = whole; sound = sound };
-    names = no_lists;
-  }
+  image_in_order = record { elf = is_elf; linked = linked; small = small; whole = whole; sound = sound }

@@ -6,12 +6,13 @@ pub mod Columns
 pub mod Counting
 pub mod Follows
 pub mod Held
+pub mod ListNumbers
+pub mod Lists
 pub mod ListsAnew
 pub mod NewPlaces
 pub mod Numbers
 pub mod Placed
 pub mod Plans
-pub mod Ranges
 pub mod Rewritten
 pub mod Sections
 pub mod Tables

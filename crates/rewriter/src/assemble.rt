@@ -39,6 +39,7 @@ fn new_bodies(
         abbrevs,
         lines,
         ranges,
+        locations,
         aranges,
     } = sections;
     let mut bodies = Vec::new(alloc);
@@ -46,14 +47,14 @@ fn new_bodies(
     push_body(&mut bodies, image, b".debug_abbrev".as_slice(), abbrevs)?;
     push_body(&mut bodies, image, b".debug_line".as_slice(), lines)?;
     push_body(&mut bodies, image, b".debug_rnglists".as_slice(), ranges)?;
+    push_body(&mut bodies, image, b".debug_loclists".as_slice(), locations)?;
     push_body(&mut bodies, image, b".debug_aranges".as_slice(), aranges)?;
     Ok(bodies)
 }
 
 /// The file with these sections in place of its own (System V ABI, ELF-64). A section that the file lacks isn't added.
 ///
-/// The file is within the narrow limits and has no section of location lists; the written one is within the wide limits. What is loaded
-/// stays where it is. The movable sections follow, each at the next multiple of its alignment, then the section headers; all
+/// The file is within the narrow limits; the written one is within the wide limits. What is loaded stays where it is. The movable sections follow, each at the next multiple of its alignment, then the section headers; all
 /// sections keep their names and headers, but for where they stand and how long they are, and those that aren't written anew
 /// keep their bytes. The only error is want of memory.
 pub fn assemble(

@@ -63,14 +63,12 @@ fn with_sections(
     let Some(_) = image.find(b".debug_line".as_slice()) else {
         return Err(NoMemory);
     };
-    let None = image.find(b".debug_loclists".as_slice()) else {
-        return Err(NoMemory);
-    };
     let sections = NewSections {
         info,
         abbrevs: Vec::new(alloc),
         lines,
         ranges: Vec::new(alloc),
+        locations: Vec::new(alloc),
         aranges: Vec::new(alloc),
     };
     assemble(alloc, &image, sections)

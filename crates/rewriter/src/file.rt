@@ -7,7 +7,7 @@ ghost use Rattle.value_links.specs.Faults.{IsValid, NamesFault};
 ghost use Rattle.value_links.specs.Same.{Same};
 ghost use Rattle.value_links.specs.World.{IsWorldOf};
 ghost use Rattle.value_links.specs.Placed.{IsPlaced};
-ghost use Rattle.value_links.specs.Classes.{HaveLeastCodes, HaveOrderedCodes, HaveLeastColumns, HaveFirstColumns, HaveLeastRanges};
+ghost use Rattle.value_links.specs.Classes.{HaveLeastCodes, HaveOrderedCodes, HaveLeastColumns, HaveFirstColumns, HaveLeastLists};
 ghost use Rattle.value_links.specs.Tidy.{IsTidy};
 ghost use Rattle.rewriter.specs.inside.Rewritten.{IsRewritten};
 
@@ -34,9 +34,10 @@ fn write_anew(alloc: Global, world: &World<'_>) -> Result<Vec<u8>, NoMemory>
 /// file means the same: the same line number rows, units, entries and values, each reference at what it named, and all other
 /// sections as they are. It is valid within the wide limits.
 ///
-/// Each line number program is the shortest that gives its rows (DWARF 5 section 6.2). Each range list that something names is the
-/// shortest that gives its ranges in the context of its unit or, where it is frozen, the shortest with its own entries; nothing else
-/// stands in .debug_rnglists (sections 2.17.3, 7.25 and 7.28). Each abbreviation table that units name is
+/// Each line number program is the shortest that gives its rows (DWARF 5 section 6.2). Each range list and location list that something
+/// names is the shortest that gives its ranges or locations in the context of its unit or, where it is frozen, the shortest with its own
+/// entries, expressions left out; but for headers and offsets nothing else stands in .debug_rnglists and .debug_loclists (sections 2.6.2, 2.17.3,
+/// 7.25, 7.28 and 7.29). Each abbreviation table that units name is
 /// written once, without unused declarations, with the codes that take the fewest bytes (DWARF 5 section 7.5.3).
 ///
 /// A column is what one attribute of a declaration has in all entries of the declaration, over all units that name its table. Each
@@ -45,7 +46,7 @@ fn write_anew(alloc: Global, world: &World<'_>) -> Result<Vec<u8>, NoMemory>
 /// the one with the lowest code. So an entry may grow where its column as a whole shrinks.
 ///
 /// Each number of a table, each code and each value in its form has its fewest bytes, but a reference in DW_FORM_ref_udata, which
-/// has five. An expression keeps its operations, each reference at the new place of what it named: that to a base type in five bytes,
+/// has five. An expression of an entry or a list keeps its operations, each reference at the new place of what it named: that to a base type in five bytes,
 /// and a call as DW_OP_call4; all else in it has its fewest bytes (sections 2.5 and 7.7.1). Bytes after a unit's entries are dropped.
 pub fn rewrite(alloc: Global, file: &[u8]) -> Result<Vec<u8>, Refusal>
     ensures valid { IfOk result (λ _. IsValid file.now Narrow) }
@@ -53,7 +54,7 @@ pub fn rewrite(alloc: Global, file: &[u8]) -> Result<Vec<u8>, Refusal>
     ensures still_valid { IfOk result (λ written. IsValid written.items Wide) }
     ensures least { IfOk result (λ written. LeastLines (debug_line file.now) (debug_line written.items)) }
     ensures order { IfOk result (λ written. OrderedLines (debug_line file.now) (debug_line written.items)) }
-    ensures ranges { IfOk result (λ written. HaveLeastRanges file.now written.items) }
+    ensures lists { IfOk result (λ written. HaveLeastLists file.now written.items) }
     ensures columns { IfOk result (λ written. HaveLeastColumns file.now written.items) }
     ensures columns_order { IfOk result (λ written. HaveFirstColumns file.now written.items) }
     ensures codes { IfOk result (λ written. HaveLeastCodes file.now written.items) }

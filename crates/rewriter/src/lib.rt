@@ -7,6 +7,8 @@ mod assemble;
 mod assemble_tests;
 mod columns;
 mod file;
+mod list_expressions;
+mod lists;
 mod new_places;
 #[cfg(test)]
 mod number_tests;
@@ -14,10 +16,10 @@ mod numbers;
 #[cfg(test)]
 mod place_tests;
 mod places;
-mod ranges;
 #[cfg(test)]
 mod section_tests;
 mod sections;
+mod table_maps;
 mod tables;
 #[cfg(test)]
 mod test_file;

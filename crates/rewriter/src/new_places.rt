@@ -11,11 +11,13 @@ pub struct ListPlaces {
     pub lists: Vec<Moved>,
 }
 
-/// The new places of what section offsets name. What is written anew of a further section is a field more.
+/// The new places of what section offsets name.
 #[derive(Drop)]
 pub struct NewPlaces {
     /// Where each line number program begins in the new .debug_line, in their order.
     pub programs: Vec<u64>,
     /// The contributions and the lists of the new .debug_rnglists.
     pub ranges: ListPlaces,
+    /// Those of the new .debug_loclists.
+    pub locations: ListPlaces,
 }

@@ -4,13 +4,13 @@ ghost use Rattle.dw_base.specs.declared.fault.Reach.{Reach};
 ghost use Rattle.dw_base.specs.declared.fault.Reach.TheVariants.{Narrow};
 ghost use Rattle.entry_arena.specs.declared.entry.Target.{Target};
 ghost use Rattle.entry_arena.specs.Arena.{entry_at, chain_end_at, HasChainEnd};
-ghost use Rattle.list_model.specs.declared.entry.ListKind.TheVariants.{Ranges};
 ghost use Rattle.list_write.specs.Written.{moved_at};
 ghost use Rattle.value_links.specs.Reading.{Reading};
 ghost use Rattle.value_links.specs.Linked.{IsTargetAt};
 ghost use Rattle.value_links.specs.World.{IsWorldOf, Holds};
 ghost use Rattle.value_links.specs.inside.Checks.{IsNoExpr};
 ghost use Rattle.rewriter.specs.declared.new_places.NewPlaces.{NewPlaces as AnyPlaces};
+ghost use Rattle.rewriter.specs.inside.NewPlaces.{moved_lists};
 ghost use Rattle.rewriter.specs.inside.Tables.{AreTablesWritten};
 ghost use Rattle.rewriter.specs.inside.Placed.{places_anew, places_at, ArePlacesOf};
 ghost use Rattle.rewriter.specs.inside.Numbers.{MovesTo, AreNewNumbers};
@@ -155,17 +155,15 @@ fn list_place(moved: &[Moved], old: u64) -> u64
 
 // The new places of lists of a kind.
 fn places_of(new_places: &NewPlaces, kind: ListKind) -> &ListPlaces
-    requires { kind ≡ Ranges }
-    ensures { result.now ≡ new_places.now.ranges }
+    ensures { result.now ≡ moved_lists new_places.now kind }
 {
     match kind {
         ListKind::Ranges => &new_places.ranges,
-        // No file with location lists is rewritten yet.
-        ListKind::Locations => unreachable!(),
+        ListKind::Locations => &new_places.locations,
     }
 }
 
-// The new number of a section offset: the place of a line number program, a range list or a contribution, else the old number.
+// The new number of a section offset: the place of a line number program, a list or a contribution, else the old number.
 fn offset_number(world: &World<'_>, new_places: &NewPlaces, unit: u32, name: u64, old: u64) -> u64
     requires unit { unit < length world.now.units }
     requires new_places { AreNewPlaces world.now new_places.now }
@@ -178,7 +176,7 @@ fn offset_number(world: &World<'_>, new_places: &NewPlaces, unit: u32, name: u64
         Link::List(kind, _) => list_place(&places_of(new_places, kind).lists, old),
         Link::Base(kind, part) => places_of(new_places, kind).parts[part as usize].at + HEADER_SIZE,
         Link::Kept(_) => old,
-        // A section offset names a program, a range list or a contribution of these, or is kept.
+        // A section offset names a program, a list or a contribution of lists, or is kept.
         _ => unreachable!(),
     }
 }
@@ -275,7 +273,7 @@ fn new_held(
 }
 
 // The new place of an entry of the unit with a number.
-fn entry_place(places: &Vec<Places>, unit: u32, id: u32) -> u64
+pub(crate) fn entry_place(places: &Vec<Places>, unit: u32, id: u32) -> u64
     requires unit { unit < length places.now.items }
     requires entry { id < length (places_at places.now.items unit).entries }
     ensures place { result ≡ slice_index (places_at places.now.items unit).entries id }
@@ -302,7 +300,7 @@ fn counted(places: &Vec<Places>, unit: u32, named: Named, other: u32, id: u32) -
 }
 
 // The new number of the reference of an operation in an expression of the unit with a number; 0 where it names no entry.
-fn op_number(world: &World<'_>, places: &Vec<Places>, unit: u32, op: &Op) -> u64
+pub(crate) fn op_number(world: &World<'_>, places: &Vec<Places>, unit: u32, op: &Op) -> u64
     requires world { (reach : Reach) × IsWorldOf world.now.image reach world.now }
     requires unit { unit < length world.now.units }
     requires placed { AllHavePlaces world.now places.now.items }

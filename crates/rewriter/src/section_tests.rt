@@ -19,6 +19,7 @@ fn sections_are_written(rt: HostRuntime) -> Result<(), Fail> {
     assert_eq!(rt; new.abbrevs.as_slice(), &NEW_ABBREVS[..]);
     assert_eq!(rt; new.lines.as_slice(), &NEW_LINES[..]);
     assert_eq!(rt; new.ranges.len(), 0);
+    assert_eq!(rt; new.locations.len(), 0);
     assert_eq!(rt; new.aranges.as_slice(), &NEW_SETS[..]);
     Ok(())
 }

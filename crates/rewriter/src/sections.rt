@@ -10,13 +10,16 @@ ghost use Rattle.rewriter.specs.inside.Sections.{AreFor};
 ghost use Rattle.rewriter.specs.inside.Anew.{AreAnew};
 
 use crate::anew::{write_aranges, write_lines};
+use crate::lists::write_kind;
 use crate::new_places::{ListPlaces, NewPlaces};
 use crate::places::place_units;
-use crate::ranges::write_ranges;
+use crate::table_maps::TableMaps;
 use crate::tables::write_tables;
 use crate::units::write_units;
 use abbrev_tables::listings;
 use dw_base::NoMemory;
+use list_model::ListKind;
+use loc_lists::locations_written;
 use range_lists::ranges_written;
 use std::alloc::Global;
 use unit_write::values_have_sizes;
@@ -33,12 +36,14 @@ pub struct NewSections {
     pub lines: Vec<u8>,
     /// .debug_rnglists
     pub ranges: Vec<u8>,
+    /// .debug_loclists
+    pub locations: Vec<u8>,
     /// .debug_aranges
     pub aranges: Vec<u8>,
 }
 
-/// Writes the debug sections of a file anew: its line number programs and range lists, then its abbreviation tables, then its units,
-/// and the sets of address ranges that name these. Each section has fewer than the 2^32 - 1 bytes that one of the 32-bit format can't have
+/// Writes the debug sections of a file anew: its line number programs and abbreviation tables, then its lists by the new places of its
+/// units, then its units, and the sets of address ranges that name these. Each section has fewer than the 2^32 - 1 bytes that one of the 32-bit format can't have
 /// (DWARF 5 section 7.4). The only error is want of memory.
 pub fn write_sections(alloc: Global, world: &World<'_>) -> Result<NewSections, NoMemory>
     requires world { IsWorldOf world.now.image Narrow world.now }
@@ -47,20 +52,27 @@ pub fn write_sections(alloc: Global, world: &World<'_>) -> Result<NewSections, N
     ensures least { IfOk result (λ new. LeastLines (debug_line world.now.image) new.lines.items) }
     ensures order { IfOk result (λ new. OrderedLines (debug_line world.now.image) new.lines.items) }
 {
-    // Laws, which cost nothing: what was read of a unit can be written, declarations stand where they are listed, and range lists that
-    // are written are read.
+    // Laws, which cost nothing: what was read of a unit can be written, declarations stand where they are listed, and lists that are
+    // written are read.
     values_have_sizes();
     listings();
     ranges_written();
+    locations_written();
     let lines = write_lines(alloc, world)?;
-    let ranges = write_ranges(alloc, world)?;
     let tables = write_tables(alloc, world)?;
     let places = place_units(alloc, world, &tables.tables)?;
+    let maps = TableMaps::new(alloc, world, world.section(b".debug_addr"))?;
+    let ranges = write_kind(alloc, world, &maps, &places, ListKind::Ranges)?;
+    let locations = write_kind(alloc, world, &maps, &places, ListKind::Locations)?;
     let new_places = NewPlaces {
         programs: lines.starts,
         ranges: ListPlaces {
             parts: ranges.parts,
             lists: ranges.lists,
+        },
+        locations: ListPlaces {
+            parts: locations.parts,
+            lists: locations.lists,
         },
     };
     let info = write_units(alloc, world, &tables, &places, &new_places)?;
@@ -70,6 +82,7 @@ pub fn write_sections(alloc: Global, world: &World<'_>) -> Result<NewSections, N
         abbrevs: tables.bytes,
         lines: lines.bytes,
         ranges: ranges.bytes,
+        locations: locations.bytes,
         aranges,
     })
 }

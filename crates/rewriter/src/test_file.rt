@@ -4,7 +4,7 @@ ghost use Rattle.dw_base.specs.declared.fault.Reach.TheVariants.{Narrow};
 ghost use Rattle.value_links.specs.World.{IsWorldOf};
 ghost use Rattle.rewriter.specs.inside.Tables.{AreTablesWritten};
 ghost use Rattle.rewriter.specs.inside.Placed.{AreWritable};
-ghost use Rattle.rewriter.specs.inside.Held.{AreNewPlaces};
+ghost use Rattle.rewriter.specs.inside.Held.{AreListPlaces, AreNewPlaces};
 
 use crate::new_places::{ListPlaces, NewPlaces};
 use crate::tables::{Tables, write_tables};
@@ -125,24 +125,32 @@ pub fn tables_of(alloc: Global, world: &World<'_>) -> Result<Tables, NoMemory>
     write_tables(alloc, world)
 }
 
-/// The new places of what section offsets name in the file: its second line number program is at 43 now, and it has no range lists.
+// The new places of the lists of a kind, where the file of a world has none; NoMemory where it has some.
+fn no_lists(alloc: Global, world: &World<'_>, kind: ListKind) -> Result<ListPlaces, NoMemory>
+    ensures { IfOk result (AreListPlaces world.now kind) }
+{
+    if !world.contributions(kind).is_empty() {
+        return Err(NoMemory);
+    }
+    if !world.lists(kind).is_empty() {
+        return Err(NoMemory);
+    }
+    Ok(ListPlaces {
+        parts: Vec::new(alloc),
+        lists: Vec::new(alloc),
+    })
+}
+
+/// The new places of what section offsets name in the file: its second line number program is at 43 now, and it has no lists.
 pub fn new_places_of(alloc: Global, world: &World<'_>) -> Result<NewPlaces, NoMemory>
     ensures { IfOk result (AreNewPlaces world.now) }
 {
     if world.programs().len() != 2 {
         return Err(NoMemory);
     }
-    if !world.contributions(ListKind::Ranges).is_empty() {
-        return Err(NoMemory);
-    }
-    if !world.lists(ListKind::Ranges).is_empty() {
-        return Err(NoMemory);
-    }
     Ok(NewPlaces {
         programs: vec![in alloc; 0u64, 43]?,
-        ranges: ListPlaces {
-            parts: Vec::new(alloc),
-            lists: Vec::new(alloc),
-        },
+        ranges: no_lists(alloc, world, ListKind::Ranges)?,
+        locations: no_lists(alloc, world, ListKind::Locations)?,
     })
 }

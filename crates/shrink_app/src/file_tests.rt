@@ -48,7 +48,7 @@ fn sections_that_are_refused(rt: HostRuntime) -> Result<(), Fail> {
         (".debug_macro", &[0; 4], "refused Companion at 64\n"),
         // one byte holds no initial length
         (".debug_rnglists", &[0], "refused Short at 64\n"),
-        (".debug_loclists", &[0], "refused Unbuilt at 64\n"),
+        (".debug_loclists", &[0], "refused Short at 64\n"),
     ];
     for (name, body, said) in table {
         let answer = shrunk(alloc, &[(name, body)])?;

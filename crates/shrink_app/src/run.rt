@@ -5,7 +5,7 @@ ghost use Rattle.dw_base.specs.declared.fault.Kind.TheVariants.{Limit};
 ghost use Rattle.dw_base.specs.Host.{Rose, AddsPart};
 ghost use Rattle.value_links.specs.Same.{Same};
 ghost use Rattle.value_links.specs.Placed.{IsPlaced};
-ghost use Rattle.value_links.specs.Classes.{HaveLeastCodes, HaveOrderedCodes, HaveLeastColumns, HaveFirstColumns, HaveLeastRanges};
+ghost use Rattle.value_links.specs.Classes.{HaveLeastCodes, HaveOrderedCodes, HaveLeastColumns, HaveFirstColumns, HaveLeastLists};
 ghost use Rattle.value_links.specs.Tidy.{IsTidy};
 ghost use Rattle.shrink_app.specs.File.{IsValid, StaysValid, HasLeastLines, HasOrderedLines};
 ghost use Rattle.shrink_app.specs.Words.{asked};
@@ -69,7 +69,7 @@ pub fn run<H: Host>(alloc: Global, words: &Vec<String>, host: &mut H) -> u8
     ensures still_valid { result ≡ 0 → IsSomeAnd (asked words.now.items) (λ n. Writes StaysValid (H.bytes host.old) (H.bytes host.new) n.0 n.1) }
     ensures least { result ≡ 0 → IsSomeAnd (asked words.now.items) (λ n. Writes HasLeastLines (H.bytes host.old) (H.bytes host.new) n.0 n.1) }
     ensures order { result ≡ 0 → IsSomeAnd (asked words.now.items) (λ n. Writes HasOrderedLines (H.bytes host.old) (H.bytes host.new) n.0 n.1) }
-    ensures ranges { result ≡ 0 → IsSomeAnd (asked words.now.items) (λ n. Writes HaveLeastRanges (H.bytes host.old) (H.bytes host.new) n.0 n.1) }
+    ensures lists { result ≡ 0 → IsSomeAnd (asked words.now.items) (λ n. Writes HaveLeastLists (H.bytes host.old) (H.bytes host.new) n.0 n.1) }
     ensures columns { result ≡ 0 → IsSomeAnd (asked words.now.items) (λ n. Writes HaveLeastColumns (H.bytes host.old) (H.bytes host.new) n.0 n.1) }
     ensures columns_order { result ≡ 0 → IsSomeAnd (asked words.now.items) (λ n. Writes HaveFirstColumns (H.bytes host.old) (H.bytes host.new) n.0 n.1) }
     ensures codes { result ≡ 0 → IsSomeAnd (asked words.now.items) (λ n. Writes HaveLeastCodes (H.bytes host.old) (H.bytes host.new) n.0 n.1) }

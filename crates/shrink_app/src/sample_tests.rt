@@ -1,6 +1,7 @@
 // Two compiled files, in the manner of gcc and of clang. What their sections become was worked out by hand, byte for byte.
 use crate::line_tests::{LEAST_SAMPLE, NO_ROWS, SAMPLE};
-use crate::test_files::{is_unwritten, is_written, shrunk};
+use crate::test_files::{Answer, is_unwritten, is_written, shrunk};
+use std::alloc::Global;
 use std::test::Fail;
 
 // In the manner of gcc, as it is compiled: a function `f` with a parameter `x`, whose places are in a location list with view
@@ -51,10 +52,10 @@ const CLANG_ADDRESSES: [u8; 24] = [
     0x14, 0, 0, 0, 5, 0, 8, 0, 0, 0x10, 0x40, 0, 0, 0, 0, 0, 0, 0x20, 0x40, 0, 0, 0, 0, 0,
 ];
 
-// The sections stand from 64 on: .debug_info at 64, .debug_abbrev at 64 + 101, .debug_line at 165 + 71 and .debug_loclists at
-// 236 + 76.
+// The sections stand from 64 on: .debug_info at 64, and .debug_abbrev at 64 + 101. The declaration of the parameter, which has the
+// DW_AT_GNU_locviews, is at 43 there.
 #[test]
-fn location_lists_of_gcc_are_refused(rt: HostRuntime) -> Result<(), Fail> {
+fn view_numbers_are_refused(rt: HostRuntime) -> Result<(), Fail> {
     let sections: [(&str, &[u8]); 4] = [
         (".debug_info", &GCC_INFO),
         (".debug_abbrev", &GCC_ABBREVS),
@@ -62,15 +63,40 @@ fn location_lists_of_gcc_are_refused(rt: HostRuntime) -> Result<(), Fail> {
         (".debug_loclists", &GCC_LOCATIONS),
     ];
     let answer = shrunk(rt.alloc(), &sections)?;
-    is_unwritten(&rt, &answer, 3, "refused Unbuilt at 312\n");
+    is_unwritten(&rt, &answer, 3, "refused Unbuilt at 208\n");
     Ok(())
 }
 
-// .debug_info at 64, .debug_abbrev at 64 + 77, .debug_line at 141 + 76, .debug_rnglists at 217 + 34, and
-// .debug_loclists at 251 + 23.
+// The DW_AT_language of the root, 29, has one byte in place of 2, and the DW_AT_high_pc of the function, 16, one in place of 4.
+// So the unit is 4 bytes shorter (0x45 for 0x49), and the base type stands at 0x44, where DW_AT_type (twice) names it. All else
+// is as before: the one contribution of each kind of lists begins where it did.
+const LEAST_CLANG_INFO_WITH_LISTS: [u8; 73] = [
+    0x45, 0, 0, 0, 5, 0, 1, 8, 0, 0, 0, 0, // the header
+    1, 0, 0x1d, 1, 8, 0, 0, 0, 0, 0, 0, 0, 2, 0, 0, 0, 0, 0, 0, 0, 0, 0, // the root at 0x0c, up to DW_AT_ranges
+    8, 0, 0, 0, 0x0c, 0, 0, 0, 0x0c, 0, 0, 0, // its bases
+    2, 0, 0x10, 1, 0x57, 3, 0, 1, 0x44, 0, 0, 0, // the function at 0x2e
+    3, 0, 4, 0, 1, 0x44, 0, 0, 0, 0, // the parameter at 0x3a
+    4, 5, 5, 4, 0, // the base type at 0x44
+];
+
+// DW_AT_language (0x13) is data1 (0x0b) in place of data2 (5), and DW_AT_high_pc (0x12) in place of data4 (6).
+const LEAST_CLANG_ABBREVS_WITH_LISTS: [u8; 76] = [
+    1, 0x11, 1, 0x25, 0x25, 0x13, 0x0b, 3, 0x25, 0x72, 0x17, 0x10, 0x17, 0x1b, 0x25, 0x11, 1, 0x55,
+    0x23, 0x73, 0x17, 0x74, 0x17, 0x8c, 1, 0x17, 0, 0, 2, 0x2e, 1, 0x11, 0x1b, 0x12, 0x0b, 0x40,
+    0x18, 3, 0x25, 0x3a, 0x0b, 0x3b, 0x0b, 0x49, 0x13, 0x3f, 0x19, 0, 0, 3, 5, 0, 2, 0x22, 3, 0x25,
+    0x3a, 0x0b, 0x3b, 0x0b, 0x49, 0x13, 0, 0, 4, 0x24, 0, 3, 0x25, 0x3e, 0x0b, 0x0b, 0x0b, 0, 0, 0,
+];
+
+// A list with as many bytes: of the entries of 3 bytes for the first location, up to 4 from the base, DW_LLE_startx_length has the
+// lower code.
+const LEAST_CLANG_LOCATIONS: [u8; 32] = [
+    0x1c, 0, 0, 0, 5, 0, 8, 0, 1, 0, 0, 0, 4, 0, 0, 0, 1, 0, 3, 0, 4, 1, 0x55, 4, 4, 0x10, 4, 0xa3,
+    1, 0x55, 0x9f, 0,
+];
+
 #[test]
-fn location_lists_of_clang_are_refused(rt: HostRuntime) -> Result<(), Fail> {
-    let sections: [(&str, &[u8]); 6] = [
+fn lists_in_the_manner_of_clang(rt: HostRuntime) -> Result<(), Fail> {
+    let old: [(&str, &[u8]); 6] = [
         (".debug_info", &CLANG_INFO),
         (".debug_abbrev", &CLANG_ABBREVS),
         (".debug_line", &NO_ROWS),
@@ -78,8 +104,133 @@ fn location_lists_of_clang_are_refused(rt: HostRuntime) -> Result<(), Fail> {
         (".debug_loclists", &CLANG_LOCATIONS),
         (".debug_addr", &CLANG_ADDRESSES),
     ];
-    let answer = shrunk(rt.alloc(), &sections)?;
-    is_unwritten(&rt, &answer, 3, "refused Unbuilt at 274\n");
+    let new: [(&str, &[u8]); 6] = [
+        (".debug_info", &LEAST_CLANG_INFO_WITH_LISTS),
+        (".debug_abbrev", &LEAST_CLANG_ABBREVS_WITH_LISTS),
+        (".debug_line", &NO_ROWS),
+        (".debug_rnglists", &CLANG_RANGES),
+        (".debug_loclists", &LEAST_CLANG_LOCATIONS),
+        (".debug_addr", &CLANG_ADDRESSES),
+    ];
+    let answer = shrunk(rt.alloc(), &old)?;
+    is_written(&rt, rt.alloc(), &answer, &new)
+}
+
+// The first location has DW_OP_lit0 and DW_OP_convert to the base type, which stands at 0x48, in place of DW_OP_reg5.
+const CONVERTED_LOCATIONS: [u8; 34] = [
+    0x1e, 0, 0, 0, 5, 0, 8, 0, 1, 0, 0, 0, 4, 0, 0, 0, 1, 0, 4, 0, 4, 3, 0x30, 0xa8, 0x48, 4, 4,
+    0x10, 4, 0xa3, 1, 0x55, 0x9f, 0,
+];
+
+// The base type stands at 0x44 now, and a reference to it has five bytes.
+const LEAST_CONVERTED_LOCATIONS: [u8; 38] = [
+    0x22, 0, 0, 0, 5, 0, 8, 0, 1, 0, 0, 0, 4, 0, 0, 0, 1, 0, 3, 0, 4, 7, 0x30, 0xa8, 0xc4, 0x80,
+    0x80, 0x80, 0, 4, 4, 0x10, 4, 0xa3, 1, 0x55, 0x9f, 0,
+];
+
+#[test]
+fn an_expression_of_a_list_follows_what_it_names(rt: HostRuntime) -> Result<(), Fail> {
+    let old: [(&str, &[u8]); 6] = [
+        (".debug_info", &CLANG_INFO),
+        (".debug_abbrev", &CLANG_ABBREVS),
+        (".debug_line", &NO_ROWS),
+        (".debug_rnglists", &CLANG_RANGES),
+        (".debug_loclists", &CONVERTED_LOCATIONS),
+        (".debug_addr", &CLANG_ADDRESSES),
+    ];
+    let new: [(&str, &[u8]); 6] = [
+        (".debug_info", &LEAST_CLANG_INFO_WITH_LISTS),
+        (".debug_abbrev", &LEAST_CLANG_ABBREVS_WITH_LISTS),
+        (".debug_line", &NO_ROWS),
+        (".debug_rnglists", &CLANG_RANGES),
+        (".debug_loclists", &LEAST_CONVERTED_LOCATIONS),
+        (".debug_addr", &CLANG_ADDRESSES),
+    ];
+    let answer = shrunk(rt.alloc(), &old)?;
+    is_written(&rt, rt.alloc(), &answer, &new)
+}
+
+// A second list, which no entry names: its expression is DW_OP_convert to the generic type.
+const UNOWNED_LOCATIONS: [u8; 43] = [
+    0x27, 0, 0, 0, 5, 0, 8, 0, 2, 0, 0, 0, 8, 0, 0, 0, 0x18, 0, 0, 0, 1, 0, 4, 0, 4, 1, 0x55, 4, 4,
+    0x10, 4, 0xa3, 1, 0x55, 0x9f, 0, 4, 0, 4, 2, 0xa8, 0, 0,
+];
+
+// The first list is the shortest, and the second one keeps its entries.
+const LEAST_UNOWNED_LOCATIONS: [u8; 43] = [
+    0x27, 0, 0, 0, 5, 0, 8, 0, 2, 0, 0, 0, 8, 0, 0, 0, 0x18, 0, 0, 0, 1, 0, 3, 0, 4, 1, 0x55, 4, 4,
+    0x10, 4, 0xa3, 1, 0x55, 0x9f, 0, 4, 0, 4, 2, 0xa8, 0, 0,
+];
+
+#[test]
+fn a_list_that_no_entry_names_is_kept(rt: HostRuntime) -> Result<(), Fail> {
+    let old: [(&str, &[u8]); 6] = [
+        (".debug_info", &CLANG_INFO),
+        (".debug_abbrev", &CLANG_ABBREVS),
+        (".debug_line", &NO_ROWS),
+        (".debug_rnglists", &CLANG_RANGES),
+        (".debug_loclists", &UNOWNED_LOCATIONS),
+        (".debug_addr", &CLANG_ADDRESSES),
+    ];
+    let new: [(&str, &[u8]); 6] = [
+        (".debug_info", &LEAST_CLANG_INFO_WITH_LISTS),
+        (".debug_abbrev", &LEAST_CLANG_ABBREVS_WITH_LISTS),
+        (".debug_line", &NO_ROWS),
+        (".debug_rnglists", &CLANG_RANGES),
+        (".debug_loclists", &LEAST_UNOWNED_LOCATIONS),
+        (".debug_addr", &CLANG_ADDRESSES),
+    ];
+    let answer = shrunk(rt.alloc(), &old)?;
+    is_written(&rt, rt.alloc(), &answer, &new)
+}
+
+// The answer to the file of clang with these location lists.
+fn answer_with(alloc: Global, locations: &[u8]) -> Result<Answer, Fail> {
+    let sections: [(&str, &[u8]); 6] = [
+        (".debug_info", &CLANG_INFO),
+        (".debug_abbrev", &CLANG_ABBREVS),
+        (".debug_line", &NO_ROWS),
+        (".debug_rnglists", &CLANG_RANGES),
+        (".debug_loclists", locations),
+        (".debug_addr", &CLANG_ADDRESSES),
+    ];
+    shrunk(alloc, &sections)
+}
+
+// The references of expressions: to the base type, in the list that no entry names, which is at 36 in the section; and to a place
+// where no entry stands, at 24.
+#[test]
+fn references_in_lists_that_are_refused(rt: HostRuntime) -> Result<(), Fail> {
+    let alloc = rt.alloc();
+    let mut unowned = UNOWNED_LOCATIONS;
+    unowned[41] = 0x48;
+    let answer = answer_with(alloc, &unowned)?;
+    is_unwritten(&rt, &answer, 3, "refused ListShared at 310\n");
+    let mut astray = CONVERTED_LOCATIONS;
+    astray[24] = 0x49;
+    let answer = answer_with(alloc, &astray)?;
+    is_unwritten(&rt, &answer, 3, "refused Target at 298\n");
+    Ok(())
+}
+
+// .debug_info at 64, .debug_abbrev at 64 + 77, .debug_line at 141 + 76, .debug_rnglists at 217 + 34, and .debug_loclists at
+// 251 + 23, with the list at 16 there.
+#[test]
+fn damaged_location_lists_are_refused(rt: HostRuntime) -> Result<(), Fail> {
+    // A byte of the section, what stands there instead, and the answer: no kind of entry; an expression that is cut off; an opcode that
+    // isn't known; and a slot that tells a place behind the section.
+    let table = [
+        (16, 9, "refused ListEntry at 290\n"),
+        (26, 0x20, "refused Short at 300\n"),
+        (22, 0xed, "refused Op at 296\n"),
+        (12, 0x14, "refused Pointer at 286\n"),
+    ];
+    for (at, byte, said) in table {
+        let mut locations = CLANG_LOCATIONS;
+        locations[at] = byte;
+        let answer = answer_with(rt.alloc(), &locations)?;
+        is_unwritten(&rt, &answer, 3, said);
+    }
     Ok(())
 }
 

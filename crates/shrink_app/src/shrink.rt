@@ -4,7 +4,7 @@ ghost use Rattle.std.specs.Option.{ForSome};
 ghost use Rattle.dw_base.specs.Host.{Rose};
 ghost use Rattle.value_links.specs.Same.{Same};
 ghost use Rattle.value_links.specs.Placed.{IsPlaced};
-ghost use Rattle.value_links.specs.Classes.{HaveLeastCodes, HaveOrderedCodes, HaveLeastColumns, HaveFirstColumns, HaveLeastRanges};
+ghost use Rattle.value_links.specs.Classes.{HaveLeastCodes, HaveOrderedCodes, HaveLeastColumns, HaveFirstColumns, HaveLeastLists};
 ghost use Rattle.value_links.specs.Tidy.{IsTidy};
 ghost use Rattle.shrink_app.specs.File.{IsValid, StaysValid, HasLeastLines, HasOrderedLines};
 ghost use Rattle.shrink_app.specs.Run.{Writes};
@@ -24,7 +24,7 @@ pub fn shrink<H: Host>(alloc: Global, input: &str, output: &str, host: &mut H) -
     ensures still_valid { OnOk result (Writes StaysValid (H.bytes host.old) (H.bytes host.new) input.now output.now) }
     ensures least { OnOk result (Writes HasLeastLines (H.bytes host.old) (H.bytes host.new) input.now output.now) }
     ensures order { OnOk result (Writes HasOrderedLines (H.bytes host.old) (H.bytes host.new) input.now output.now) }
-    ensures ranges { OnOk result (Writes HaveLeastRanges (H.bytes host.old) (H.bytes host.new) input.now output.now) }
+    ensures lists { OnOk result (Writes HaveLeastLists (H.bytes host.old) (H.bytes host.new) input.now output.now) }
     ensures columns { OnOk result (Writes HaveLeastColumns (H.bytes host.old) (H.bytes host.new) input.now output.now) }
     ensures columns_order { OnOk result (Writes HaveFirstColumns (H.bytes host.old) (H.bytes host.new) input.now output.now) }
     ensures codes { OnOk result (Writes HaveLeastCodes (H.bytes host.old) (H.bytes host.new) input.now output.now) }

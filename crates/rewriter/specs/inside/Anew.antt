@@ -4,8 +4,9 @@ use Rattle.line_write.specs.Meaning.{ProgramMeaning, HaveMeanings}
 use Rattle.companions.specs.Aranges.{IsOutside, SetsTile}
 use Rattle.unit_write.specs.declared.places.Places.{Places}
 use Rattle.value_links.specs.Sections.{debug_line, debug_aranges}
-use Rattle.value_links.specs.Reading.{Linkable, Reading, line_heads, unit_starts, program_at, AreProgramsIn}
-use Rattle.list_model.specs.declared.entry.ListKind.TheVariants.{Ranges}
+use Rattle.value_links.specs.Reading.{Linkable, Reading, of_kind, lists_of, line_heads, unit_starts, program_at, AreProgramsIn}
+use Rattle.list_model.specs.declared.entry.ListKind.{ListKind}
+use Rattle.list_model.specs.declared.entry.ListKind.TheVariants.{Ranges, Locations}
 use Rattle.value_links.specs.TidyLists.{IsFilled}
 use Rattle.value_links.specs.Laws.{HaveFewRows}
 use Rattle.value_links.specs.World.{World}
@@ -15,6 +16,7 @@ use Rattle.rewriter.specs.declared.sections.NewSections.{NewSections}
 use Rattle.rewriter.specs.inside.Tables.{AreTablesWritten}
 use Rattle.rewriter.specs.inside.Units.{AreUnitsWritten}
 use Rattle.rewriter.specs.inside.ListsAnew.{AreListsAnew}
+use Rattle.rewriter.specs.inside.NewPlaces.{moved_lists}
 
 -- The programs of the new section begin at their new places, give few rows, and mean what the old ones mean, one by one.
 pub record AreProgramsAnew (old_lines : List ℕ) (r s : Linkable) (lines : List ℕ) (new_places : NewPlaces) : Type 0 where
@@ -31,6 +33,11 @@ pub record AreSetsAnew (old : List ℕ) (r s : Reading) (new : List ℕ) : Type 
   pub size : length new ≡ length old
   pub bytes : (k : ℕ) → IsOutside r.sets k → slice_index new k ≡ slice_index old k
 
+-- the new section of lists of a kind
+abbrev pub new_lists : NewSections → ListKind → List ℕ
+new_lists new Ranges = new.ranges.items
+new_lists new Locations = new.locations.items
+
 -- What is read of the new sections of a file, of which so much was read.
 pub record AreAnew (file : List ℕ) (world : World) (r s : Reading) (new : NewSections) : Type 0 where
   pub tables : List NewTable
@@ -38,9 +45,9 @@ pub record AreAnew (file : List ℕ) (world : World) (r s : Reading) (new : NewS
   pub new_places : NewPlaces
   pub tables_written : AreTablesWritten world new.abbrevs.items tables
   pub programs : AreProgramsAnew (debug_line file) r.links s.links new.lines.items new_places
-  pub section : s.links.ranges.section ≡ new.ranges.items
-  pub ranges : AreListsAnew r s.links.ranges s.range_lists new_places.ranges
-  pub filled : (p : ℕ) → p < length s.links.ranges.parts → IsFilled Ranges s p
+  pub section : (kind : ListKind) → (of_kind s.links kind).section ≡ new_lists new kind
+  pub lists : (kind : ListKind) → AreListsAnew r places kind (of_kind s.links kind) (lists_of s kind) (moved_lists new_places kind)
+  pub filled : (kind : ListKind) (p : ℕ) → p < length (of_kind s.links kind).parts → IsFilled kind s p
   pub addresses : s.links.addresses ≡ r.links.addresses
   pub contexts : s.links.contexts ≡ r.links.contexts
   pub units : AreUnitsWritten world r.links tables places new_places new.info.items new.abbrevs.items s.links.units

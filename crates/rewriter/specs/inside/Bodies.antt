@@ -2,7 +2,7 @@
 use Rattle.std.specs.Prelude.{◌≡◌, ◌⊎◌, ℕ, List, [], ◌∷◌, ◌++◌}
 use Rattle.elf_sections.specs.Sections.{IsFirstNamed, HasNone}
 use Rattle.elf_place.specs.declared.bodies.NewBody.{NewBody}
-use Rattle.value_links.specs.Sections.{info_name, abbrev_name, line_name, rnglists_name, aranges_name}
+use Rattle.value_links.specs.Sections.{info_name, abbrev_name, line_name, rnglists_name, loclists_name, aranges_name}
 use Rattle.rewriter.specs.declared.sections.NewSections.{NewSections}
 
 -- the new bytes of a section, by its name
@@ -13,7 +13,7 @@ pub record NewBytes : Type 0 where
 -- all of them
 abbrev pub new_bytes : NewSections → List NewBytes
 new_bytes new =
-    record { name = info_name; bytes = new.info.items } ∷ record { name = abbrev_name; bytes = new.abbrevs.items } ∷ record { name = line_name; bytes = new.lines.items } ∷ record { name = rnglists_name; bytes = new.ranges.items } ∷ record { name = aranges_name; bytes = new.aranges.items } ∷ []
+    record { name = info_name; bytes = new.info.items } ∷ record { name = abbrev_name; bytes = new.abbrevs.items } ∷ record { name = line_name; bytes = new.lines.items } ∷ record { name = rnglists_name; bytes = new.ranges.items } ∷ record { name = loclists_name; bytes = new.locations.items } ∷ record { name = aranges_name; bytes = new.aranges.items } ∷ []
 
 -- the body has the new bytes for the section of their name
 pub record IsBodyWith (file : List ℕ) (new : NewBytes) (body : NewBody) : Type 0 where

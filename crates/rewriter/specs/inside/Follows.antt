@@ -1,7 +1,7 @@
 -- A file that is written anew means what the old one means: laws of its units.
 use Rattle.std.specs.Prelude.{◌≡◌, ◌<◌, ℕ, List, length, slice_index}
 use Rattle.unit_write.specs.declared.places.Places.{Places}
-use Rattle.value_links.specs.Reading.{Linkable, Reading, program_at}
+use Rattle.value_links.specs.Reading.{Linkable, Reading, of_kind, lists_of, program_at}
 use Rattle.value_links.specs.Whole.{IsReading}
 use Rattle.value_links.specs.Debug.{UnitMeaning, MeanUnits}
 use Rattle.dw_base.specs.declared.fault.Reach.TheVariants.{Wide}
@@ -12,7 +12,9 @@ use Rattle.rewriter.specs.declared.tables.NewTable.{NewTable}
 use Rattle.rewriter.specs.declared.new_places.NewPlaces.{NewPlaces}
 use Rattle.rewriter.specs.inside.Tables.{AreTablesWritten}
 use Rattle.rewriter.specs.inside.Units.{AreUnitsWritten}
+use Rattle.list_model.specs.declared.entry.ListKind.{ListKind}
 use Rattle.rewriter.specs.inside.ListsAnew.{AreListsAnew}
+use Rattle.rewriter.specs.inside.NewPlaces.{moved_lists}
 
 -- there are as many line number programs, and they begin at their new places
 pub record AreProgramsMoved (r s : Linkable) (new_places : NewPlaces) : Type 0 where
@@ -26,7 +28,7 @@ pub record AreReadAnew (file : List ℕ) (world : World) (tables : List NewTable
   pub tables_written : AreTablesWritten world abbrevs tables
   pub units : AreUnitsWritten world r.links tables places new_places info abbrevs s.links.units
   pub programs : AreProgramsMoved r.links s.links new_places
-  pub ranges : AreListsAnew r s.links.ranges s.range_lists new_places.ranges
+  pub lists : (kind : ListKind) → AreListsAnew r places kind (of_kind s.links kind) (lists_of s kind) (moved_lists new_places kind)
   pub addresses : s.links.addresses ≡ r.links.addresses
   pub contexts : s.links.contexts ≡ r.links.contexts
 

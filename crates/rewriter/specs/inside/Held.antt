@@ -21,21 +21,22 @@ use Rattle.unit_write.specs.declared.write.NewNumbers.{NewNumbers}
 use Rattle.unit_write.specs.Placing.{IsRenumbered}
 use Rattle.unit_write.specs.Moved.{IsWrittenAnew, new_values}
 use Rattle.list_model.specs.declared.contribution.Contribution.{Contribution}
-use Rattle.list_model.specs.declared.entry.ListKind.TheVariants.{Ranges}
+use Rattle.list_model.specs.declared.entry.ListKind.{ListKind}
 use Rattle.list_model.specs.Contributions.{offsets_at}
 use Rattle.list_write.specs.declared.image.Moved.{Moved}
 use Rattle.list_write.specs.Written.{moved_at}
 use Rattle.value_links.specs.declared.lists.ListRead.{ListRead as HeldList}
-use Rattle.value_links.specs.Reading.{Reading, unit_at, list_at}
+use Rattle.value_links.specs.Reading.{Reading, lists_of, unit_at, list_at}
 use Rattle.value_links.specs.declared.link.Link.{Link}
 use Rattle.value_links.specs.Linked.{Linked, Links}
 use Rattle.value_links.specs.Linked.Linked.{ListAt}
 use Rattle.value_links.specs.Links.{IsLinkFound}
 use Rattle.value_links.specs.Operations.{OpTarget, Names}
-use Rattle.value_links.specs.World.{World, table_at, operations_at, Holds}
+use Rattle.value_links.specs.World.{World, contributions_held, lists_held, table_at, operations_at, Holds}
 use Rattle.rewriter.specs.declared.tables.NewTable.{NewTable}
 use Rattle.rewriter.specs.declared.new_places.ListPlaces.{ListPlaces}
 use Rattle.rewriter.specs.declared.new_places.NewPlaces.{NewPlaces}
+use Rattle.rewriter.specs.inside.NewPlaces.{moved_lists}
 use Rattle.rewriter.specs.inside.Tables.{new_table_at}
 use Rattle.rewriter.specs.inside.Placed.{PlacesAnew, places_anew, places_at, unit_in, IsPlacedBy, PlacesFollow}
 use Rattle.rewriter.specs.inside.Numbers.{MovesEntry, IsNewNumber, IsNewReference, AreNewNumbers}
@@ -65,12 +66,12 @@ pub record AllHavePlaces (world : World) (places : List Places) : Type 0 where
   pub count : length places ≡ length world.units
   pub each : (u : ℕ) → u < length world.units → HavePlaces (unit_in world.units u).forest (places_at places u)
 
--- Each list that is held was moved, each contribution has a new place, and all fit 32 bits.
-pub record AreListPlaces (world : World) (places : ListPlaces) : Type 0 where
-  pub parts : length places.parts.items ≡ length world.contributions
+-- Each list of a kind that is held was moved, each contribution has a new place, and all fit 32 bits.
+pub record AreListPlaces (world : World) (kind : ListKind) (places : ListPlaces) : Type 0 where
+  pub parts : length places.parts.items ≡ length (contributions_held world kind)
   pub parts_fit : All (λ (part : Contribution). offsets_at part.at < 2 ^ 32) places.parts.items
-  pub lists : length places.lists.items ≡ length world.lists
-  pub from : (k : ℕ) (d : HeldList) → k < length world.lists → (moved_at places.lists.items k).old ≡ (slice_index_or world.lists k d).at
+  pub lists : length places.lists.items ≡ length (lists_held world kind)
+  pub from : (k : ℕ) (d : HeldList) → k < length (lists_held world kind) → (moved_at places.lists.items k).old ≡ (slice_index_or (lists_held world kind) k d).at
   pub rising : (j k : ℕ) → j < k → k < length places.lists.items → (moved_at places.lists.items j).old < (moved_at places.lists.items k).old
   pub lists_fit : All (λ (list : Moved). list.new < 2 ^ 32) places.lists.items
 
@@ -78,7 +79,7 @@ pub record AreListPlaces (world : World) (places : ListPlaces) : Type 0 where
 pub record AreNewPlaces (world : World) (new_places : NewPlaces) : Type 0 where
   pub programs : length new_places.programs.items ≡ length world.programs
   pub programs_fit : All (λ (start : ℕ). start < 2 ^ 32) new_places.programs.items
-  pub ranges : AreListPlaces world new_places.ranges
+  pub lists : (kind : ListKind) → AreListPlaces world kind (moved_lists new_places kind)
 
 -- a section offset has the 4 bytes of the 32-bit format (DWARF 5 section 7.4)
 abbrev pub FitsOffset : Value → Type 0
@@ -93,7 +94,7 @@ pub record MeansSomething (world : World) (u name : ℕ) (v : Value) : Type 0 wh
   pub id : ℕ
   pub linked : Linked
   pub links : Links r.links u id name (meant_in (unit_at r.links u).forest.section v) linked
-  pub listed : (n : ℕ) → Links r.links u id name (meant_in (unit_at r.links u).forest.section v) (ListAt Ranges n) → (k : ℕ) × (k < length r.range_lists) × ((list_at r.range_lists k).at ≡ n)
+  pub listed : (kind : ListKind) (n : ℕ) → Links r.links u id name (meant_in (unit_at r.links u).forest.section v) (ListAt kind n) → (k : ℕ) × (k < length (lists_of r kind)) × ((list_at (lists_of r kind) k).at ≡ n)
   pub fits : FitsOffset v
 
 -- such a value has this link, whichever entry of the unit it is of

@@ -1,41 +1,48 @@
--- What is read of the range lists of a file that were written anew.
+-- What is read of the lists of a kind that were written anew.
 use Rattle.std.specs.Prelude.{◌≡◌, ◌≤◌, ◌<◌, ◌*◌, ◌++◌, ℕ, List, length}
-use Rattle.list_model.specs.declared.entry.ListKind.TheVariants.{Ranges}
+use Rattle.list_model.specs.declared.entry.ListKind.{ListKind}
 use Rattle.list_model.specs.Contributions.{bytes_from, ContributionsTile}
 use Rattle.list_model.specs.Entries.{Entry, AreSaid}
+use Rattle.unit_write.specs.declared.places.Places.{Places}
 use Rattle.list_write.specs.Written.{moved_at}
-use Rattle.value_links.specs.Reading.{ListSection, ListRead, Reading, part_at, list_at}
+use Rattle.value_links.specs.Reading.{ListSection, ListRead, Reading, of_kind, lists_of, part_at, list_at}
 use Rattle.value_links.specs.ListPlaces.{IsListPlace, SlotNames}
-use Rattle.value_links.specs.Lists.{IsListOf}
-use Rattle.value_links.specs.Classes.{AreLeastBytes}
+use Rattle.value_links.specs.Lists.{IsListOf, expressions_in}
+use Rattle.value_links.specs.Classes.{AreBare, AreLeastBytes}
+use Rattle.value_links.specs.TidyLists.{IsWhole}
 use Rattle.rewriter.specs.declared.new_places.ListPlaces.{ListPlaces}
-use Rattle.rewriter.specs.inside.Ranges.{MeanTheSame}
+use Rattle.rewriter.specs.inside.Lists.{MeanTheSame, AreNewExpressions}
 
--- A list is read in the new section, in its contribution, and means what the old one means. Its bytes are the shortest of its class.
-pub record IsListAnew (r : Reading) (ranges : ListSection) (old new : ListRead) : Type 0 where
+-- A list is read in the new section, in its contribution, and means what the old one means: its entries do, and the expressions of its
+-- items are the old ones with new references. Its bytes are the shortest of its class, but for these expressions.
+pub record IsListAnew (r : Reading) (places : List Places) (kind : ListKind) (section : ListSection) (old new : ListRead) : Type 0 where
   pub part : new.part ≡ old.part
-  pub begins : IsListPlace ranges new.part new.at
-  pub read : IsListOf Ranges ranges.section (part_at ranges new.part) new.at new.raws
+  pub begins : IsListPlace section new.part new.at
+  pub read : IsListOf kind section.section (part_at section new.part) new.at new.raws
   pub entries : List Entry
-  pub said : AreSaid Ranges new.raws entries
+  pub said : AreSaid kind new.raws entries
   pub few : length new.raws ≤ 2 * length old.raws
-  pub same : (before : List Entry) → AreSaid Ranges old.raws before → MeanTheSame r old before entries
+  pub same : (before : List Entry) → AreSaid kind old.raws before → MeanTheSame r kind old before entries
+  pub expressions : AreNewExpressions r.links places kind old (expressions_in kind section.section new.raws)
   pub bytes : List ℕ
   pub rest : List ℕ
-  pub stands : bytes_from ranges.section (part_at ranges new.part) new.at ≡ bytes ++ rest
-  pub least : AreLeastBytes r.links Ranges old bytes
+  pub stands : bytes_from section.section (part_at section new.part) new.at ≡ bytes ++ rest
+  pub whole : IsWhole kind new.raws bytes
+  pub bare : List ℕ
+  pub without : AreBare kind bytes bare
+  pub least : AreLeastBytes r.links kind old bare
 
 -- The contributions are those of the old section, with as many slots, and the lists those that something names, in their order. A
 -- slot names where its list stands now.
-pub record AreListsAnew (r : Reading) (ranges : ListSection) (lists : List ListRead) (places : ListPlaces) : Type 0 where
-  pub tiled : ContributionsTile ranges.section ranges.parts
-  pub parts_are : ranges.parts ≡ places.parts.items
-  pub parts : length ranges.parts ≡ length r.links.ranges.parts
-  pub slots : (p : ℕ) → p < length r.links.ranges.parts → (part_at ranges p).slots ≡ (part_at r.links.ranges p).slots
-  pub count : length lists ≡ length r.range_lists
-  pub moved : length places.lists.items ≡ length r.range_lists
-  pub from : (k : ℕ) → k < length r.range_lists → (moved_at places.lists.items k).old ≡ (list_at r.range_lists k).at
-  pub to : (k : ℕ) → k < length r.range_lists → (moved_at places.lists.items k).new ≡ (list_at lists k).at
+pub record AreListsAnew (r : Reading) (places : List Places) (kind : ListKind) (section : ListSection) (lists : List ListRead) (moved : ListPlaces) : Type 0 where
+  pub tiled : ContributionsTile section.section section.parts
+  pub parts_are : section.parts ≡ moved.parts.items
+  pub parts : length section.parts ≡ length (of_kind r.links kind).parts
+  pub slots : (p : ℕ) → p < length (of_kind r.links kind).parts → (part_at section p).slots ≡ (part_at (of_kind r.links kind) p).slots
+  pub count : length lists ≡ length (lists_of r kind)
+  pub moves : length moved.lists.items ≡ length (lists_of r kind)
+  pub from : (k : ℕ) → k < length (lists_of r kind) → (moved_at moved.lists.items k).old ≡ (list_at (lists_of r kind) k).at
+  pub to : (k : ℕ) → k < length (lists_of r kind) → (moved_at moved.lists.items k).new ≡ (list_at lists k).at
   pub rising : (j k : ℕ) → j < k → k < length lists → (list_at lists j).at < (list_at lists k).at
-  pub each : (k : ℕ) → k < length r.range_lists → IsListAnew r ranges (list_at r.range_lists k) (list_at lists k)
-  pub named : (p i k : ℕ) → k < length r.range_lists → SlotNames r.links.ranges p i (list_at r.range_lists k).at → SlotNames ranges p i (list_at lists k).at
+  pub each : (k : ℕ) → k < length (lists_of r kind) → IsListAnew r places kind section (list_at (lists_of r kind) k) (list_at lists k)
+  pub named : (p i k : ℕ) → k < length (lists_of r kind) → SlotNames (of_kind r.links kind) p i (list_at (lists_of r kind) k).at → SlotNames section p i (list_at lists k).at

@@ -1,19 +1,22 @@
--- The plans of the range lists of a file, and the maps of the address tables that they need.
-use Rattle.std.specs.Prelude.{◌≡◌, ◌<◌, ℕ, List, length, slice_index_or, Some, None}
+-- The plans of the lists of a file, their new expressions, and the maps of the address tables that the plans need.
+use Rattle.std.specs.Prelude.{◌≡◌, ◌≤◌, ◌<◌, ◌*◌, ℕ, List, length, slice_index_or, Some, None}
 use Rattle.std.specs.List.{All, Contains}
 use Rattle.list_model.specs.declared.context.Context.{Context}
-use Rattle.list_model.specs.declared.entry.ListKind.TheVariants.{Ranges}
+use Rattle.list_model.specs.declared.entry.ListKind.{ListKind}
 use Rattle.list_model.specs.declared.tables.AddrTable.{AddrTable}
 use Rattle.list_least.specs.declared.plan.Plan.{Plan}
 use Rattle.list_least.specs.Maps.{pair_at, IsMapOf}
 use Rattle.list_write.specs.declared.named.NamedList.{NamedList}
-use Rattle.list_write.specs.Written.{to_write}
+use Rattle.list_write.specs.declared.named.NewExpressions.{NewExpressions}
+use Rattle.list_write.specs.Written.{AreEnds, pieces, to_write}
+use Rattle.unit_write.specs.declared.places.Places.{Places}
 use Rattle.value_links.specs.declared.lists.ListRead.{ListRead as HeldList}
 use Rattle.value_links.specs.Reading.{ListRead, Reading, no_context}
-use Rattle.value_links.specs.World.{World, Holds, HoldsList}
-use Rattle.rewriter.specs.declared.ranges.TableMap.{TableMap}
-use Rattle.rewriter.specs.declared.ranges.TableMaps.{TableMaps}
-use Rattle.rewriter.specs.inside.Ranges.{IsPlannedFor}
+use Rattle.value_links.specs.ListFaults.{expression_bytes}
+use Rattle.value_links.specs.World.{World, lists_held, Holds, HoldsList}
+use Rattle.rewriter.specs.declared.table_maps.TableMap.{TableMap}
+use Rattle.rewriter.specs.declared.table_maps.TableMaps.{TableMaps}
+use Rattle.rewriter.specs.inside.Lists.{IsPlannedFor, AreNewExpressions}
 
 -- TABLES
 
@@ -64,21 +67,28 @@ IsContextIn world context = (u : ℕ) × (u < length world.units) × (context �
 
 -- PLANS
 
--- a list with its plan
-abbrev pub with_plan : HeldList → Plan → NamedList
-with_plan list plan = record { part = list.part; at = list.at; plan = plan }
+-- a list with its plan and the expressions of its items
+abbrev pub with_plan : HeldList → Plan → NewExpressions → NamedList
+with_plan list plan expressions = record { part = list.part; at = list.at; plan = plan; expressions = expressions }
 
--- A list that is held is to be written by a plan, whatever reading holds it.
-abbrev pub IsPlanOf : World → HeldList → Plan → Type 0
-IsPlanOf world list plan =
-    (r : Reading) (old : ListRead) → Holds world.image world r → HoldsList r.links Ranges old list → IsPlannedFor r old (to_write (with_plan list plan))
+-- A list of a kind that is held is to be written by a plan, whatever reading holds it.
+abbrev pub IsPlanOf : World → ListKind → HeldList → Plan → Type 0
+IsPlanOf world kind list plan =
+    (r : Reading) (old : ListRead) (expressions : NewExpressions) → Holds world.image world r → HoldsList r.links kind old list → IsPlannedFor r kind old (to_write (with_plan list plan expressions))
 
--- this is a list with such a plan
-pub record IsPlannedAs (world : World) (list : HeldList) (named : NamedList) : Type 0 where
-  pub is : named ≡ with_plan list named.plan
-  pub plan : IsPlanOf world list named.plan
+-- Its items are to have these expressions, which stand one after the other and have at most three times the bytes of the old ones.
+pub record AreExpressionsFor (world : World) (places : List Places) (kind : ListKind) (list : HeldList) (new : NewExpressions) : Type 0 where
+  pub ends : AreEnds new
+  pub few : length new.bytes.items ≤ 3 * expression_bytes list.raw.items
+  pub are : (r : Reading) (old : ListRead) → Holds world.image world r → HoldsList r.links kind old list → AreNewExpressions r.links places kind old (pieces 0 new.ends.items new.bytes.items)
 
--- the first lists, each with a plan
-pub record ArePlannedTo (world : World) (n : ℕ) (named : List NamedList) : Type 0 where
+-- this is a list with such a plan and such expressions
+pub record IsPlannedAs (world : World) (places : List Places) (kind : ListKind) (list : HeldList) (named : NamedList) : Type 0 where
+  pub is : named ≡ with_plan list named.plan named.expressions
+  pub plan : IsPlanOf world kind list named.plan
+  pub expressions : AreExpressionsFor world places kind list named.expressions
+
+-- the first lists, each with a plan and expressions
+pub record ArePlannedTo (world : World) (places : List Places) (kind : ListKind) (n : ℕ) (named : List NamedList) : Type 0 where
   pub count : length named ≡ n
-  pub each : (k : ℕ) (d : HeldList) (e : NamedList) → k < n → IsPlannedAs world (slice_index_or world.lists k d) (slice_index_or named k e)
+  pub each : (k : ℕ) (d : HeldList) (e : NamedList) → k < n → IsPlannedAs world places kind (slice_index_or (lists_held world kind) k d) (slice_index_or named k e)

@@ -6,10 +6,10 @@ use Rattle.value_links.specs.Sections.{debug_line}
 use Rattle.value_links.specs.Faults.{IsValid}
 use Rattle.value_links.specs.Same.{Same}
 use Rattle.value_links.specs.Placed.{IsPlaced}
-use Rattle.value_links.specs.Classes.{HaveLeastCodes, HaveOrderedCodes, HaveLeastColumns, HaveFirstColumns, HaveLeastRanges}
+use Rattle.value_links.specs.Classes.{HaveLeastCodes, HaveOrderedCodes, HaveLeastColumns, HaveFirstColumns, HaveLeastLists}
 use Rattle.value_links.specs.Tidy.{IsTidy}
 
--- The written file means the same and is valid within the wide limits. Its line number programs, its range lists, the forms of its columns
+-- The written file means the same and is valid within the wide limits. Its line number programs, its lists, the forms of its columns
 -- other than references to entries, and the codes of its entries take the fewest bytes, and of several such choices each is the one that comes
 -- first by a stated rule. Its tables and units hold nothing else, and its parts stand where they are to stand.
 pub record IsRewritten (file written : List ℕ) : Type 0 where
@@ -17,7 +17,7 @@ pub record IsRewritten (file written : List ℕ) : Type 0 where
   pub still_valid : IsValid written Wide
   pub least : LeastLines (debug_line file) (debug_line written)
   pub order : OrderedLines (debug_line file) (debug_line written)
-  pub ranges : HaveLeastRanges file written
+  pub lists : HaveLeastLists file written
   pub columns : HaveLeastColumns file written
   pub columns_order : HaveFirstColumns file written
   pub codes : HaveLeastCodes file written

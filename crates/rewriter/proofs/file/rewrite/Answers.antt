@@ -12,8 +12,8 @@ returns-clause-least c = (rw c.in_ok-world.ensures.world.holds.image at c.in_ok-
 pub returns-clause-order : goal.returns-clause-order
 returns-clause-order c = (rw c.in_ok-world.ensures.world.holds.image at c.in_ok-write_anew.ensures.rewritten).order
 
-pub returns-clause-ranges : goal.returns-clause-ranges
-returns-clause-ranges c = (rw c.in_ok-world.ensures.world.holds.image at c.in_ok-write_anew.ensures.rewritten).ranges
+pub returns-clause-lists : goal.returns-clause-lists
+returns-clause-lists c = (rw c.in_ok-world.ensures.world.holds.image at c.in_ok-write_anew.ensures.rewritten).lists
 
 pub returns-clause-columns : goal.returns-clause-columns
 returns-clause-columns c = (rw c.in_ok-world.ensures.world.holds.image at c.in_ok-write_anew.ensures.rewritten).columns

@@ -1,7 +1,7 @@
 use Rattle.std.proofs.lemmas.Result.{IfOk-weaker}
 use Rattle.rewriter.specs.inside.Sections.{HasSections}
 use Rattle.rewriter.specs.inside.Rewritten.{IsRewritten}
-use Rattle.rewriter.proofs.ListTotals.{few_entries}
+use Rattle.rewriter.proofs.ListTotals.{all_entries_few, all_expression_bytes_few}
 use Rattle.rewriter.proofs.Rewritten.{rewritten, image_ordered}
 use Rattle.rewriter.proofs.file.write_anew.Goals as goal
 
@@ -12,4 +12,6 @@ pub returns : goal.returns
 returns c =
     let file = c.args.world.now.image in
     let sections = c.in_ok-sections in
-    record { rewritten = IfOk-weaker c.assemble.result (λ written. HasSections c.image.result.now sections.sections written.items) (λ written. IsRewritten file written.items) (λ written has. rewritten file c.image.result.now c.args.world.now sections.sections written.items c.valid_files.ensures.whole c.requires.world (few_entries c.args.world.now c.requires.world) c.image.ensures sections.ensures.anew sections.ensures.least sections.ensures.order has) c.assemble.ensures.has }
+    let entries = all_entries_few c.args.world.now c.requires.world in
+    let bytes = all_expression_bytes_few c.args.world.now c.requires.world in
+    record { rewritten = IfOk-weaker c.assemble.result (λ written. HasSections c.image.result.now sections.sections written.items) (λ written. IsRewritten file written.items) (λ written has. rewritten file c.image.result.now c.args.world.now sections.sections written.items c.valid_files.ensures.whole c.requires.world entries bytes c.image.ensures sections.ensures.anew sections.ensures.least sections.ensures.order has) c.assemble.ensures.has }

@@ -6,22 +6,23 @@ use Rattle.list_model.specs.Contributions.{offsets_at}
 use Rattle.list_write.specs.declared.image.Moved.{Moved}
 use Rattle.list_write.specs.Written.{part_at, moved_at}
 use Rattle.rewriter.specs.declared.new_places.ListPlaces.{ListPlaces}
-use Rattle.rewriter.proofs.Links.{offset_link, lines_inside, held_programs, new_lines, new_kept, list_kind, list_links, base_kind, part_there, part_read, held_list, new_list, new_base}
+use Rattle.rewriter.specs.inside.NewPlaces.{moved_lists}
+use Rattle.rewriter.proofs.Links.{offset_link, lines_inside, held_programs, new_lines, new_kept, list_links, part_there, part_read, held_list, new_list, new_base}
 use Rattle.rewriter.proofs.numbers.offset_number.Goals as goal
 
 -- a contribution that is named has a new place, which fits
-known : (c : goal.After-index-in-Base) → c.in-Base.part < length c.args.new_places.now.ranges.parts.items
+known : (c : goal.After-index-in-Base) → c.in-Base.part < length (moved_lists c.args.new_places.now c.in-Base.kind).parts.items
 known c =
     let m = c.requires.means in
-    part_there m.file c.args.world.now m.r c.args.new_places.now.ranges c.args.unit m.id c.args.name c.args.old c.in-Base.part c.in-Base.kind m.holds c.requires.new_places.ranges (c.in-Base.ensures m.file m.r m.id m.holds)
+    part_there m.file c.args.world.now m.r c.in-Base.kind (moved_lists c.args.new_places.now c.in-Base.kind) c.args.unit m.id c.args.name c.args.old c.in-Base.part m.holds (c.requires.new_places.lists c.in-Base.kind) (c.in-Base.ensures m.file m.r m.id m.holds)
 
-part_is : (c : goal.After-index-in-Base) → c.index-in-Base.result.now ≡ part_at c.args.new_places.now.ranges.parts.items c.in-Base.part
+part_is : (c : goal.After-index-in-Base) → c.index-in-Base.result.now ≡ part_at (moved_lists c.args.new_places.now c.in-Base.kind).parts.items c.in-Base.part
 part_is c =
-    part_read c.args.new_places.now.ranges.parts.items c.in-Base.part c.index-in-Base.result.now (known c) (subst (λ (z : ListPlaces). c.index-in-Base.result.now ≡ get_or z.parts.items c.in-Base.part c.index-in-Base.result.now) c.places_of-in-Base.ensures c.index-in-Base.ensures)
+    part_read (moved_lists c.args.new_places.now c.in-Base.kind).parts.items c.in-Base.part c.index-in-Base.result.now (known c) (subst (λ (z : ListPlaces). c.index-in-Base.result.now ≡ get_or z.parts.items c.in-Base.part c.index-in-Base.result.now) c.places_of-in-Base.ensures c.index-in-Base.ensures)
 
 part_fits : (c : goal.After-index-in-Base) → offsets_at c.index-in-Base.result.now.at < 2 ^ 32
 part_fits c =
-    subst (λ (z : Contribution). offsets_at z.at < 2 ^ 32) (sym (part_is c)) (c.requires.new_places.ranges.parts_fit c.in-Base.part (record { at = 0; len = 0; slots = 0 }) (known c))
+    subst (λ (z : Contribution). offsets_at z.at < 2 ^ 32) (sym (part_is c)) ((c.requires.new_places.lists c.in-Base.kind).parts_fit c.in-Base.part (record { at = 0; len = 0; slots = 0 }) (known c))
 
 pub index-requires : goal.index-requires
 index-requires c =
@@ -62,34 +63,24 @@ returns-in-Lines-clause-fits c =
 pub returns-in-Kept-clause-fits : goal.returns-in-Kept-clause-fits
 returns-in-Kept-clause-fits c = c.requires.means.fits
 
-pub places_of-requires : goal.places_of-requires
-places_of-requires c =
-    let m = c.requires.means in
-    list_kind m.r.links c.args.unit m.id c.args.name c.args.old c.in-List.field-1 c.in-List.kind (c.in-List.ensures m.file m.r m.id m.holds)
-
 pub list_place-requires-clause-stands : goal.list_place-requires-clause-stands
 list_place-requires-clause-stands c =
     let m = c.requires.means in
-    let (k, inside, at) = m.listed c.args.old (list_links m.r.links c.args.unit m.id c.args.name c.args.old c.in-List.field-1 c.in-List.kind (c.in-List.ensures m.file m.r m.id m.holds)) in
-    let (held, from) = held_list m.file c.args.world.now m.r c.args.new_places.now.ranges k m.holds c.requires.new_places.ranges inside in
-    let lists : c.deref.result.now ≡ c.args.new_places.now.ranges.lists.items = c.deref.ensures.value ∙ ap (λ (z : ListPlaces). z.lists.items) c.places_of.ensures in
+    let (k, inside, at) = m.listed c.in-List.kind c.args.old (list_links m.r.links c.args.unit m.id c.args.name c.args.old c.in-List.field-1 c.in-List.kind (c.in-List.ensures m.file m.r m.id m.holds)) in
+    let (held, from) = held_list m.file c.args.world.now m.r c.in-List.kind (moved_lists c.args.new_places.now c.in-List.kind) k m.holds (c.requires.new_places.lists c.in-List.kind) inside in
+    let lists : c.deref.result.now ≡ (moved_lists c.args.new_places.now c.in-List.kind).lists.items = c.deref.ensures.value ∙ ap (λ (z : ListPlaces). z.lists.items) c.places_of.ensures in
     subst (λ (z : List Moved). (x : ℕ) × (x < length z) × ((moved_at z x).old ≡ c.args.old)) (sym lists) (k, held, from ∙ at)
 
 pub returns-in-List-clause-number : goal.returns-in-List-clause-number
 returns-in-List-clause-number c = λ places file r id holds.
-    let lists : c.deref.result.now ≡ c.args.new_places.now.ranges.lists.items = c.deref.ensures.value ∙ ap (λ (z : ListPlaces). z.lists.items) c.places_of.ensures in
+    let lists : c.deref.result.now ≡ (moved_lists c.args.new_places.now c.in-List.kind).lists.items = c.deref.ensures.value ∙ ap (λ (z : ListPlaces). z.lists.items) c.places_of.ensures in
     let (k, inside, from, to) = subst (λ (z : List Moved). (x : ℕ) × (x < length z) × ((moved_at z x).old ≡ c.args.old) × ((moved_at z x).new ≡ c.list_place.result)) lists c.list_place.ensures in
     new_list r.links c.args.unit id c.args.name c.args.old c.in-List.field-1 c.in-List.kind c.args.new_places.now c.list_place.result (record { number = k; inside = inside; from = from; to = to }) (c.in-List.ensures file r id holds)
-
-pub places_of-requires-in-Base : goal.places_of-requires-in-Base
-places_of-requires-in-Base c =
-    let m = c.requires.means in
-    base_kind m.r.links c.args.unit m.id c.args.name c.args.old c.in-Base.part c.in-Base.kind (c.in-Base.ensures m.file m.r m.id m.holds)
 
 pub index-requires-in-Base : goal.index-requires-in-Base
 index-requires-in-Base c =
     let m = c.requires.means in
-    let there = part_there m.file c.args.world.now m.r c.args.new_places.now.ranges c.args.unit m.id c.args.name c.args.old c.in-Base.part c.in-Base.kind m.holds c.requires.new_places.ranges (c.in-Base.ensures m.file m.r m.id m.holds) in
+    let there = part_there m.file c.args.world.now m.r c.in-Base.kind (moved_lists c.args.new_places.now c.in-Base.kind) c.args.unit m.id c.args.name c.args.old c.in-Base.part m.holds (c.requires.new_places.lists c.in-Base.kind) (c.in-Base.ensures m.file m.r m.id m.holds) in
     let inside : c.in-Base.part < length c.places_of-in-Base.result.now.parts.items = subst (λ (z : ListPlaces). c.in-Base.part < length z.parts.items) (sym c.places_of-in-Base.ensures) there in
     grind (arith, common_steps, inside)
 

@@ -1,5 +1,0 @@
-use Rattle.rewriter.specs.inside.Plans.{ArePlannedTo}
-use Rattle.rewriter.proofs.ranges.planned_lists.Given as goal
-
-abbrev pub invariant-loop-list : goal.invariant-loop-list
-invariant-loop-list l = ArePlannedTo l.world l.list-index l.lists.items

@@ -1,0 +1,50 @@
+-- The lists of a kind of a file written anew.
+use Rattle.std.specs.Prelude.{◌≡◌, ◌≤◌, ◌<◌, ◌+◌, ◌*◌, ℕ, List, length, Option, Some}
+use Rattle.std.specs.List.{AllZip}
+use Rattle.unit_write.specs.declared.places.Places.{Places}
+use Rattle.list_model.specs.declared.contribution.Contribution.{Contribution}
+use Rattle.list_model.specs.declared.entry.ListKind.{ListKind}
+use Rattle.list_model.specs.Entries.{Entry, AreSaid}
+use Rattle.list_model.specs.Items.{Bounds, Give}
+use Rattle.list_least.specs.Plans.{entries_bytes, ArePicks}
+use Rattle.list_least.specs.Shortest.{ShortestList}
+use Rattle.list_write.specs.declared.image.Moved.{Moved}
+use Rattle.list_write.specs.Written.{ToWrite, AreWritten}
+use Rattle.list_write.specs.Written.{list_at as written_at}
+use Rattle.value_links.specs.Reading.{ListRead, Linkable, Reading, of_kind, lists_of, list_at, context_at}
+use Rattle.value_links.specs.Lists.{IsOwner, IsFrozen, owner_unit, expressions_at}
+use Rattle.value_links.specs.Classes.{AreLeastBytes}
+use Rattle.rewriter.specs.inside.Numbers.{IsNewExpression}
+
+-- The entries of a list that isn't frozen give what the old ones give in the context of its owner, and those of a frozen one are its
+-- own.
+pub record MeanTheSame (r : Reading) (kind : ListKind) (list : ListRead) (old new : List Entry) : Type 0 where
+  pub live : (¬ IsFrozen r.links kind list) → (u : ℕ) (bounds : List Bounds) → IsOwner r.links kind list.at (Some u) → Give r.links.addresses (context_at r.links u) old bounds → Give r.links.addresses (context_at r.links u) new bounds
+  pub frozen : IsFrozen r.links kind list → new ≡ old
+
+-- A list is to be written in its contribution, with entries that mean the same, and whose shortest bytes are least in the class of the
+-- list. There are at most twice as many entries as before.
+pub record IsPlannedFor (r : Reading) (kind : ListKind) (list : ListRead) (written : ToWrite) : Type 0 where
+  pub part : written.part ≡ list.part
+  pub at : written.at ≡ list.at
+  pub entries : List Entry
+  pub picked : ArePicks kind written.picks entries
+  pub size : written.size ≡ entries_bytes entries + 1
+  pub few : length entries ≤ 2 * length list.raws
+  pub same : (old : List Entry) → AreSaid kind list.raws old → MeanTheSame r kind list old entries
+  pub least : (bytes : List ℕ) → ShortestList kind entries bytes → AreLeastBytes r.links kind list bytes
+
+-- The expressions of a list's items are to be written with their operations, each reference at the new place of what it names.
+pub record AreNewExpressions (r : Linkable) (places : List Places) (kind : ListKind) (list : ListRead) (made : List (List ℕ)) : Type 0 where
+  pub owner : Option ℕ
+  pub owned : IsOwner r kind list.at owner
+  pub each : AllZip (IsNewExpression r places (owner_unit r owner)) (expressions_at r kind list) made
+
+-- The section holds the lists that something names, each as it is planned with its expressions, and nothing else. `places` are those of
+-- all units.
+pub record AreListsWritten (r : Reading) (places : List Places) (kind : ListKind) (section : List ℕ) (parts : List Contribution) (moved : List Moved) : Type 0 where
+  pub lists : List ToWrite
+  pub count : length lists ≡ length (lists_of r kind)
+  pub each : (k : ℕ) → k < length (lists_of r kind) → IsPlannedFor r kind (list_at (lists_of r kind) k) (written_at lists k)
+  pub expressions : (k : ℕ) → k < length (lists_of r kind) → AreNewExpressions r.links places kind (list_at (lists_of r kind) k) (written_at lists k).expressions
+  pub written : AreWritten kind (of_kind r.links kind).section (of_kind r.links kind).parts lists section parts moved

@@ -1,0 +1,146 @@
+// The lists of a file written anew.
+ghost use Rattle.std.specs.Prelude.{◌≡◌, ◌<◌, length, IfOk};
+ghost use Rattle.std.specs.List.{Contains};
+ghost use Rattle.dw_base.specs.declared.fault.Reach.TheVariants.{Narrow};
+ghost use Rattle.fixed_width.specs.InitialLengths.{least_reserved};
+ghost use Rattle.list_model.specs.declared.item.Meaning.TheVariants.{Live, Dead};
+ghost use Rattle.value_links.specs.Sections.{debug_addr, debug_lists};
+ghost use Rattle.value_links.specs.Reading.{Reading};
+ghost use Rattle.value_links.specs.World.{World as AnyWorld, IsWorldOf, Holds, lists_held};
+ghost use Rattle.rewriter.specs.inside.Held.{AllHavePlaces};
+ghost use Rattle.rewriter.specs.inside.Plans.{AreMapsFor, IsPlanOf, ArePlannedTo};
+ghost use Rattle.rewriter.specs.inside.Lists.{AreListsWritten};
+
+use crate::list_expressions::new_expressions;
+use crate::table_maps::TableMaps;
+use dw_base::NoMemory;
+use list_least::{Plan, least_in, shortest_lists};
+use list_model::{Item, ListKind, Meaning, entries_say};
+use list_write::{ListImage, NamedList, kept_plan, write_lists};
+use std::alloc::Global;
+use unit_write::{Places, bytes_are_small};
+use value_links::{ListRead, World};
+
+// The plan of a list that isn't frozen: the shortest entries that give its items in the context of its owner.
+fn live_plan(
+    alloc: Global,
+    world: &World<'_>,
+    maps: &TableMaps,
+    addr: &[u8],
+    kind: ListKind,
+    list: &ListRead,
+    items: &[Item],
+) -> Result<Plan, NoMemory>
+    requires world { IsWorldOf world.now.image Narrow world.now }
+    requires addr { addr.now ≡ debug_addr world.now.image }
+    requires maps { AreMapsFor world.now addr.now maps.now }
+    requires list { Contains (lists_held world.now kind) list.now }
+    requires items { list.now.meaning ≡ Live items.now }
+    ensures { IfOk result (IsPlanOf world.now kind list.now) }
+{
+    // Laws: the shortest bytes of a plan are least in the class of the list, and entries mean one thing.
+    shortest_lists();
+    entries_say();
+    bytes_are_small(addr);
+    let Some(owner) = list.owner else {
+        // A list that only slots name is frozen.
+        unreachable!()
+    };
+    let context = world.context(owner);
+    let indexes = maps.of(&context);
+    least_in(alloc, kind, items, &context, addr, indexes)
+}
+
+// The plan of a list that is frozen: its own entries.
+fn frozen_plan(alloc: Global, kind: ListKind, list: &ListRead) -> Result<Plan, NoMemory>
+    requires list { (world : AnyWorld) × IsWorldOf world.image Narrow world × Contains (lists_held world kind) list.now }
+    requires meaning { list.now.meaning ≡ Dead }
+    ensures { IfOk result (λ plan. (world : AnyWorld) → IsPlanOf world kind list.now plan) }
+{
+    // Laws: the shortest bytes of entries are least in their class, and what was read says one list of entries.
+    shortest_lists();
+    entries_say();
+    kept_plan(alloc, kind, &list.raw)
+}
+
+// How a list is written: the shortest entries that give its items in the context of its owner or, where it is frozen, its own.
+fn plan_of(
+    alloc: Global,
+    world: &World<'_>,
+    maps: &TableMaps,
+    addr: &[u8],
+    kind: ListKind,
+    list: &ListRead,
+) -> Result<Plan, NoMemory>
+    requires world { IsWorldOf world.now.image Narrow world.now }
+    requires addr { addr.now ≡ debug_addr world.now.image }
+    requires maps { AreMapsFor world.now addr.now maps.now }
+    requires list { Contains (lists_held world.now kind) list.now }
+    ensures { IfOk result (IsPlanOf world.now kind list.now) }
+{
+    match &list.meaning {
+        Meaning::Live(items) => live_plan(alloc, world, maps, addr, kind, list, items.as_slice()),
+        Meaning::Dead => frozen_plan(alloc, kind, list),
+    }
+}
+
+// The lists of a kind that something names, each with its plan and the new expressions of its items.
+fn planned_lists(
+    alloc: Global,
+    world: &World<'_>,
+    maps: &TableMaps,
+    places: &Vec<Places>,
+    kind: ListKind,
+) -> Result<Vec<NamedList>, NoMemory>
+    requires world { IsWorldOf world.now.image Narrow world.now }
+    requires maps { AreMapsFor world.now (debug_addr world.now.image) maps.now }
+    requires placed { AllHavePlaces world.now places.now.items }
+    ensures { IfOk result (λ lists. ArePlannedTo world.now places.now.items kind (length (lists_held world.now kind)) lists.items) }
+{
+    let addr = world.section(b".debug_addr");
+    let section = section_of(world, kind);
+    let mut lists: Vec<NamedList> = Vec::new(alloc);
+    for list in world.lists(kind) {
+        let plan = plan_of(alloc, world, maps, addr, kind, list)?;
+        let expressions = new_expressions(alloc, world, places, kind, list, section)?;
+        lists.push(NamedList {
+            part: list.part,
+            at: list.at,
+            plan,
+            expressions,
+        })?;
+    }
+    Ok(lists)
+}
+
+// The section of lists of a kind.
+fn section_of<'a>(world: &'a World<'_>, kind: ListKind) -> &'a [u8]
+    ensures { result.now ≡ debug_lists world.now.image kind }
+{
+    match kind {
+        ListKind::Ranges => world.section(b".debug_rnglists"),
+        ListKind::Locations => world.section(b".debug_loclists"),
+    }
+}
+
+/// The body of .debug_rnglists or .debug_loclists with the lists that something names written anew (DWARF 5 sections 2.6.2, 2.17.3,
+/// 7.7.3, 7.25, 7.28 and 7.29), each in its contribution and in the fewest bytes, with its expressions, in which each reference counts
+/// to the new place of what it names. `places` are those of the units. The only error is want of memory.
+pub fn write_kind(
+    alloc: Global,
+    world: &World<'_>,
+    maps: &TableMaps,
+    places: &Vec<Places>,
+    kind: ListKind,
+) -> Result<ListImage, NoMemory>
+    requires world { IsWorldOf world.now.image Narrow world.now }
+    requires maps { AreMapsFor world.now (debug_addr world.now.image) maps.now }
+    requires placed { AllHavePlaces world.now places.now.items }
+    ensures written { IfOk result (λ image. (r : Reading) → Holds world.now.image world.now r → AreListsWritten r places.now.items kind image.bytes.items image.parts.items image.lists.items) }
+    ensures fits { IfOk result (λ image. length image.bytes.items < least_reserved) }
+{
+    let lists = planned_lists(alloc, world, maps, places, kind)?;
+    let section = section_of(world, kind);
+    let parts = world.contributions(kind);
+    write_lists(alloc, kind, section, parts, &lists)
+}
