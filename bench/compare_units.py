@@ -79,7 +79,7 @@ UNIT = re.compile(r"^  (?:Compilation|Type) Unit @ offset (?:0x)?([0-9a-f]+)")
 # a reference is the whole value; in an expression it may be the index of an address
 OF_INFO = re.compile(r"^<0x([0-9a-f]+)>")
 # an expression: its bytes, and what readelf says of its operations
-EXPRESSION = re.compile(r"^\d+ byte block:[ 0-9a-f]*\t?\((.*)\)\s*$")
+EXPRESSION = re.compile(r"^\d+ byte block:[ 0-9a-f]*\t?\((.*)\)(?: \[without DW_AT_frame_base\])?\s*$")
 # a whole number, which is shown in hexadecimal where its form is data8
 WHOLE = re.compile(r"^(?:0x[0-9a-f]+|-?[0-9]+)(?=\s|$)")
 
@@ -152,8 +152,8 @@ def described(path):
             if expression := EXPRESSION.match(value):
                 out.append(f"{name} {operations(expression[1], number)}")
                 continue
-            if name in ("DW_AT_ranges", "DW_AT_rnglists_base"):
-                # what lists mean is compared by compare_ranges.py
+            if name in ("DW_AT_ranges", "DW_AT_rnglists_base", "DW_AT_loclists_base") or "location list" in value or "index into .debug_loclists" in value:
+                # what lists mean is compared by compare_lists.py
                 out.append(name)
                 continue
             # the code of the entry that is named is no part of what it means

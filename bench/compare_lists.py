@@ -1,8 +1,11 @@
 #!/usr/bin/env python3
-"""Compiles C++ and C with gcc and clang so that they have range lists, runs the program on the result, and compares the ranges that
-llvm-dwarfdump shows of each entry before and after, and the address ranges that readelf shows of .debug_rnglists.
+"""Compiles C++ and C with gcc and clang so that they have range lists and location lists, runs the program on the result, and compares
+the ranges and the locations with their expressions that llvm-dwarfdump shows of each entry before and after. (What readelf shows of a
+section of lists doesn't help: version 2.40 reads offsets without the base address of their unit.) Of an operation that llvm-dwarfdump
+doesn't decode, only the entry that it names is compared, and not what stands behind it. Version 14 takes the index of a DW_AT_low_pc of
+DW_FORM_addrx1 to addrx4 for the base address of the unit, and so shows other addresses where that form was chosen.
 
-  bench/compare_ranges.py [--program PROGRAM] [FILE ..]
+  bench/compare_lists.py [--program PROGRAM] [FILE ..]
 
 A FILE is an ELF file that is taken as it is; without one, small programs are compiled. A file that the program refuses is counted
 and its message printed. The last lines give the sizes and count the files; the exit status is 1 where something differs.
@@ -48,31 +51,50 @@ COMPILERS = [
     ("clang-14", "clang++-14", ["-g1", "-O2"]),
     ("clang-14", "clang++-14", ["-g1", "-O1", "-ffunction-sections"]),
     ("clang-14", "clang++-14", ["-g1", "-O0"]),
+    ("gcc", "g++", ["-g", "-O2", "-gno-variable-location-views"]),
+    ("clang-14", "clang++-14", ["-g", "-O2"]),
 ]
-RANGE = re.compile(r"\[(0x[0-9a-f]+), (0x[0-9a-f]+)\)")
+ENTRY = re.compile(r"^0x([0-9a-f]+):")
+ATTRIBUTE = re.compile(r"^\s+(DW_AT_\w+)")
+# an address range, and behind it the operations of a location
+ITEM = re.compile(r"(\[0x[0-9a-f]+, 0x[0-9a-f]+\)|<default>)(.*)$")
+# an operation that names an entry by its place
+NAMING = re.compile(r"(DW_OP_(?:GNU_)?(?:convert|reinterpret|const_type|regval_type|deref_type|xderef_type|call2|call4|call_ref|implicit_pointer|parameter_ref|variable_value)\b[^,]*?)0x([0-9a-f]{8,})")
+# DW_OP_implicit_pointer, which version 14 doesn't decode: the operation and the place of the entry as bytes
+UNDECODED = re.compile(r"(decoding error> a0 )((?:[0-9a-f]{2} ){4}).*")
+# other operations that it doesn't decode, in which a place of an entry may stand as bytes
+UNKNOWN = re.compile(r"decoding error> (?!a0).*")
 
 
-def entries_with_ranges(path):
-    """Of each entry with DW_AT_ranges its number and its ranges, in the order of the entries."""
+def dumped(path):
     run = subprocess.run(["llvm-dwarfdump-14", "--debug-info", path], capture_output=True, text=True, errors="replace")
+    return run.stdout.splitlines()
+
+
+def entries_with_lists(path):
+    """Of each attribute with a list the number of its entry, its name and its items, in the order of the entries. A place of an entry is
+    replaced by the entry's number."""
+    lines = dumped(path)
+    numbers = {}
+    for line in lines:
+        if entry := ENTRY.match(line):
+            numbers[int(entry[1], 16)] = len(numbers)
+
+    def named(found):
+        place = int(found[2], 16) if found.re is NAMING else int.from_bytes(bytes.fromhex(found[2]), "little")
+        return f"{found[1]}entry {numbers.get(place, 'nowhere')}"
+
     out, entry, inside = [], 0, False
-    for line in run.stdout.splitlines():
-        if re.match(r"^0x[0-9a-f]+:", line):
+    for line in lines:
+        if ENTRY.match(line):
             entry, inside = entry + 1, False
-        elif "DW_AT_ranges" in line or "DW_AT_start_scope" in line:
-            out.append((entry, []))
-            inside = True
-        elif "DW_AT_" in line:
-            inside = False
-        if inside:
-            out[-1][1].extend(RANGE.findall(line))
+        elif attribute := ATTRIBUTE.match(line):
+            inside = bool(re.search(r"loclist|rangelist|\(0x[0-9a-f]+:?\s*$", line))
+            if inside:
+                out.append((entry, attribute[1], []))
+        if inside and (item := ITEM.search(line)):
+            out[-1][2].append((item[1], UNKNOWN.sub("", UNDECODED.sub(named, NAMING.sub(named, item[2])))))
     return out
-
-
-def section_ranges(path):
-    """The pairs of addresses that readelf shows of .debug_rnglists, in any order, each once."""
-    run = subprocess.run(["readelf", "--debug-dump=Ranges", path], capture_output=True, text=True, errors="replace")
-    return {m.groups() for m in re.finditer(r"^\s+[0-9a-f]{8} ([0-9a-f]{16}) ([0-9a-f]{16})", run.stdout, re.M)}
 
 
 def compile_all(folder):
@@ -95,11 +117,8 @@ def compare(program, path, out):
     answer, words = shrink(program, path, out)
     if answer != "written":
         return answer, words
-    if entries_with_ranges(path) != entries_with_ranges(out):
-        return "differs", "the ranges of entries"
-    # readelf 2.40 shows 0 for the second index of DW_RLE_startx_endx, so that files with an address table are left out
-    if not size(path, ".debug_addr") and not section_ranges(out) <= section_ranges(path):
-        return "differs", "the ranges of the section"
+    if entries_with_lists(path) != entries_with_lists(out):
+        return "differs", "the lists of entries"
     return "same", ""
 
 
@@ -109,7 +128,7 @@ def main():
     parser.add_argument("files", nargs="*")
     options = parser.parse_args()
     counts = {"same": 0, "refused": 0, "differs": 0}
-    totals = {name: [0, 0] for name in (".debug_info", ".debug_abbrev", ".debug_line", ".debug_rnglists")}
+    totals = {name: [0, 0] for name in (".debug_info", ".debug_abbrev", ".debug_line", ".debug_rnglists", ".debug_loclists")}
     with tempfile.TemporaryDirectory() as folder:
         out = os.path.join(folder, "out")
         for path in options.files or compile_all(folder):
