@@ -18,7 +18,7 @@ import sys
 import tempfile
 
 from compare_units import size
-from shrinking import shrink
+from shrinking import compiled, shrink
 
 TOP = os.path.dirname(os.path.dirname(os.path.abspath(__file__)))
 
@@ -100,15 +100,8 @@ def entries_with_lists(path):
 def compile_all(folder):
     made = []
     for name, text in SOURCES.items():
-        source = os.path.join(folder, name)
-        with open(source, "w") as file:
-            file.write(text)
-        for i, (c, cxx, flags) in enumerate(COMPILERS):
-            out = os.path.join(folder, f"{name}-{i}")
-            compiler = cxx if name.endswith(".cc") else c
-            command = [compiler, "-gdwarf-5", *flags, "-w", "-o", out, source]
-            if subprocess.run(command, capture_output=True).returncode == 0:
-                made.append(out)
+        builds = [(i, [cxx if name.endswith(".cc") else c, *flags]) for i, (c, cxx, flags) in enumerate(COMPILERS)]
+        made += compiled(folder, name, text, builds)
     return made
 
 

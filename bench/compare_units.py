@@ -15,7 +15,7 @@ import subprocess
 import sys
 import tempfile
 
-from shrinking import shrink
+from shrinking import compiled, shrink
 
 TOP = os.path.dirname(os.path.dirname(os.path.abspath(__file__)))
 
@@ -184,14 +184,8 @@ def size(path, name):
 def compile_all(folder):
     made = []
     for name, text in SOURCES.items():
-        source = os.path.join(folder, name + ".c")
-        with open(source, "w") as f:
-            f.write(text)
-        for i, (compiler, flags) in enumerate(COMPILERS):
-            out = os.path.join(folder, f"{name}-{i}-{compiler}")
-            command = [compiler, "-gdwarf-5", *flags, "-w", "-o", out, source]
-            if subprocess.run(command, capture_output=True).returncode == 0:
-                made.append(out)
+        builds = [(f"{i}-{compiler}", [compiler, *flags]) for i, (compiler, flags) in enumerate(COMPILERS)]
+        made += compiled(folder, name + ".c", text, builds)
     return made
 
 

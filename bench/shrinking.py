@@ -1,5 +1,19 @@
-"""Runs the program on one file, for the scripts that compare what it wrote with what it read."""
+"""Compiles sources and runs the program on one file, for the scripts that compare what it wrote with what it read."""
+import os
 import subprocess
+
+
+def compiled(folder, name, text, builds):
+    """The files that are made of a source by builds, each the end of a file's name and a command; none where the compiler fails."""
+    source = os.path.join(folder, name)
+    with open(source, "w") as file:
+        file.write(text)
+    made = []
+    for end, command in builds:
+        out = f"{source}-{end}"
+        if subprocess.run([*command, "-gdwarf-5", "-w", "-o", out, source], capture_output=True).returncode == 0:
+            made.append(out)
+    return made
 
 
 def shrink(program, path, out):
