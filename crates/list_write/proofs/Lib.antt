@@ -4,6 +4,7 @@ pub mod Pieces
 pub mod Placing
 pub mod Putting
 pub mod Ready
+pub mod Runs
 pub mod Standing
 pub mod TestLists
 pub mod Whole

@@ -11,8 +11,8 @@ use Rattle.list_model.specs.declared.entry.ListKind.{ListKind}
 use Rattle.list_model.specs.Contributions.{offsets_at, lists_at, part_end, IsContribution, ContributionsFollow}
 use Rattle.list_model.proofs.Tiling.{before, each_part}
 use Rattle.list_write.specs.declared.image.Moved.{Moved}
-use Rattle.list_write.specs.Written.{ToWrite, full_size, part_at, list_at, moved_at, CanBeWritten}
-use Rattle.list_write.specs.inside.Places.{front_size, front_sizes, size_of, list_sizes, IsFirst, PartsRise, AreKnown, ArePlaced}
+use Rattle.list_write.specs.Written.{ToWrite, part_at, list_at, moved_at, CanBeWritten}
+use Rattle.list_write.specs.inside.Places.{front_size, front_sizes, views_size, size_of, list_sizes, whole_at, IsFirst, PartsRise, AreKnown, ArePlaced}
 use Rattle.list_write.specs.inside.Puts.{IsSized, told_at, OldRise}
 use Rattle.list_write.proofs.Placing.{no_part, fronts_more, fronts_rise, sizes_more, sizes_rise, one_first}
 
@@ -80,7 +80,7 @@ module _ (kind : ListKind) (section : List ℕ) (parts : List Contribution) (lis
       let room : length section + sum_by size_of lists < least_reserved = can.room in
       omega (arith, fronts, all_parts, all_lists, room)
 
-  module _ (new_parts : List Contribution) (moved : List Moved) (placed : ArePlaced parts lists new_parts moved) where
+  module _ (new_parts : List Contribution) (moved views : List Moved) (placed : ArePlaced parts lists new_parts moved views) where
     pub old_rise : OldRise moved
     old_rise j k less inside =
         let count : length moved ≡ length lists = placed.lists_count in
@@ -136,7 +136,7 @@ module _ (kind : ListKind) (section : List ℕ) (parts : List Contribution) (lis
         let own = placed.each_part p inside in
         let list = placed.each_list k within in
         let old : (moved_at moved k).old ≡ (list_at lists k).at = list.from in
-        let new : (moved_at moved k).new ≡ front_sizes parts ((list_at lists k).part + 1) + list_sizes lists k = list.to in
+        let new : (moved_at moved k).new ≡ whole_at parts lists k + views_size (list_at lists k) = list.to in
         let at : (part_at new_parts p).at ≡ front_sizes parts p + list_sizes lists own.first = own.begins in
         let part = not_before k p within inside (omega (arith, from, old)) in
         let first : own.first ≤ k = elim (cases_lt k own.first) [ inl l ↦ let below = own.is_first.before k l in absurd (omega (arith, below, part)) | inr m ↦ omega arith ] in
@@ -145,9 +145,9 @@ module _ (kind : ListKind) (section : List ℕ) (parts : List Contribution) (lis
         let sizes = sizes_rise lists own.first k first in
         omega (arith, new, at, more, fronts, sizes)
 
-    pub moved_fits : (k : ℕ) → k < length lists → (moved_at moved k).new + full_size (list_at lists k) < least_reserved
+    pub moved_fits : (k : ℕ) → k < length lists → (moved_at moved k).new < least_reserved
     moved_fits k inside =
-        let to : (moved_at moved k).new ≡ front_sizes parts ((list_at lists k).part + 1) + list_sizes lists k = (placed.each_list k inside).to in
+        let to : (moved_at moved k).new ≡ whole_at parts lists k + views_size (list_at lists k) = (placed.each_list k inside).to in
         let part = are_known k inside in
         let fronts = fronts_rise parts ((list_at lists k).part + 1) (length parts) (omega (arith, part)) in
         let more = sizes_more lists k inside in

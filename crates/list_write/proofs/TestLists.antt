@@ -11,7 +11,7 @@ use Rattle.list_write.specs.declared.named.NamedList.{NamedList}
 use Rattle.list_write.specs.Written.{ToWrite, to_write, list_at}
 use Rattle.list_write.specs.inside.Puts.{IsSized}
 use Rattle.list_write.specs.inside.TestLists.{AreSized, IsEntry, AreEntries, AtsRise}
-use Rattle.list_write.proofs.Placing.{no_list}
+use Rattle.list_write.proofs.Runs.{no_list}
 
 said_more : (kind : ListKind) (raws : List RawEntry) (entries : List Entry) (raw : RawEntry) (entry : Entry) → AreSaid kind raws entries → Says kind raw entry → AreSaid kind (raws ++ raw ∷ []) (entries ++ entry ∷ [])
 said_more kind [] [] raw entry said says = (says, tt)

@@ -1,9 +1,11 @@
 -- All contributions are written.
-use Rattle.std.proofs.Common.{◌≡◌, ◌≤◌, ◌<◌, ◌+◌, ◌-◌, ◌∙◌, ℕ, zero, suc, List, [], ◌∷◌, ◌++◌, length, get_or, take, map, sym, ap, refl, subst, arith, inl, inr}
-use Rattle.std.specs.List.{range_with_len}
+use Rattle.std.proofs.Common.{◌≡◌, ◌≤◌, ◌<◌, ◌+◌, ◌-◌, ◌∙◌, ℕ, zero, suc, List, [], ◌∷◌, ◌++◌, length, get_or, take, sym, ap, refl, subst, arith, inl, inr}
+use Rattle.std.specs.Prelude.{flat_map}
+use Rattle.std.specs.List.{sum_by, range_with_len}
 use Rattle.std.proofs.lemmas.Bool.{cases_lt}
 use Rattle.std.proofs.Math.Seq.{take-append-add}
 use Rattle.std.proofs.lemmas.List.FromFn.{length-range_with_len, get_or-range_with_len}
+use Rattle.std.proofs.lemmas.List.Sums.{sum_by-cons}
 use Rattle.fixed_width.specs.InitialLengths.{unit_length, unit_end, least_reserved}
 use Rattle.fixed_width.specs.Numbers.{number_at}
 use Rattle.form_codec.specs.declared.form.Width.TheVariants.{One, Two, Four}
@@ -11,16 +13,17 @@ use Rattle.form_codec.specs.Written.{low_bytes}
 use Rattle.form_codec.proofs.WriteLaws.{low_len}
 use Rattle.list_model.specs.declared.contribution.Contribution.{Contribution}
 use Rattle.list_model.specs.declared.entry.ListKind.{ListKind}
-use Rattle.list_model.specs.Contributions.{offsets_at, offset_place, lists_at, part_end, HoldsList, IsContribution, ContributionsFollow}
+use Rattle.list_model.specs.Contributions.{offsets_at, offset_place, lists_at, part_end, HoldsList, bytes_from, IsContribution, ContributionsFollow}
 use Rattle.list_model.specs.Entries.{Entry}
 use Rattle.list_least.specs.Plans.{entries_bytes, ArePicks}
 use Rattle.list_write.specs.declared.image.Moved.{Moved}
-use Rattle.list_write.specs.Written.{ToWrite, full_size, part_at, list_at, moved_at, CanBeWritten, Tells, ShortestWith, StandsIn, Follow, stretch, AreNumbersOf, AreWritten}
-use Rattle.list_write.specs.inside.Places.{front_sizes, list_sizes, IsFirst, ArePlaced}
+use Rattle.list_write.specs.Written.{Run, ToWrite, run_size, own_size, full_size, part_at, list_at, moved_at, CanBeWritten, Tells, StandsIn, StandsBefore, all_runs, runs_before, run_at, Follow, run_stretches, stretches, AreNumbersOf, AreWritten}
+use Rattle.list_write.specs.inside.Places.{front_sizes, run_sizes, views_size, list_sizes, whole_at, IsFirst, ArePlaced}
 use Rattle.list_write.specs.inside.Puts.{header_bytes, StandAt, AreWrittenTo}
 use Rattle.list_write.proofs.ApartLaws.{with_size}
 use Rattle.list_write.proofs.Entries.{picked_bytes, has_picked}
 use Rattle.list_write.proofs.Placing.{fronts_more, fronts_rise, sizes_more, sizes_rise, one_first}
+use Rattle.list_write.proofs.Runs.{run_within, pairs_size, run_among, runs_all}
 use Rattle.list_write.proofs.Standing.{stand_first, stand_second, stand_drop, stand_number}
 use Rattle.list_write.proofs.Ready.{parts_rise, are_known, sized, ends, lists_fit, part_fits, moved_behind, moved_fits, whole_size, first_below}
 
@@ -87,39 +90,58 @@ numbers_between lists p first last is_first is_last behind =
           (k - first, omega (arith, count, above, below), get_or-range_with_len first (last - first) (k - first) k (omega arith) ∙ (let e : first + (k - first) ≡ k = omega arith in e));
     }
 
--- and they follow one another
-follow_between : (lists : List ToWrite) (moved : List Moved) (place : ℕ) (first count : ℕ) → first + count ≤ length lists → ((k : ℕ) → first ≤ k → k < first + count → (moved_at moved k).new ≡ place + list_sizes lists k) → Follow (map (stretch moved lists) (range_with_len first count)) (place + list_sizes lists first) (place + list_sizes lists (first + count))
-follow_between lists moved place first zero within each = ap (λ (z : ℕ). place + list_sizes lists z) (let e : first ≡ first + 0 = omega arith in e)
-follow_between lists moved place first (suc count) within each =
+-- stretches that follow others
+follow_append : (xs ys : List (ℕ × ℕ)) (from mid to : ℕ) → Follow xs from mid → Follow ys mid to → Follow (xs ++ ys) from to
+follow_append [] ys from mid to x y = subst (λ (z : ℕ). Follow ys z to) (sym x) y
+follow_append ((at, size) ∷ xs) ys from mid to x y = (x.0, follow_append xs ys (from + size) mid to x.1 y)
+
+-- runs follow one another
+follow_runs : (views : List Moved) (n : ℕ) (runs : List Run) (at : ℕ) → ((i : ℕ) → i < length runs → (moved_at views (n + i)).new ≡ at + run_sizes runs i) → Follow (run_stretches views n runs) at (at + sum_by run_size runs)
+follow_runs views n [] at each = omega arith
+follow_runs views n (run ∷ runs) at each =
+    let here : (moved_at views (n + 0)).new ≡ at + run_sizes (run ∷ runs) 0 = each 0 (omega arith) in
+    let number : n ≡ n + 0 = omega arith in
+    let all : at + run_size run + sum_by run_size runs ≡ at + sum_by run_size (run ∷ runs) = (let sum = sum_by-cons run_size run runs in omega (arith, sum)) in
+    let rest = follow_runs views (suc n) runs (at + run_size run) (λ i less.
+    let next : suc n + i ≡ n + suc i = omega arith in
+    let sum = sum_by-cons run_size run (take i runs) in
+    let there : (moved_at views (n + suc i)).new ≡ at + run_sizes (run ∷ runs) (suc i) = each (suc i) (omega arith) in
+    ap (λ (z : ℕ). (moved_at views z).new) next ∙ there ∙ omega (arith, sum)) in
+    (ap (λ (z : ℕ). (moved_at views z).new) number ∙ here ∙ omega arith, subst (Follow (run_stretches views (suc n) runs) (at + run_size run)) all rest)
+
+-- the view pairs of a list, and then the list
+follow_list : (lists : List ToWrite) (moved views : List Moved) (at k : ℕ) → (moved_at moved k).new ≡ at + views_size (list_at lists k) → ((i : ℕ) → i < length (list_at lists k).views → (moved_at views (runs_before lists k + i)).new ≡ at + run_sizes (list_at lists k).views i) → Follow (stretches moved views lists k) at (at + full_size (list_at lists k))
+follow_list lists moved views at k behind each =
+    let end : at + views_size (list_at lists k) + own_size (list_at lists k) ≡ at + full_size (list_at lists k) = omega arith in
+    follow_append (run_stretches views (runs_before lists k) (list_at lists k).views) (((moved_at moved k).new, own_size (list_at lists k)) ∷ []) at (at + views_size (list_at lists k)) (at + full_size (list_at lists k))
+    (follow_runs views (runs_before lists k) (list_at lists k).views at each) (behind, end)
+
+-- and lists follow one another
+follow_between : (lists : List ToWrite) (moved views : List Moved) (place : ℕ) (first count : ℕ) → first + count ≤ length lists → ((k : ℕ) → first ≤ k → k < first + count → Follow (stretches moved views lists k) (place + list_sizes lists k) (place + list_sizes lists k + full_size (list_at lists k))) → Follow (flat_map (stretches moved views lists) (range_with_len first count)) (place + list_sizes lists first) (place + list_sizes lists (first + count))
+follow_between lists moved views place first zero within each = ap (λ (z : ℕ). place + list_sizes lists z) (let e : first ≡ first + 0 = omega arith in e)
+follow_between lists moved views place first (suc count) within each =
     let more = sizes_more lists first (omega arith) in
     let next : place + list_sizes lists first + full_size (list_at lists first) ≡ place + list_sizes lists (first + 1) = omega (arith, more) in
     let end : first + 1 + count ≡ first + suc count = omega arith in
-    let rest = follow_between lists moved place (first + 1) count (omega arith) (λ k from to. each k (omega arith) (omega arith)) in (
-      each first (omega arith) (omega arith),
-      subst (λ (z : ℕ). Follow (map (stretch moved lists) (range_with_len (first + 1) count)) z (place + list_sizes lists (first + suc count))) (sym next)
-          (subst (λ (z : ℕ). Follow (map (stretch moved lists) (range_with_len (first + 1) count)) (place + list_sizes lists (first + 1)) (place + list_sizes lists z)) end rest),
-    )
+    let others = flat_map (stretches moved views lists) (range_with_len (first + 1) count) in
+    let rest = follow_between lists moved views place (first + 1) count (omega arith) (λ k from to. each k (omega arith) (omega arith)) in
+    follow_append (stretches moved views lists first) others (place + list_sizes lists first) (place + list_sizes lists (first + 1)) (place + list_sizes lists (first + suc count))
+    (subst (Follow (stretches moved views lists first) (place + list_sizes lists first)) next (each first (omega arith) (omega arith)))
+    (subst (λ (z : ℕ). Follow others (place + list_sizes lists (first + 1)) (place + list_sizes lists z)) end rest)
 
 -- bytes that stand in a contribution are the front of what stands there
-stands_in : (kind : ListKind) (section : List ℕ) (part : Contribution) (at : ℕ) (entries : List Entry) (expressions : List (List ℕ)) (own bare : List ℕ) → HoldsList part at → at + length own ≤ part_end part → ShortestWith kind entries expressions own bare → StandAt at own section → StandsIn kind section part at entries expressions
-stands_in kind section part at entries expressions own bare holds fits shortest stands = record {
-  holds = holds;
-  bytes = own;
-  bare = bare;
-  rest = take (part_end part - at - length own) stands.rest;
-  shortest = shortest;
-  whole =
-      let room : part_end part - at ≡ length own + (part_end part - at - length own) = omega arith in
-      ap (take (part_end part - at)) (stand_drop at own section stands) ∙ ap (λ (z : ℕ). take z (own ++ stands.rest)) room ∙ take-append-add own stands.rest (part_end part - at - length own);
-}
+front_of : (section : List ℕ) (part : Contribution) (at : ℕ) (own : List ℕ) → at + length own ≤ part_end part → (stands : StandAt at own section) → bytes_from section part at ≡ own ++ take (part_end part - at - length own) stands.rest
+front_of section part at own fits stands =
+    let room : part_end part - at ≡ length own + (part_end part - at - length own) = omega arith in
+    ap (take (part_end part - at)) (stand_drop at own section stands) ∙ ap (λ (z : ℕ). take z (own ++ stands.rest)) room ∙ take-append-add own stands.rest (part_end part - at - length own)
 
 -- where contributions begin, and where the last one ends
 abbrev begin_at : List Contribution → ℕ → ℕ
 begin_at parts zero = 0
 begin_at parts (suc p) = part_end (part_at parts p)
 
-module _ (kind : ListKind) (section : List ℕ) (parts : List Contribution) (lists : List ToWrite) (new_parts : List Contribution) (moved : List Moved)
-    (can : CanBeWritten kind section parts lists) (placed : ArePlaced parts lists new_parts moved) (first : ℕ) (bytes : List ℕ)
+module _ (kind : ListKind) (section : List ℕ) (parts : List Contribution) (lists : List ToWrite) (new_parts : List Contribution) (moved views : List Moved)
+    (can : CanBeWritten kind section parts lists) (placed : ArePlaced parts lists new_parts moved views) (first : ℕ) (bytes : List ℕ)
     (done : AreWrittenTo kind section parts lists new_parts moved (length parts) first bytes) where
   all_lists : first ≡ length lists
   all_lists =
@@ -146,7 +168,7 @@ module _ (kind : ListKind) (section : List ℕ) (parts : List Contribution) (lis
       omega (arith, to, fronts, sizes, all)
 
   stands : (p : ℕ) → p < length parts → IsContribution bytes (part_at new_parts p)
-  stands p inside = header_says (part_at new_parts p) bytes (done.headers p inside) (lists_fit kind section parts lists can new_parts moved placed p inside) (part_fits kind section parts lists can new_parts moved placed p inside) (ends_inside p inside)
+  stands p inside = header_says (part_at new_parts p) bytes (done.headers p inside) (lists_fit kind section parts lists can new_parts moved views placed p inside) (part_fits kind section parts lists can new_parts moved views placed p inside) (ends_inside p inside)
 
   begins_there : (p f : ℕ) → p ≤ length parts → IsFirst lists p f → begin_at new_parts p ≡ front_sizes parts p + list_sizes lists f
   begins_there zero f inside is =
@@ -154,7 +176,7 @@ module _ (kind : ListKind) (section : List ℕ) (parts : List Contribution) (lis
       ap (λ (z : ℕ). front_sizes parts 0 + list_sizes lists z) (one_first lists 0 0 f none is)
   begins_there (suc q) f inside is =
       let e : suc q ≡ q + 1 = omega arith in
-      ends kind section parts lists can new_parts moved placed q (omega arith) f (subst (λ (z : ℕ). IsFirst lists z f) e is) ∙ ap (λ (z : ℕ). front_sizes parts z + list_sizes lists f) (sym e)
+      ends kind section parts lists can new_parts moved views placed q (omega arith) f (subst (λ (z : ℕ). IsFirst lists z f) e is) ∙ ap (λ (z : ℕ). front_sizes parts z + list_sizes lists f) (sym e)
 
   tiled : ContributionsFollow bytes new_parts 0 (length bytes)
   tiled =
@@ -167,8 +189,8 @@ module _ (kind : ListKind) (section : List ℕ) (parts : List Contribution) (lis
 
   moved_rise : (j k : ℕ) → j < k → k < length lists → (moved_at moved j).new < (moved_at moved k).new
   moved_rise j k less inside =
-      let x : (moved_at moved j).new ≡ front_sizes parts ((list_at lists j).part + 1) + list_sizes lists j = (placed.each_list j (omega arith)).to in
-      let y : (moved_at moved k).new ≡ front_sizes parts ((list_at lists k).part + 1) + list_sizes lists k = (placed.each_list k inside).to in
+      let x : (moved_at moved j).new ≡ whole_at parts lists j + views_size (list_at lists j) = (placed.each_list j (omega arith)).to in
+      let y : (moved_at moved k).new ≡ whole_at parts lists k + views_size (list_at lists k) = (placed.each_list k inside).to in
       let rise = parts_rise kind section parts lists can j k (omega arith) inside in
       let fronts = fronts_rise parts ((list_at lists j).part + 1) ((list_at lists k).part + 1) (omega (arith, rise)) in
       let more = sizes_more lists j (omega arith) in
@@ -176,35 +198,76 @@ module _ (kind : ListKind) (section : List ℕ) (parts : List Contribution) (lis
       let sizes = sizes_rise lists (j + 1) k (omega arith) in
       omega (arith, x, y, fronts, more, some, sizes)
 
-  holds_list : (k : ℕ) → k < length lists → HoldsList (part_at new_parts (list_at lists k).part) (moved_at moved k).new × ((moved_at moved k).new + full_size (list_at lists k) ≤ part_end (part_at new_parts (list_at lists k).part))
-  holds_list k inside =
+  -- a list with its view pairs ends inside its contribution
+  whole_inside : (k : ℕ) → k < length lists → whole_at parts lists k + full_size (list_at lists k) ≤ part_end (part_at new_parts (list_at lists k).part)
+  whole_inside k inside =
+      let p = (list_at lists k).part in
+      let own = placed.each_part p (are_known kind section parts lists can k inside) in
+      let to : part_end (part_at new_parts p) ≡ front_sizes parts (p + 1) + list_sizes lists own.last = own.ends in
+      let below : k < own.last = elim (cases_lt k own.last) [ inl l ↦ l | inr m ↦ let more = own.is_last.behind k m inside in absurd (omega (arith, more)) ] in
+      let more = sizes_more lists k inside in
+      let high = sizes_rise lists (k + 1) own.last (omega arith) in
+      omega (arith, to, more, high)
+
+  -- a place among the view pairs of a list and the list is inside its contribution
+  holds_there : (k offset : ℕ) → k < length lists → offset < full_size (list_at lists k) → HoldsList (part_at new_parts (list_at lists k).part) (whole_at parts lists k + offset)
+  holds_there k offset inside less =
       let p = (list_at lists k).part in
       let known : p < length parts = are_known kind section parts lists can k inside in
       let own = placed.each_part p known in
       let slots : (part_at new_parts p).slots ≡ (part_at parts p).slots = own.slots in
       let from : (part_at new_parts p).at ≡ front_sizes parts p + list_sizes lists own.first = own.begins in
-      let to : part_end (part_at new_parts p) ≡ front_sizes parts (p + 1) + list_sizes lists own.last = own.ends in
-      let here : (moved_at moved k).new ≡ front_sizes parts (p + 1) + list_sizes lists k = (placed.each_list k inside).to in
       let front = fronts_more parts p known in
       let above : own.first ≤ k = elim (cases_lt k own.first) [ inl l ↦ let below = own.is_first.before k l in absurd (omega (arith, below)) | inr m ↦ omega arith ] in
-      let below : k < own.last = elim (cases_lt k own.last) [ inl l ↦ l | inr m ↦ let more = own.is_last.behind k m inside in absurd (omega (arith, more)) ] in
       let low = sizes_rise lists own.first k above in
-      let more = sizes_more lists k inside in
-      let high = sizes_rise lists (k + 1) own.last (omega arith) in
-      let some = (sized kind section parts lists can k inside).bytes in
-      (record { after = omega (arith, slots, from, here, front, low); before = omega (arith, to, here, more, high, some) }, omega (arith, to, here, more, high))
+      let end = whole_inside k inside in
+      record { after = omega (arith, slots, from, front, low); before = omega (arith, end, less) }
 
   each : (k : ℕ) → k < length lists → (entries : List Entry) → ArePicks kind (list_at lists k).picks entries → StandsIn kind bytes (part_at new_parts (list_at lists k).part) (moved_at moved k).new entries (list_at lists k).expressions
   each k inside entries picked =
       let all = all_lists in
-      let there = done.each k (omega (arith, all, inside)) entries picked in
+      let list = list_at lists k in
+      let at = whole_at parts lists k + views_size list in
+      let there = (done.each k (omega (arith, all, inside))).own entries picked in
       let own = sized kind section parts lists can k inside in
-      let same = picked_bytes kind (list_at lists k).picks own.entries entries own.picked picked in
-      let carried = has_picked kind (list_at lists k).picks own.entries entries (list_at lists k).expressions own.picked picked own.carried in
-      let long = with_size kind entries (list_at lists k).expressions there.0 there.1 carried there.2 in
-      let size_is : (list_at lists k).size ≡ entries_bytes own.entries + 1 = own.bytes in
-      let holds = holds_list k inside in
-      stands_in kind bytes (part_at new_parts (list_at lists k).part) (moved_at moved k).new entries (list_at lists k).expressions there.0 there.1 holds.0 (omega (arith, same, long, size_is, holds.1)) there.2 there.3
+      let same = picked_bytes kind list.picks own.entries entries own.picked picked in
+      let carried = has_picked kind list.picks own.entries entries list.expressions own.picked picked own.carried in
+      let long = with_size kind entries list.expressions there.0 there.1 carried there.2 in
+      let size_is : list.size ≡ entries_bytes own.entries + 1 = own.bytes in
+      let end = whole_inside k inside in
+      let fits : at + length there.0 ≤ part_end (part_at new_parts list.part) = omega (arith, same, long, size_is, end) in
+      subst (λ (z : ℕ). StandsIn kind bytes (part_at new_parts list.part) z entries list.expressions) (sym (placed.each_list k inside).to) (record {
+        holds = holds_there k (views_size list) inside (omega (arith, size_is));
+        bytes = there.0;
+        bare = there.1;
+        rest = take (part_end (part_at new_parts list.part) - at - length there.0) there.3.rest;
+        shortest = there.2;
+        whole = front_of bytes (part_at new_parts list.part) at there.0 fits there.3;
+      })
+
+  views_from : (n : ℕ) → n < length (all_runs lists) → (moved_at views n).old ≡ (run_at (all_runs lists) n).at
+  views_from n inside =
+      let (k, i, within, own, number, run) = run_among lists n inside in
+      ap (λ (z : ℕ). (moved_at views z).old) number ∙ (placed.each_run k i within own).from ∙ sym (ap (λ (z : Run). z.at) run)
+
+  views_each : (k i : ℕ) → k < length lists → i < length (list_at lists k).views → StandsBefore bytes (part_at new_parts (list_at lists k).part) (moved_at views (runs_before lists k + i)).new (run_at (list_at lists k).views i).pairs
+  views_each k i inside own =
+      let all = all_lists in
+      let list = list_at lists k in
+      let at = whole_at parts lists k + run_sizes list.views i in
+      let there = (done.each k (omega (arith, all, inside))).runs i own in
+      let size : length there.0 ≡ run_size (run_at list.views i) = pairs_size (run_at list.views i).pairs there.0 there.1 in
+      let within = run_within list.views i own in
+      let some : list.size ≡ entries_bytes (sized kind section parts lists can k inside).entries + 1 = (sized kind section parts lists can k inside).bytes in
+      let end = whole_inside k inside in
+      let fits : at + length there.0 ≤ part_end (part_at new_parts list.part) = omega (arith, size, within, end) in
+      subst (λ (z : ℕ). StandsBefore bytes (part_at new_parts list.part) z (run_at list.views i).pairs) (sym (placed.each_run k i inside own).to) (record {
+        holds = holds_there k (run_sizes list.views i) inside (omega (arith, within, some));
+        bytes = there.0;
+        rest = take (part_end (part_at new_parts list.part) - at - length there.0) there.2.rest;
+        shortest = there.1;
+        whole = front_of bytes (part_at new_parts list.part) at there.0 fits there.2;
+      })
 
   told : (p slot k : ℕ) → p < length parts → slot < (part_at parts p).slots → k < length lists → Tells section parts p slot (list_at lists k).at → Tells bytes new_parts p slot (moved_at moved k).new
   told p slot k inside less within tells =
@@ -223,14 +286,14 @@ module _ (kind : ListKind) (section : List ℕ) (parts : List Contribution) (lis
       ] in
       let list : there.list ≡ moved_at moved k = there.moved.is ∙ ap (moved_at moved) same in
       let new : there.list.new ≡ (moved_at moved k).new = ap (λ (z : Moved). z.new) list in
-      let few = moved_fits kind section parts lists can new_parts moved placed k within in
+      let few = moved_fits kind section parts lists can new_parts moved views placed k within in
       let read : number_at 4 (offset_place (part_at new_parts p).at slot) bytes ≡ there.list.new - offsets_at (part_at new_parts p).at = stand_number 4 (there.list.new - offsets_at (part_at new_parts p).at) (offset_place (part_at new_parts p).at slot) bytes there.stands (omega (arith, new, few)) in
       let tells_old : (list_at lists k).at ≡ offsets_at (part_at parts p).at + number_at 4 (offset_place (part_at parts p).at slot) section = tells in
       let from_k : (moved_at moved k).old ≡ (list_at lists k).at = (placed.each_list k within).from in
-      let behind = moved_behind kind section parts lists can new_parts moved placed p inside k (omega arith) (omega (arith, tells_old, from_k)) in
+      let behind = moved_behind kind section parts lists can new_parts moved views placed p inside k (omega arith) (omega (arith, tells_old, from_k)) in
       omega (arith, read, new, behind)
 
-  filled : (p : ℕ) → p < length parts → (numbers : List ℕ) × AreNumbersOf lists p numbers × Follow (map (stretch moved lists) numbers) (lists_at (part_at new_parts p)) (part_end (part_at new_parts p))
+  filled : (p : ℕ) → p < length parts → (numbers : List ℕ) × AreNumbersOf lists p numbers × Follow (flat_map (stretches moved views lists) numbers) (lists_at (part_at new_parts p)) (part_end (part_at new_parts p))
   filled p inside =
       let own = placed.each_part p inside in
       let behind = first_below lists p own.first own.last own.is_first own.is_last in
@@ -242,15 +305,16 @@ module _ (kind : ListKind) (section : List ℕ) (parts : List Contribution) (lis
       let from : front_sizes parts (p + 1) + list_sizes lists own.first ≡ lists_at (part_at new_parts p) = omega (arith, slots, at, front) in
       let to : front_sizes parts (p + 1) + list_sizes lists (own.first + (own.last - own.first)) ≡ part_end (part_at new_parts p) = ap (λ (z : ℕ). front_sizes parts (p + 1) + list_sizes lists z) upto ∙ sym own.ends in
       let numbers = range_with_len own.first (own.last - own.first) in
-      let follow = follow_between lists moved (front_sizes parts (p + 1)) own.first (own.last - own.first) (omega (arith, upto, within)) (λ k low high.
+      let follow = follow_between lists moved views (front_sizes parts (p + 1)) own.first (own.last - own.first) (omega (arith, upto, within)) (λ k low high.
       let k_inside : k < length lists = omega (arith, upto, within, high) in
       let above = own.is_first.behind k low k_inside in
       let below = own.is_last.before k (omega (arith, upto, high)) in
       let part : (list_at lists k).part ≡ p = omega (arith, above, below) in
-      (placed.each_list k k_inside).to ∙ ap (λ (z : ℕ). front_sizes parts (z + 1) + list_sizes lists k) part) in
-      (numbers, numbers_between lists p own.first own.last own.is_first own.is_last behind, subst (λ (z : ℕ). Follow (map (stretch moved lists) numbers) z (part_end (part_at new_parts p))) from (subst (Follow (map (stretch moved lists) numbers) (front_sizes parts (p + 1) + list_sizes lists own.first)) to follow))
+      let at : whole_at parts lists k ≡ front_sizes parts (p + 1) + list_sizes lists k = ap (λ (z : ℕ). front_sizes parts (z + 1) + list_sizes lists k) part in
+      subst (λ (z : ℕ). Follow (stretches moved views lists k) z (z + full_size (list_at lists k))) at (follow_list lists moved views (whole_at parts lists k) k (placed.each_list k k_inside).to (λ i own_run. (placed.each_run k i k_inside own_run).to))) in
+      (numbers, numbers_between lists p own.first own.last own.is_first own.is_last behind, subst (λ (z : ℕ). Follow (flat_map (stretches moved views lists) numbers) z (part_end (part_at new_parts p))) from (subst (Follow (flat_map (stretches moved views lists) numbers) (front_sizes parts (p + 1) + list_sizes lists own.first)) to follow))
 
-  pub all_written : AreWritten kind section parts lists bytes new_parts moved
+  pub all_written : AreWritten kind section parts lists bytes new_parts moved views
   all_written = record {
     tiled = tiled;
     parts_count = placed.parts_count;
@@ -259,6 +323,9 @@ module _ (kind : ListKind) (section : List ℕ) (parts : List Contribution) (lis
     from = λ k inside. (placed.each_list k inside).from;
     rising = moved_rise;
     each = each;
+    views_count = placed.runs_count ∙ runs_all lists;
+    views_from = views_from;
+    views_each = views_each;
     told = told;
     filled = filled;
     fits = (let all = size in let few = whole_size kind section parts lists can in omega (arith, all, few));

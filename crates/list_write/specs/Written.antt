@@ -1,7 +1,8 @@
 -- Lists written anew in their contributions (DWARF 5 sections 7.28 and 7.29): what is to be written, and what then stands where.
-use Rattle.std.specs.Prelude.{◌≡◌, ◌≤◌, ◌<◌, ◌+◌, ◌-◌, ℕ, List, [], ◌∷◌, ◌++◌, length, map, filter, take, drop, not, slice_index_or}
+use Rattle.std.specs.Prelude.{◌≡◌, ◌≤◌, ◌<◌, ◌+◌, ◌-◌, ℕ, List, [], ◌∷◌, ◌++◌, length, map, flat_map, filter, take, drop, not, slice_index_or, suc}
 use Rattle.std.specs.List.{Contains, sum_by}
 use Rattle.std.specs.List.Sorted.{IsStrictlyIncreasing}
+use Rattle.spelled.specs.Spelled.{Joined}
 use Rattle.fixed_width.specs.Numbers.{number_at}
 use Rattle.fixed_width.specs.InitialLengths.{least_reserved}
 use Rattle.list_model.specs.declared.contribution.Contribution.{Contribution}
@@ -13,11 +14,14 @@ use Rattle.list_model.specs.Entries.{Entry}
 use Rattle.list_model.specs.Items.{sets_base}
 use Rattle.loc_lists.specs.Locations.{entries_of, item_expressions}
 use Rattle.loc_lists.specs.Apart.{StandApart, ShortestBehind}
+use Rattle.loc_lists.specs.declared.views.ViewPair.{ViewPair}
+use Rattle.loc_lists.specs.Views.{ShortestPair}
 use Rattle.list_least.specs.declared.pick.Pick.{Pick}
 use Rattle.list_least.specs.Plans.{entries_bytes, ArePicks}
 use Rattle.list_least.specs.Shortest.{ShortestList}
 use Rattle.list_write.specs.declared.named.NamedList.{NamedList}
 use Rattle.list_write.specs.declared.named.NewExpressions.{NewExpressions}
+use Rattle.list_write.specs.declared.named.ViewRun.{ViewRun}
 use Rattle.list_write.specs.declared.image.Moved.{Moved}
 
 -- the contribution with a number; past the end there is none, and an empty one stands for it
@@ -26,14 +30,20 @@ part_at parts p = slice_index_or parts p (record { at = 0; len = 0; slots = 0 })
 
 -- ---- what is to be written
 
+-- a run of view pairs: where it begins, and the pairs
+pub record Run : Type 0 where
+  pub at : ℕ
+  pub pairs : List ViewPair
+
 -- a list: its contribution by its number, where it begins, its entries as they are picked, how many bytes these and the end are to have,
--- and the expressions of its items
+-- the expressions of its items, and the view pairs that go with it
 pub record ToWrite : Type 0 where
   pub part : ℕ
   pub at : ℕ
   pub picks : List Pick
   pub size : ℕ
   pub expressions : List (List ℕ)
+  pub views : List Run
 
 -- the pieces of bytes that end at these places, each from where the one before it does; the first begins at a place
 abbrev pub pieces : ℕ → List ℕ → List ℕ → List (List ℕ)
@@ -49,21 +59,34 @@ EndsRise from (end ∷ ends) most = (from ≤ end) × (end ≤ most) × EndsRise
 abbrev pub AreEnds : NewExpressions → Type 0
 AreEnds new = EndsRise 0 new.ends.items (length new.bytes.items)
 
+-- view pairs that go with a list
+abbrev pub run_of : ViewRun → Run
+run_of run = record { at = run.at; pairs = run.pairs.items }
+
 -- a list that something names, as it is to be written
 abbrev pub to_write : NamedList → ToWrite
-to_write list = record { part = list.part; at = list.at; picks = list.plan.picks.items; size = list.plan.size; expressions = pieces 0 list.expressions.ends.items list.expressions.bytes.items }
+to_write list = record { part = list.part; at = list.at; picks = list.plan.picks.items; size = list.plan.size; expressions = pieces 0 list.expressions.ends.items list.expressions.bytes.items; views = map run_of list.views.items }
 
 -- the list with a number; past the end there is none, and an empty one stands for it
 abbrev pub list_at : List ToWrite → ℕ → ToWrite
-list_at lists k = slice_index_or lists k (record { part = 0; at = 0; picks = []; size = 0; expressions = [] })
+list_at lists k = slice_index_or lists k (record { part = 0; at = 0; picks = []; size = 0; expressions = []; views = [] })
 
 -- how many bytes an expression takes behind its entry, with its length in the fewest bytes
 abbrev pub behind_size : List ℕ → ℕ
 behind_size expression = least_unsigned_len (length expression) + length expression
 
--- how many bytes a list takes
+-- how many bytes a list takes with its expressions, how many view pairs do, each number in its fewest, and how many both do
+abbrev pub own_size : ToWrite → ℕ
+own_size list = list.size + sum_by behind_size list.expressions
+
+abbrev pub pair_size : ViewPair → ℕ
+pair_size pair = least_unsigned_len pair.first + least_unsigned_len pair.last
+
+abbrev pub run_size : Run → ℕ
+run_size run = sum_by pair_size run.pairs
+
 abbrev pub full_size : ToWrite → ℕ
-full_size list = list.size + sum_by behind_size list.expressions
+full_size list = sum_by run_size list.views + own_size list
 
 -- each item of a location list has an expression, and ranges have none
 abbrev pub HasExpressions : ListKind → List Entry → List (List ℕ) → Type 0
@@ -120,14 +143,37 @@ pub record StandsIn (kind : ListKind) (section : List ℕ) (part : Contribution)
   pub shortest : ShortestWith kind entries expressions bytes bare
   pub whole : bytes_from section part at ≡ bytes ++ rest
 
+-- view pairs stand at a place of the contribution, each number in its fewest bytes
+pub record StandsBefore (section : List ℕ) (part : Contribution) (at : ℕ) (pairs : List ViewPair) : Type 0 where
+  pub holds : HoldsList part at
+  pub bytes : List ℕ
+  pub rest : List ℕ
+  pub shortest : Joined ShortestPair pairs bytes
+  pub whole : bytes_from section part at ≡ bytes ++ rest
+
+-- the runs of all lists, list by list; how many those of the first lists are; and a run with a number
+abbrev pub all_runs : List ToWrite → List Run
+all_runs lists = flat_map (λ (list : ToWrite). list.views) lists
+
+abbrev pub runs_before : List ToWrite → ℕ → ℕ
+runs_before lists k = sum_by (λ (list : ToWrite). length list.views) (take k lists)
+
+abbrev pub run_at : List Run → ℕ → Run
+run_at runs n = slice_index_or runs n (record { at = 0; pairs = [] })
+
 -- Stretches of bytes, each a place and a size, stand one after the other from a place up to another.
 abbrev pub Follow : List (ℕ × ℕ) → ℕ → ℕ → Type 0
 Follow [] from to = from ≡ to
 Follow ((at, size) ∷ rest) from to = (at ≡ from) × Follow rest (from + size) to
 
--- a list with the place at which it stands now
-abbrev pub stretch : List Moved → List ToWrite → ℕ → ℕ × ℕ
-stretch moved lists k = ((moved_at moved k).new, full_size (list_at lists k))
+-- runs with the places at which they stand now, from the run with a number on
+abbrev pub run_stretches : List Moved → ℕ → List Run → List (ℕ × ℕ)
+run_stretches views n [] = []
+run_stretches views n (run ∷ runs) = ((moved_at views n).new, run_size run) ∷ run_stretches views (suc n) runs
+
+-- a list with the place at which it stands now, directly behind its view pairs
+abbrev pub stretches : List Moved → List Moved → List ToWrite → ℕ → List (ℕ × ℕ)
+stretches moved views lists k = run_stretches views (runs_before lists k) (list_at lists k).views ++ ((moved_at moved k).new, own_size (list_at lists k)) ∷ []
 
 -- these are the numbers of the lists of a contribution, rising
 pub record AreNumbersOf (lists : List ToWrite) (p : ℕ) (numbers : List ℕ) : Type 0 where
@@ -136,8 +182,9 @@ pub record AreNumbersOf (lists : List ToWrite) (p : ℕ) (numbers : List ℕ) : 
   pub all : (k : ℕ) → k < length lists → (list_at lists k).part ≡ p → Contains numbers k
 
 -- The lists stand in the new section: as many contributions as before, with as many slots; each list once in its contribution, in
--- the order of the old places, with nothing between and behind them; and each slot tells where its list stands now.
-pub record AreWritten (kind : ListKind) (old : List ℕ) (parts : List Contribution) (lists : List ToWrite) (section : List ℕ) (new_parts : List Contribution) (moved : List Moved) : Type 0 where
+-- the order of the old places, each directly behind its view pairs, with nothing between and behind them; and each slot tells where its
+-- list stands now.
+pub record AreWritten (kind : ListKind) (old : List ℕ) (parts : List Contribution) (lists : List ToWrite) (section : List ℕ) (new_parts : List Contribution) (moved views : List Moved) : Type 0 where
   pub tiled : ContributionsTile section new_parts
   pub parts_count : length new_parts ≡ length parts
   pub slots : (p : ℕ) → p < length parts → (part_at new_parts p).slots ≡ (part_at parts p).slots
@@ -145,6 +192,9 @@ pub record AreWritten (kind : ListKind) (old : List ℕ) (parts : List Contribut
   pub from : (k : ℕ) → k < length lists → (moved_at moved k).old ≡ (list_at lists k).at
   pub rising : (j k : ℕ) → j < k → k < length lists → (moved_at moved j).new < (moved_at moved k).new
   pub each : (k : ℕ) → k < length lists → (entries : List Entry) → ArePicks kind (list_at lists k).picks entries → StandsIn kind section (part_at new_parts (list_at lists k).part) (moved_at moved k).new entries (list_at lists k).expressions
+  pub views_count : length views ≡ length (all_runs lists)
+  pub views_from : (n : ℕ) → n < length (all_runs lists) → (moved_at views n).old ≡ (run_at (all_runs lists) n).at
+  pub views_each : (k i : ℕ) → k < length lists → i < length (list_at lists k).views → StandsBefore section (part_at new_parts (list_at lists k).part) (moved_at views (runs_before lists k + i)).new (run_at (list_at lists k).views i).pairs
   pub told : (p i k : ℕ) → p < length parts → i < (part_at parts p).slots → k < length lists → Tells old parts p i (list_at lists k).at → Tells section new_parts p i (moved_at moved k).new
-  pub filled : (p : ℕ) → p < length parts → (numbers : List ℕ) × AreNumbersOf lists p numbers × Follow (map (stretch moved lists) numbers) (lists_at (part_at new_parts p)) (part_end (part_at new_parts p))
+  pub filled : (p : ℕ) → p < length parts → (numbers : List ℕ) × AreNumbersOf lists p numbers × Follow (flat_map (stretches moved views lists) numbers) (lists_at (part_at new_parts p)) (part_end (part_at new_parts p))
   pub fits : length section < least_reserved

@@ -1,7 +1,7 @@
 // A section of lists that is written anew.
 use list_model::Contribution;
 
-/// Where a list began, and where it begins now. Both places count from the first byte of their section.
+/// Where a list or a run of view pairs began, and where it begins now. Both places count from the first byte of their section.
 #[derive(Clone, Copy, Debug, PartialEq, Eq)]
 pub struct Moved {
     pub old: u64,
@@ -17,4 +17,6 @@ pub struct ListImage {
     pub parts: Vec<Contribution>,
     /// Where its lists stand, in the order in which they were given.
     pub lists: Vec<Moved>,
+    /// Where their view pairs stand, list by list and run by run, in the order in which they were given.
+    pub views: Vec<Moved>,
 }

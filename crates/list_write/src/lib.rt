@@ -13,5 +13,5 @@ mod write;
 
 pub use image::{ListImage, Moved};
 pub use kept::kept_plan;
-pub use named::{NamedList, NewExpressions};
+pub use named::{NamedList, NewExpressions, ViewRun};
 pub use write::write_lists;

@@ -1,19 +1,21 @@
-// The shortest bytes of lists.
+// The shortest bytes of lists and of the view pairs before them.
 ghost use Rattle.std.specs.Prelude.{◌≡◌, ◌<◌, ◌≤◌, ◌+◌, ℕ, List, [], length, map, slice_index_or, OnOk};
 ghost use Rattle.std.specs.List.{All};
-ghost use Rattle.spelled.specs.Spelled.{Appends};
+ghost use Rattle.spelled.specs.Spelled.{Joined, Appends};
 ghost use Rattle.list_model.specs.Entries.{Entry};
+ghost use Rattle.loc_lists.specs.Views.{ShortestPair};
 ghost use Rattle.list_least.specs.Plans.{IsPick, ArePicks};
 ghost use Rattle.list_least.specs.Shortest.{FitsOperand, ShortestEntry};
-ghost use Rattle.list_write.specs.Written.{AreEnds, ShortestWith, pieces, to_write, list_at};
-ghost use Rattle.list_write.specs.inside.Puts.{ShortestOperand, ShortestExpression, carries, IsSized, AreListsPut};
+ghost use Rattle.list_write.specs.Written.{AreEnds, ShortestWith, pieces, run_of, to_write, list_at};
+ghost use Rattle.list_write.specs.inside.Puts.{ShortestOperand, ShortestExpression, carries, IsSized, AreRunsPut, AreListsPut};
 
-use crate::named::{NamedList, NewExpressions};
+use crate::named::{NamedList, NewExpressions, ViewRun};
 use dw_base::NoMemory;
 use form_codec::{Width, put_low};
 use leb_codec::put_u;
 use list_least::Pick;
 use list_model::{EntryKind, ListKind, Operand, first_operand, kind_of, second_operand};
+use loc_lists::ViewPair;
 
 const LIST_END: u8 = 0;
 
@@ -93,7 +95,35 @@ fn put_list(out: &mut Vec<u8>, kind: ListKind, list: &NamedList) -> Result<(), N
     Ok(())
 }
 
-/// Appends lists, one after the other.
+// Appends a view pair.
+fn put_pair(out: &mut Vec<u8>, first: u64, last: u64) -> Result<(), NoMemory>
+    ensures { OnOk result (Appends ShortestPair (record { first = first; last = last }) out.old.items out.new.items) }
+{
+    put_u(out, first)?;
+    put_u(out, last)
+}
+
+// Appends a run of view pairs.
+fn put_run(out: &mut Vec<u8>, pairs: &Vec<ViewPair>) -> Result<(), NoMemory>
+    ensures { OnOk result (Appends (Joined ShortestPair) pairs.now.items out.old.items out.new.items) }
+{
+    for pair in pairs {
+        put_pair(out, pair.first, pair.last)?;
+    }
+    Ok(())
+}
+
+// Appends runs of view pairs, one after the other.
+fn put_runs(out: &mut Vec<u8>, runs: &Vec<ViewRun>) -> Result<(), NoMemory>
+    ensures { OnOk result (AreRunsPut (map run_of runs.now.items) (length runs.now.items) out.old.items out.new.items) }
+{
+    for run in runs {
+        put_run(out, &run.pairs)?;
+    }
+    Ok(())
+}
+
+/// Appends lists, one after the other, each behind its view pairs.
 pub(crate) fn put_lists(
     out: &mut Vec<u8>,
     kind: ListKind,
@@ -104,6 +134,7 @@ pub(crate) fn put_lists(
     ensures { OnOk result (AreListsPut kind (map to_write lists.now) (length lists.now) out.old.items out.new.items) }
 {
     for list in lists {
+        put_runs(out, &list.views)?;
         put_list(out, kind, list)?;
     }
     Ok(())

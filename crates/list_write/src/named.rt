@@ -1,5 +1,6 @@
 // Lists that are to be written.
 use list_least::Plan;
+use loc_lists::ViewPair;
 
 /// Expressions one after the other. Bytes behind the last one's end aren't used.
 #[derive(Drop)]
@@ -8,6 +9,15 @@ pub struct NewExpressions {
     pub bytes: Vec<u8>,
     /// Where each ends in these.
     pub ends: Vec<u32>,
+}
+
+/// A run of view pairs, which are an extension of GNU's.
+#[derive(Drop)]
+pub struct ViewRun {
+    /// Where it begins, counted from the first byte of the section.
+    pub at: u64,
+    /// Its pairs.
+    pub pairs: Vec<ViewPair>,
 }
 
 /// A list that something names, and how it is to be written. Places count from the first byte of the section.
@@ -21,4 +31,6 @@ pub struct NamedList {
     pub plan: Plan,
     /// The expressions of its items, in their order; a range list has none.
     pub expressions: NewExpressions,
+    /// The view pairs that go with it, in the order in which they are to stand before it; a range list has none.
+    pub views: Vec<ViewRun>,
 }

@@ -5,14 +5,14 @@ ghost use Rattle.list_model.specs.Contributions.{lists_at, IsContribution};
 ghost use Rattle.list_model.specs.Entries.{Entry};
 ghost use Rattle.list_least.specs.Plans.{ArePicks};
 ghost use Rattle.list_least.specs.Shortest.{FitsOperand};
-ghost use Rattle.list_write.specs.Written.{pieces, AreEnds, to_write, behind_size, AllAreTold};
+ghost use Rattle.list_write.specs.Written.{pieces, AreEnds, run_of, to_write, behind_size, pair_size, run_size, AllAreTold};
 ghost use Rattle.list_write.specs.inside.Puts.{carried_count};
 ghost use Rattle.list_write.specs.inside.TestLists.{AreSized, IsEntry, AreEntries, AtsRise, IsHeld, AreHeld, HasList, AreTold, HasRoom};
 
 use crate::list::has_expression;
 use crate::part::{HEADER_SIZE, OFFSET_SIZE};
 use crate::places::front_size;
-use crate::{ListImage, Moved, NamedList, NewExpressions, kept_plan, write_lists};
+use crate::{ListImage, Moved, NamedList, NewExpressions, ViewRun, kept_plan, write_lists};
 use dw_base::Span;
 use fixed_width::u32_at;
 use leb_codec::len_u;
@@ -21,6 +21,7 @@ use list_model::{
     Contribution, ListKind, Operand, RawEntry, contributions, first_operand, kind_of,
     second_operand,
 };
+use loc_lists::ViewPair;
 use std::alloc::Global;
 use std::process::Abort;
 use std::test::Fail;
@@ -193,6 +194,34 @@ fn with_behind(size: u64, expressions: &NewExpressions) -> Option<u64>
     Some(sum)
 }
 
+// A size with the bytes of view pairs, if the sum fits.
+fn with_pairs(size: u64, pairs: &Vec<ViewPair>) -> Option<u64>
+    ensures { IfSome result (λ sum. sum ≡ size + sum_by pair_size pairs.now.items) }
+{
+    let mut sum = size;
+    for pair in pairs {
+        let Some(more) = sum.checked_add(u64::from(len_u(pair.first) + len_u(pair.last))) else {
+            return None;
+        };
+        sum = more;
+    }
+    Some(sum)
+}
+
+// The same of runs of them.
+fn with_runs(size: u64, runs: &Vec<ViewRun>) -> Option<u64>
+    ensures { IfSome result (λ sum. sum ≡ size + sum_by run_size (map run_of runs.now.items)) }
+{
+    let mut sum = size;
+    for run in runs {
+        let Some(more) = with_pairs(sum, &run.pairs) else {
+            return None;
+        };
+        sum = more;
+    }
+    Some(sum)
+}
+
 // The first of the lengths that are reserved.
 const FIRST_RESERVED: u64 = 0xffff_fff0;
 
@@ -206,7 +235,10 @@ fn has_room(section: &[u8], lists: &Vec<NamedList>) -> bool
         let Some(bare) = size.checked_add(list.plan.size) else {
             return false;
         };
-        let Some(more) = with_behind(bare, &list.expressions) else {
+        let Some(own) = with_behind(bare, &list.expressions) else {
+            return false;
+        };
+        let Some(more) = with_runs(own, &list.views) else {
             return false;
         };
         size = more;
@@ -262,7 +294,19 @@ fn no_expressions(alloc: Global) -> NewExpressions {
     }
 }
 
-// Appends a list that keeps these entries, with expressions for its items.
+// A run of view pairs that begins at a place.
+fn run_at(alloc: Global, at: u64, numbers: &[(u64, u64)]) -> Result<ViewRun, Fail> {
+    let mut pairs = Vec::new(alloc);
+    for (first, last) in numbers {
+        pairs.push(ViewPair {
+            first: *first,
+            last: *last,
+        })?;
+    }
+    Ok(ViewRun { at, pairs })
+}
+
+// Appends a list that keeps these entries, with expressions for its items and view pairs before it.
 fn push_kept(
     lists: &mut Vec<NamedList>,
     alloc: Global,
@@ -271,6 +315,7 @@ fn push_kept(
     at: u64,
     raws: &[RawEntry],
     expressions: NewExpressions,
+    views: Vec<ViewRun>,
 ) -> Result<(), Fail>
     requires { AreSized kind (map to_write lists.old.items) }
     ensures { OnOk result (AreSized kind (map to_write lists.new.items)) }
@@ -290,6 +335,7 @@ fn push_kept(
         at,
         plan,
         expressions,
+        views,
     })?;
     Ok(())
 }
@@ -311,6 +357,7 @@ fn a_shared_end_is_written_twice(rt: HostRuntime) -> Result<(), Fail> {
         12,
         &entries,
         no_expressions(alloc),
+        Vec::new(alloc),
     )?;
     push_kept(
         &mut lists,
@@ -320,6 +367,7 @@ fn a_shared_end_is_written_twice(rt: HostRuntime) -> Result<(), Fail> {
         15,
         &entries[1..],
         no_expressions(alloc),
+        Vec::new(alloc),
     )?;
     let image = written(alloc, kind, &section, &lists)?;
     let expected = [
@@ -358,6 +406,7 @@ fn an_offset_tells_a_list_behind_its_contribution(rt: HostRuntime) -> Result<(),
         20,
         &entries,
         no_expressions(alloc),
+        Vec::new(alloc),
     )?;
     push_kept(
         &mut lists,
@@ -367,6 +416,7 @@ fn an_offset_tells_a_list_behind_its_contribution(rt: HostRuntime) -> Result<(),
         23,
         &entries[1..],
         no_expressions(alloc),
+        Vec::new(alloc),
     )?;
     push_kept(
         &mut lists,
@@ -376,6 +426,7 @@ fn an_offset_tells_a_list_behind_its_contribution(rt: HostRuntime) -> Result<(),
         39,
         &[entry(4, 0, 8)],
         no_expressions(alloc),
+        Vec::new(alloc),
     )?;
     let image = written(alloc, kind, &section, &lists)?;
     let expected = [
@@ -412,7 +463,16 @@ fn entries_keep_their_kinds(rt: HostRuntime) -> Result<(), Fail> {
         bytes: [0x31, 0x9f].to_vec(alloc)?,
         ends: [2, 2].to_vec(alloc)?,
     };
-    push_kept(&mut lists, alloc, kind, 0, 12, &entries, expressions)?;
+    push_kept(
+        &mut lists,
+        alloc,
+        kind,
+        0,
+        12,
+        &entries,
+        expressions,
+        Vec::new(alloc),
+    )?;
     let expressions = NewExpressions {
         bytes: [0x9c].to_vec(alloc)?,
         ends: [1].to_vec(alloc)?,
@@ -425,6 +485,7 @@ fn entries_keep_their_kinds(rt: HostRuntime) -> Result<(), Fail> {
         33,
         &[entry(4, 0, 4)],
         expressions,
+        Vec::new(alloc),
     )?;
     let image = written(alloc, kind, &section, &lists)?;
     let expected = [
@@ -434,5 +495,50 @@ fn entries_keep_their_kinds(rt: HostRuntime) -> Result<(), Fail> {
     assert_eq!(rt; image.bytes.as_slice(), expected.as_slice());
     let moved = [Moved { old: 12, new: 12 }, Moved { old: 33, new: 31 }];
     assert_eq!(rt; image.lists.as_slice(), moved.as_slice());
+    Ok(())
+}
+
+#[test]
+fn view_pairs_stand_before_their_list(rt: HostRuntime) -> Result<(), Fail> {
+    let alloc = rt.alloc();
+    let kind = ListKind::Locations;
+    // A list of one offset pair, behind two view pairs and then one with a padded number, which is to stand first.
+    let section = [
+        0x16, 0, 0, 0, 5, 0, 8, 0, 0, 0, 0, 0, 0, 1, 1, 0, 0x80, 0x81, 0, 2, 4, 0, 4, 1, 0x9c, 0,
+    ];
+    let mut lists = Vec::new(alloc);
+    let expressions = NewExpressions {
+        bytes: [0x9c].to_vec(alloc)?,
+        ends: [1].to_vec(alloc)?,
+    };
+    let mut views = Vec::new(alloc);
+    views.push(run_at(alloc, 16, &[(0x80, 2)])?)?;
+    views.push(run_at(alloc, 12, &[(0, 1), (1, 0)])?)?;
+    views.push(run_at(alloc, 20, &[])?)?;
+    push_kept(
+        &mut lists,
+        alloc,
+        kind,
+        0,
+        20,
+        &[entry(4, 0, 4)],
+        expressions,
+        views,
+    )?;
+    let image = written(alloc, kind, &section, &lists)?;
+    let expected = [
+        0x15, 0, 0, 0, 5, 0, 8, 0, 0, 0, 0, 0, 0x80, 1, 2, 0, 1, 1, 0, 4, 0, 4, 1, 0x9c, 0,
+    ];
+    assert_eq!(rt; image.bytes.as_slice(), expected.as_slice());
+    assert_eq!(rt;
+        image.lists.as_slice(),
+        [Moved { old: 20, new: 19 }].as_slice()
+    );
+    let moved = [
+        Moved { old: 16, new: 12 },
+        Moved { old: 12, new: 15 },
+        Moved { old: 20, new: 19 },
+    ];
+    assert_eq!(rt; image.views.as_slice(), moved.as_slice());
     Ok(())
 }

@@ -2,7 +2,7 @@
 -- order, which stand together at a place of .debug_loclists.
 use Rattle.std.specs.Prelude.{◌≡◌, ◌<◌, ◌+◌, ◌*◌, ◌^◌, ℕ, List, ◌++◌, length}
 use Rattle.spelled.specs.Spelled.{Joined, Then}
-use Rattle.leb_codec.specs.Leb.{Uleb, IsShort, IsWideUnsigned}
+use Rattle.leb_codec.specs.Leb.{Uleb, IsShort, IsWideUnsigned, least_unsigned_len}
 use Rattle.dw_base.specs.declared.fault.Kind.{Kind}
 use Rattle.dw_base.specs.declared.fault.Kind.TheVariants.{Limit, Short, LebWide}
 use Rattle.list_model.specs.declared.contribution.Contribution.{Contribution}
@@ -12,6 +12,10 @@ use Rattle.loc_lists.specs.declared.views.ViewPair.{ViewPair}
 -- two numbers in ULEB128, with padding or without, one after the other
 abbrev pub SpellsPair : ViewPair → List ℕ → Type 0
 SpellsPair pair bytes = Then Uleb (λ _. Uleb) (pair.first, pair.last) bytes
+
+-- and they have no byte too many
+abbrev pub ShortestPair : ViewPair → List ℕ → Type 0
+ShortestPair pair bytes = SpellsPair pair bytes × (length bytes ≡ least_unsigned_len pair.first + least_unsigned_len pair.last)
 
 -- these pairs stand at a place of the contribution
 pub record IsRunAt (section : List ℕ) (part : Contribution) (at : ℕ) (pairs : List ViewPair) : Type 0 where

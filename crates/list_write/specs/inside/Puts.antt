@@ -2,7 +2,7 @@
 -- Inner functions and proofs alone need what stands here.
 use Rattle.std.specs.Prelude.{◌≡◌, ◌<◌, ◌+◌, ◌-◌, ◌*◌, ℕ, List, [], ◌∷◌, ◌++◌, length, map, filter, take, Bool, true, false, not}
 use Rattle.fixed_width.specs.Numbers.{number_at}
-use Rattle.spelled.specs.Spelled.{IsAbsent}
+use Rattle.spelled.specs.Spelled.{IsAbsent, Joined}
 use Rattle.leb_codec.specs.Digits.{Extends}
 use Rattle.form_codec.specs.declared.form.Width.TheVariants.{One, Two, Four}
 use Rattle.form_codec.specs.Written.{low_bytes}
@@ -12,6 +12,7 @@ use Rattle.list_model.specs.declared.entry.ListKind.{ListKind}
 use Rattle.list_model.specs.declared.entry.ListKind.TheVariants.{Ranges, Locations}
 use Rattle.list_model.specs.Items.{sets_base}
 use Rattle.loc_lists.specs.Locations.{SpellsExpression, entries_of}
+use Rattle.loc_lists.specs.Views.{ShortestPair}
 use Rattle.list_model.specs.declared.entry.Operand.{Operand}
 use Rattle.list_model.specs.Contributions.{offsets_at, offset_place}
 use Rattle.list_model.specs.Costs.{operand_bytes}
@@ -19,8 +20,8 @@ use Rattle.list_model.specs.Entries.{Entry, SpellsOperand}
 use Rattle.list_least.specs.Plans.{entries_bytes, ArePicks}
 use Rattle.list_least.specs.Shortest.{ShortestEntry}
 use Rattle.list_write.specs.declared.image.Moved.{Moved}
-use Rattle.list_write.specs.Written.{ToWrite, HasExpressions, ShortestWith, behind_size, part_at, list_at, moved_at}
-use Rattle.list_write.specs.inside.Places.{front_sizes, list_sizes, IsFirst}
+use Rattle.list_write.specs.Written.{Run, ToWrite, HasExpressions, ShortestWith, behind_size, part_at, list_at, moved_at, run_at}
+use Rattle.list_write.specs.inside.Places.{front_sizes, run_sizes, views_size, list_sizes, whole_at, IsFirst}
 
 -- the bytes spell the operand, without padding
 abbrev pub ShortestOperand : Operand → ℕ → List ℕ → Type 0
@@ -109,11 +110,26 @@ pub record AreSlotsPut (section : List ℕ) (offsets new_offsets : ℕ) (lists :
 abbrev pub ListStands : ListKind → ToWrite → ℕ → List ℕ → Type 0
 ListStands kind list at bytes = (entries : List Entry) → ArePicks kind list.picks entries → (own : List ℕ) × (bare : List ℕ) × ShortestWith kind entries list.expressions own bare × StandAt at own bytes
 
--- so many lists are put behind other bytes, one after the other
+-- the bytes of a run of view pairs stand at a place
+abbrev pub RunStands : Run → ℕ → List ℕ → Type 0
+RunStands run at bytes = (own : List ℕ) × Joined ShortestPair run.pairs own × StandAt at own bytes
+
+-- so many runs of view pairs are put behind other bytes, one after the other
+pub record AreRunsPut (runs : List Run) (count : ℕ) (old new : List ℕ) : Type 0 where
+  pub extends : Extends old new
+  pub size : length new ≡ length old + run_sizes runs count
+  pub each : (i : ℕ) → i < count → RunStands (run_at runs i) (length old + run_sizes runs i) new
+
+-- the view pairs of a list stand from a place on, and the list behind them
+pub record WholeStands (kind : ListKind) (list : ToWrite) (at : ℕ) (bytes : List ℕ) : Type 0 where
+  pub runs : (i : ℕ) → i < length list.views → RunStands (run_at list.views i) (at + run_sizes list.views i) bytes
+  pub own : ListStands kind list (at + views_size list) bytes
+
+-- so many lists are put behind other bytes, one after the other, each behind its view pairs
 pub record AreListsPut (kind : ListKind) (lists : List ToWrite) (count : ℕ) (old new : List ℕ) : Type 0 where
   pub extends : Extends old new
   pub size : length new ≡ length old + list_sizes lists count
-  pub each : (k : ℕ) → k < count → ListStands kind (list_at lists k) (length old + list_sizes lists k) new
+  pub each : (k : ℕ) → k < count → WholeStands kind (list_at lists k) (length old + list_sizes lists k) new
 
 -- a slot of a contribution tells where its list stands now
 abbrev pub SlotStands : List ℕ → List Contribution → List Contribution → List Moved → ℕ → ℕ → List ℕ → Type 0
@@ -126,7 +142,7 @@ pub record AreWrittenTo (kind : ListKind) (section : List ℕ) (parts : List Con
   pub size : length bytes ≡ front_sizes parts p + list_sizes lists first
   pub headers : (q : ℕ) → q < p → StandAt (part_at new_parts q).at (header_bytes (part_at new_parts q)) bytes
   pub slots : (q slot : ℕ) → q < p → slot < (part_at parts q).slots → SlotStands section parts new_parts moved q slot bytes
-  pub each : (k : ℕ) → k < first → ListStands kind (list_at lists k) (moved_at moved k).new bytes
+  pub each : (k : ℕ) → k < first → WholeStands kind (list_at lists k) (whole_at parts lists k) bytes
 
 -- a list has entries, and they take so many bytes without padding, with the end
 pub record IsSized (kind : ListKind) (list : ToWrite) : Type 0 where

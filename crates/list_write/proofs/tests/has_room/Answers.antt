@@ -14,4 +14,4 @@ loop-list-preserved c =
     let is = to_write_at c.deref-list-items.result.now k c.list-item.result c.loop-list-test.true c.list-item.is in
     let size : full_size (list_at (map to_write items) k) ≡ full_size (to_write c.list-item.result) = subst (λ (z : List NamedList). full_size (list_at (map to_write z) k) ≡ full_size (to_write c.list-item.result)) c.deref-list-items.ensures.value (ap full_size is) in
     let more = sizes_more (map to_write items) k (omega (arith, inside, count)) in
-    omega (arith, more, size, c.loop-list.invariant, c.in-Some.ensures, c.in-Some-with_behind.ensures)
+    omega (arith, more, size, c.loop-list.invariant, c.in-Some.ensures, c.in-Some-with_behind.ensures, c.in-Some-with_runs.ensures)

@@ -1,6 +1,6 @@
 use Rattle.std.proofs.Common.{◌≤◌, ◌<◌, ◌+◌, ◌-◌, ℕ, length, map}
 use Rattle.list_write.specs.Written.{to_write, list_at}
-use Rattle.list_write.proofs.places.end_of_run.Given as goal
+use Rattle.list_write.proofs.places.end_of_part.Given as goal
 
 abbrev pub invariant-loop-end : goal.invariant-loop-end
 invariant-loop-end l = record {
