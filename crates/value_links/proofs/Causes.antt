@@ -43,7 +43,7 @@ module _ (r : Linkable) (u id name : ℕ) where
   offset_cause AddrPtr n none = λ here. none (Kept n) (here, refl)
   offset_cause StrOffsetsPtr n none = none (Kept n) refl
   offset_cause MacPtr n none = none (Kept n) refl
-  offset_cause Views n none = tt
+  offset_cause Views n none = λ (w, links). none w links
   offset_cause NoOffset n none = tt
 
   location_cause : (i : ℕ) (kind : Kind) → ((w : Linked) → IndexLinks r u Locations i w → ⊥) → IsBaseCause (root_of (unit_at r u)).attributes loclists_base kind → FaultValue r u id name (LocationList i) kind

@@ -10,12 +10,12 @@ use Rattle.list_model.specs.declared.item.Item.{Item}
 use Rattle.list_model.specs.declared.item.Meaning.{Meaning as HeldMeaning}
 use Rattle.list_model.specs.declared.item.Meaning.TheVariants.{Live, Dead}
 use Rattle.value_links.specs.declared.link.Link.{Link}
-use Rattle.value_links.specs.declared.link.Link.TheVariants.{Plain, Place, Lines, List as AtList, Slot, Base, Kept as KeptPlace}
+use Rattle.value_links.specs.declared.link.Link.TheVariants.{Plain, Place, Lines, List as AtList, Slot, Base, Views, Kept as KeptPlace}
 use Rattle.value_links.specs.declared.lists.ListRead.{ListRead as HeldList}
 use Rattle.value_links.specs.declared.parts.Parts.{Parts}
 use Rattle.value_links.specs.Reading.{ListSection, ListRead, Linkable, Reading, lists_of, of_kind, list_at, part_at}
 use Rattle.value_links.specs.ListPlaces.{IsSlot, SlotNames}
-use Rattle.value_links.specs.Linked.Linked.{Itself, Operates, Refers, Program, ListAt, SlotAt, BaseOf, Kept}
+use Rattle.value_links.specs.Linked.Linked.{Itself, Operates, Refers, Program, ListAt, SlotAt, BaseOf, ViewsAt, Kept}
 use Rattle.value_links.specs.Lists.{IsFrozen, AreListsOf}
 use Rattle.value_links.specs.Links.{IsFollowed, IsLinkFound}
 use Rattle.value_links.specs.Parts.{section_held, lists_in}
@@ -47,6 +47,7 @@ can_follow r slots u id name meaning told (SlotAt kind p i, links, is) =
     let (to, followed) = slot_followed r slots kind p i slot.known slot.counted in
     (to, subst (λ (z : Link). IsFollowed r z to) (sym is) followed)
 can_follow r slots u id name meaning told (BaseOf kind p, links, is) = (Base kind p, subst (λ (z : Link). IsFollowed r z (Base kind p)) (sym is) refl)
+can_follow r slots u id name meaning told (ViewsAt list n, links, is) = (Views list n, subst (λ (z : Link). IsFollowed r z (Views list n)) (sym is) refl)
 can_follow r slots u id name meaning told (Kept n, links, is) = (KeptPlace n, subst (λ (z : Link). IsFollowed r z (KeptPlace n)) (sym is) refl)
 
 -- what a slot tells in what is held is the list that it names

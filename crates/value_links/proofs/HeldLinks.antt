@@ -1,5 +1,5 @@
 -- What values refer to is known from what is held: rows of programs don't tell, and the units are those that are held.
-use Rattle.std.proofs.Common.{◌≡◌, ◌<◌, ◌+◌, ◌∙◌, ℕ, suc, List, [], ◌∷◌, length, get_or, sym, ap, subst, refl, arith}
+use Rattle.std.proofs.Common.{◌≡◌, ◌<◌, ◌+◌, ◌++◌, ◌∙◌, ℕ, suc, List, [], ◌∷◌, length, get_or, sym, ap, subst, refl, arith}
 use Rattle.std.specs.Prelude.{◌⊎◌, map, Option, Some, None, true, false}
 use Rattle.std.specs.List.{AllZip}
 use Rattle.std.proofs.lemmas.List.{get_or-map, length-map}
@@ -28,15 +28,15 @@ use Rattle.value_links.specs.declared.parts.Parts.{Parts}
 use Rattle.value_links.specs.declared.units.NamedTable.{NamedTable}
 use Rattle.value_links.specs.Sections.{debug_addr, debug_lists}
 use Rattle.value_links.specs.Attributes.{OffsetClass, offset_class}
-use Rattle.value_links.specs.Attributes.OffsetClass.{LinePtr, RngList, LocList, RngListsPtr, LocListsPtr, AddrPtr}
+use Rattle.value_links.specs.Attributes.OffsetClass.{LinePtr, RngList, LocList, RngListsPtr, LocListsPtr, AddrPtr, Views}
 use Rattle.value_links.specs.Reading.{ProgramRead, UnitRead, ListSection, Linkable, Reading, line_heads, no_program, unit_at, unit_among, of_kind, part_at}
-use Rattle.value_links.specs.ListPlaces.{IsListPlace, IsOffsetsAt, NamesPart, IsBaseOf, base_of}
+use Rattle.value_links.specs.ListPlaces.{IsListPlace, IsOffsetsAt, IsSlot, NamesPart, IsBaseOf, base_of}
 use Rattle.list_model.specs.declared.context.Context.{Context}
-use Rattle.value_links.specs.Values.{HasValueAt, root_of}
+use Rattle.value_links.specs.Values.{HasValueAt, described_at, root_of}
 use Rattle.value_links.specs.Contexts.{IsContext}
 use Rattle.value_links.specs.Operations.{OpTarget, LinkedOperation, LinksOperation, LinksReference, NamesSectionEntry}
 use Rattle.value_links.specs.Operations.OpTarget.{GenericType, AnEntry}
-use Rattle.value_links.specs.Linked.{Linked, IsTargetAt, OffsetLinks, Links}
+use Rattle.value_links.specs.Linked.{Linked, IsTargetAt, TellsPlace, IsFirstLocated, AreTogether, OffsetLinks, Links}
 use Rattle.value_links.specs.Laws.{AreLinked}
 use Rattle.value_links.specs.Links.{IsLinkFound, IsOpLinkFound, IsNamedThing}
 use Rattle.value_links.specs.Parts.{HoldsParts}
@@ -91,6 +91,26 @@ pub alike_back : (r s : Linkable) → AreAlike r s → AreAlike s r
 alike_back r s same = record { heads = sym same.heads; units = sym same.units; contexts = sym same.contexts; addresses = sym same.addresses; lists = λ (kind : ListKind). sym (same.lists kind) }
 
 module _ (r s : Linkable) (same : AreAlike r s) where
+  base_held : (u : ℕ) (kind : ListKind) (p : ℕ) → IsBaseOf r u kind p → IsBaseOf s u kind p
+  base_held u kind p named = subst (λ (us : List UnitRead). NamesPart (of_kind s kind) (root_of (unit_among us u)).attributes (base_of kind) p) same.units (subst (λ (z : ListSection). NamesPart z (root_of (unit_at r u)).attributes (base_of kind) p) (same.lists kind) named)
+
+  -- the place that the first location list of an entry tells
+  tells_held : (u : ℕ) (meaning : Meaning) (list : ℕ) → TellsPlace r u meaning list → TellsPlace s u meaning list
+  tells_held u (SectionPlace n) list (here, is) = (subst (λ (z : ListSection). (p : ℕ) × IsListPlace z p n) (same.lists Locations) here, is)
+  tells_held u (LocationList i) list (p, named, slot) = (p, base_held u Locations p named, subst (λ (z : ListSection). IsSlot z p i list) (same.lists Locations) slot)
+  tells_held u meaning list none = none
+
+  located_held : (u id list : ℕ) → IsFirstLocated r u id list → IsFirstLocated s u id list
+  located_held u id list f = record {
+    before = f.before;
+    attribute = f.attribute;
+    after = f.after;
+    parts = subst (λ (us : List UnitRead). (described_at (unit_among us u) id).attributes ≡ f.before ++ f.attribute ∷ f.after) same.units f.parts;
+    first = f.first;
+    located = f.located;
+    tells = tells_held u f.attribute.1 list f.tells;
+  }
+
   offset_held : (u id : ℕ) (class : OffsetClass) (n : ℕ) (linked : Linked) → OffsetLinks r u id class n linked → OffsetLinks s u id class n linked
   offset_held u id LinePtr n linked (p, (inside, here), is) =
       let (known, head) = program_held r.programs s.programs p same.heads inside in
@@ -100,10 +120,8 @@ module _ (r s : Linkable) (same : AreAlike r s) where
   offset_held u id RngListsPtr n linked (p, here, is) = (p, subst (λ (z : ListSection). IsOffsetsAt z n p) (same.lists Ranges) here, is)
   offset_held u id LocListsPtr n linked (p, here, is) = (p, subst (λ (z : ListSection). IsOffsetsAt z n p) (same.lists Locations) here, is)
   offset_held u id AddrPtr n linked (here, is) = (subst (λ (z : List ℕ). (table : AddrTable) × HasBase z n table) same.addresses here, is)
+  offset_held u id Views n linked (list, here, together, is) = (list, located_held u id list here, subst (λ (z : ListSection). AreTogether z list n) (same.lists Locations) together, is)
   offset_held u id class n linked f = f
-
-  base_held : (u : ℕ) (kind : ListKind) (p : ℕ) → IsBaseOf r u kind p → IsBaseOf s u kind p
-  base_held u kind p named = subst (λ (us : List UnitRead). NamesPart (of_kind s kind) (root_of (unit_among us u)).attributes (base_of kind) p) same.units (subst (λ (z : ListSection). NamesPart z (root_of (unit_at r u)).attributes (base_of kind) p) (same.lists kind) named)
 
   reference_held : (u : ℕ) (kind : Named) (code n : ℕ) (target : OpTarget) → LinksReference r u kind code n target → LinksReference s u kind code n target
   reference_held u Nothing code n target named = named

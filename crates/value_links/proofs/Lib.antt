@@ -1,6 +1,7 @@
 mod WorkedRows
 pub mod SectionLaws
 pub mod Bases
+pub mod Passing
 pub mod LinkLaws
 pub mod ExpressionBytes
 pub mod ExpressionLaws
@@ -10,12 +11,14 @@ pub mod LinkedOnce
 pub mod ListMeanings
 pub mod MeaningLaws
 pub mod ListsOnce
+pub mod ViewsOnce
 pub mod ReadingOnce
 pub mod DebugOnce
 pub mod Totals
 pub mod ValidUnits
 pub mod ValidLinks
 pub mod ValidLists
+pub mod ValidViews
 pub mod Validity
 pub mod Meaningful
 pub mod HeldUnits
@@ -48,6 +51,7 @@ pub mod PartPlaces
 pub mod RootAddresses
 pub mod NamedAddresses
 pub mod PartLinks
+pub mod Locating
 pub mod ListContexts
 pub mod ListGroups
 pub mod ListBytes
@@ -57,3 +61,7 @@ pub mod OpLinks
 pub mod ListOwners
 pub mod ListExpressionLaws
 pub mod ListOperations
+pub mod Viewings
+pub mod ViewTotals
+pub mod ViewLists
+pub mod ViewRuns

@@ -1,8 +1,10 @@
 -- A value refers to something or has a fault, and never both. Expressions are looked at apart.
 use Rattle.std.proofs.Common.{◌≡◌, ◌≤◌, ◌<◌, ◌+◌, ◌*◌, ◌∙◌, ◌⊎◌, inl, inr, ℕ, zero, suc, List, [], ◌∷◌, length, sym, ap, subst, refl, arith}
+use Rattle.std.specs.Prelude.{filter}
 use Rattle.std.proofs.lemmas.Bool.{cases_eq, cases_lt}
 use Rattle.dw_base.specs.declared.fault.Kind.{Kind}
 use Rattle.dw_base.specs.declared.fault.Kind.TheVariants.{Target as NoTarget, Pointer, NoBase}
+use Rattle.fixed_width.specs.Numbers.{number_at}
 use Rattle.fixed_width.specs.InitialLengths.{version, unit_length, unit_end, least_reserved, IsWhole}
 use Rattle.form_codec.specs.Forms.{Meaning}
 use Rattle.form_codec.specs.Forms.Meaning.{Expression, InUnit, InSection, SectionPlace, LocationList, RangeList}
@@ -14,18 +16,19 @@ use Rattle.list_model.specs.declared.entry.ListKind.TheVariants.{Ranges, Locatio
 use Rattle.list_model.specs.declared.tables.AddrTable.{AddrTable}
 use Rattle.list_model.specs.Headers.{address_size, segment_selector_size, IsHeader}
 use Rattle.list_model.specs.Addresses.{table_header_size, address_place, IsAddrTable, TablesFollow, AreAllTables, HasBase}
-use Rattle.list_model.specs.Contributions.{part_end, lists_at, offsets_at}
+use Rattle.list_model.specs.Contributions.{part_end, lists_at, offsets_at, offset_place}
 use Rattle.list_model.proofs.AllTables.{table_among, has_base as table_based, base_among}
 use Rattle.value_links.specs.Attributes.{OffsetClass, offset_class}
 use Rattle.value_links.specs.Attributes.OffsetClass.{LinePtr, RngList, LocList, RngListsPtr, LocListsPtr, AddrPtr, StrOffsetsPtr, MacPtr, Views, NoOffset}
 use Rattle.value_links.specs.Reading.{ListSection, Linkable, unit_at, program_at, of_kind, part_at}
-use Rattle.value_links.specs.Values.{root_of, IsFirstBase, GivesBase}
+use Rattle.value_links.specs.Values.{described_at, root_of, IsFirstBase, GivesBase}
 use Rattle.value_links.specs.ListPlaces.{IsListPlace, IsOffsetsAt, base_of}
-use Rattle.value_links.specs.Linked.{Linked, IsTargetAt, IsSectionTarget, IsProgramAt, IndexLinks, OffsetLinks, Links}
-use Rattle.value_links.specs.Linked.Linked.{Itself, Refers, Program, ListAt, SlotAt, BaseOf, Kept}
+use Rattle.value_links.specs.Linked.{Linked, IsTargetAt, IsSectionTarget, IsProgramAt, IndexLinks, is_located, TellsPlace, IsFirstLocated, AreTogether, ViewLinks, OffsetLinks, Links}
+use Rattle.value_links.specs.Linked.Linked.{Itself, Refers, Program, ListAt, SlotAt, BaseOf, ViewsAt, Kept}
 use Rattle.value_links.specs.LinkFaults.{IsTargetless, NamesNothing, IsIndexAstray, IsDangling, IsBaseless, FaultValue}
 use Rattle.value_links.specs.Laws.{LinkedHaveNoFault}
 use Rattle.value_links.proofs.Bases.{first_or_none, one_base}
+use Rattle.value_links.proofs.Passing.{FirstThat, none_among, first_once, first_that}
 
 -- ONE OR THE OTHER
 
@@ -133,11 +136,31 @@ module _ (section : List ℕ) where
 
 -- LISTS
 
--- a list can begin at a place of the section, or in no contribution
+-- a list can begin at a place in a contribution, or not
+place_or_not : (section : ListSection) (at p : ℕ) → IsListPlace section p at ⊎ (¬ IsListPlace section p at)
+place_or_not section at p = elim (both_or_not (less_or_not p (length section.parts)) (both_or_not (most_or_not (lists_at (part_at section p)) at) (less_or_not at (part_end (part_at section p))))) [
+  | inl is ↦ inl (is.0, record { after = is.1.0; before = is.1.1 })
+  | inr not ↦ inr (λ (x : IsListPlace section p at). not (x.0, (x.1.after, x.1.before)))
+]
+
+-- it can at a place of the section, or in no contribution
 list_or_none : (section : ListSection) (at : ℕ) → ((p : ℕ) × IsListPlace section p at) ⊎ (¬ ((p : ℕ) × IsListPlace section p at))
-list_or_none section at = elim (search_below (λ p. (lists_at (part_at section p) ≤ at) × (at < part_end (part_at section p))) (λ p. both_or_not (most_or_not (lists_at (part_at section p)) at) (less_or_not at (part_end (part_at section p)))) (length section.parts)) [
-  | inl found ↦ inl (found.0, (found.1, record { after = found.2.0; before = found.2.1 }))
-  | inr none ↦ inr (λ (x : (p : ℕ) × IsListPlace section p at). none x.0 x.1.0 (x.1.1.after, x.1.1.before))
+list_or_none section at = elim (search_below (λ p. IsListPlace section p at) (place_or_not section at) (length section.parts)) [
+  | inl found ↦ inl (found.0, found.2)
+  | inr none ↦ inr (λ (x : (p : ℕ) × IsListPlace section p at). none x.0 x.1.0 x.1)
+]
+
+-- two places are those of one contribution, or of none
+both_or_none : (section : ListSection) (list n : ℕ) → ((p : ℕ) × IsListPlace section p list × IsListPlace section p n) ⊎ (¬ ((p : ℕ) × IsListPlace section p list × IsListPlace section p n))
+both_or_none section list n = elim (search_below (λ p. IsListPlace section p list × IsListPlace section p n) (λ p. both_or_not (place_or_not section list p) (place_or_not section n p)) (length section.parts)) [
+  | inl found ↦ inl (found.0, found.2.0, found.2.1)
+  | inr none ↦ inr (λ (x : (p : ℕ) × IsListPlace section p list × IsListPlace section p n). none x.0 x.1.0 (x.1, x.2))
+]
+
+together_or_not : (section : ListSection) (list n : ℕ) → AreTogether section list n ⊎ (¬ AreTogether section list n)
+together_or_not section list n = elim (list_or_none section list) [
+  | inl here ↦ elim (both_or_none section list n) [ inl found ↦ inl (λ there. found) | inr none ↦ inr (λ (f : AreTogether section list n). none (f here)) ]
+  | inr none ↦ inl (λ here. absurd (none here))
 ]
 
 -- a place is that of the offsets of a contribution, or of none
@@ -163,6 +186,57 @@ target_or_none f place = elim (search_below (λ i. (entry_at f.entries i).at ≡
     neither no_entry no_end (TheEntry id, (inside, here)) = no_entry id inside here
     neither no_entry no_end (TheEnd id, (i, inside, here)) = no_end i inside (ap (λ e. e.at) here)
 
+-- VIEW PAIRS
+
+module _ (r : Linkable) (u : ℕ) where
+  -- what the value of a location tells, and view pairs at a place go with it
+  abbrev Goes : Meaning → ℕ → Type 0
+  Goes meaning n = (list : ℕ) × TellsPlace r u meaning list × AreTogether r.locations list n
+
+  -- the place that a slot tells
+  abbrev told : ℕ → ℕ → ℕ
+  told i p = offsets_at (part_at r.locations p).at + number_at 4 (offset_place (part_at r.locations p).at i) r.locations.section
+
+  slot_goes : (i n base : ℕ) → IsFirstBase (root_of (unit_at r u)).attributes (base_of Locations) base → Goes (LocationList i) n ⊎ (¬ Goes (LocationList i) n)
+  slot_goes i n base first = elim (search_below (λ p. (offsets_at (part_at r.locations p).at ≡ base) × ((i < (part_at r.locations p).slots) × AreTogether r.locations (told i p) n)) (λ p. both_or_not (cases_eq (offsets_at (part_at r.locations p).at) base) (both_or_not (less_or_not i (part_at r.locations p).slots) (together_or_not r.locations (told i p) n))) (length r.locations.parts)) [
+    | inl found ↦ inl (told i found.0, (found.0, (base, first, (found.1, found.2.0)), record { known = found.1; counted = found.2.1.0; tells = refl }), found.2.1.1)
+    | inr none ↦ inr (astray none)
+  ]
+    where
+      astray : ((p : ℕ) → p < length r.locations.parts → ¬ ((offsets_at (part_at r.locations p).at ≡ base) × ((i < (part_at r.locations p).slots) × AreTogether r.locations (told i p) n))) → ¬ Goes (LocationList i) n
+      astray none (list, (p, (m, is, (inside, at)), slot), together) = none p inside (at ∙ one_base (root_of (unit_at r u)).attributes (base_of Locations) m base is first, (slot.counted, subst (λ (z : ℕ). AreTogether r.locations z n) slot.tells together))
+
+  goes_or_not : (meaning : Meaning) (n : ℕ) → Goes meaning n ⊎ (¬ Goes meaning n)
+  goes_or_not (SectionPlace m) n = elim (both_or_not (list_or_none r.locations m) (together_or_not r.locations m n)) [
+    | inl is ↦ inl (m, (is.0, refl), is.1)
+    | inr not ↦ inr (λ (x : Goes (SectionPlace m) n). not (x.1.0, subst (λ (z : ℕ). AreTogether r.locations z n) x.1.1 x.2))
+  ]
+  goes_or_not (LocationList i) n = elim (first_or_none (root_of (unit_at r u)).attributes (base_of Locations)) [
+    | inl base ↦ slot_goes i n base.0 base.1
+    | inr none ↦ inr (λ (x : Goes (LocationList i) n). none (x.1.1.0, x.1.1.1))
+  ]
+  goes_or_not meaning n = inr (λ (x : Goes meaning n). x.1)
+
+  -- an offset of an entry names view pairs, or none
+  views_or_none : (id n : ℕ) → ((v : Linked) × ViewLinks r u id n v) ⊎ (¬ ((v : Linked) × ViewLinks r u id n v))
+  views_or_none id n = elim (first_that is_located (described_at (unit_at r u) id).attributes) [
+    | inl first ↦ elim (goes_or_not first.attribute.1 n) [
+      | inl goes ↦
+          let located : IsFirstLocated r u id goes.0 = record { before = first.before; attribute = first.attribute; after = first.after; parts = first.parts; first = first.first; located = first.passes; tells = goes.1 } in
+          inl (ViewsAt goes.0 n, (goes.0, located, goes.2, refl))
+      | inr none ↦ inr (λ (x : (v : Linked) × ViewLinks r u id n v). apart first none x.1)
+    ]
+    | inr none ↦ inr (λ (x : (v : Linked) × ViewLinks r u id n v). without none x.1)
+  ]
+    where
+      apart : (first : FirstThat is_located (described_at (unit_at r u) id).attributes) → (¬ Goes first.attribute.1 n) → {v : Linked} → ¬ ViewLinks r u id n v
+      apart first none (list, f, together, e) =
+          let same : f.attribute ≡ first.attribute = (first_once is_located f.before f.attribute f.after first.before first.attribute first.after (sym f.parts ∙ first.parts) f.first first.first f.located first.passes).1 in
+          none (list, subst (λ (z : ℕ × Meaning). TellsPlace r u z.1 list) same f.tells, together)
+
+      without : filter is_located (described_at (unit_at r u) id).attributes ≡ [] → {v : Linked} → ¬ ViewLinks r u id n v
+      without none (list, f, together, e) = none_among is_located (described_at (unit_at r u) id).attributes f.before f.attribute f.after none f.parts f.located
+
 module _ (r : Linkable) (u id : ℕ) where
   offset_or_fault : (class : OffsetClass) (n : ℕ) → ((v : Linked) × OffsetLinks r u id class n v) ⊎ NamesNothing r u id class n
   offset_or_fault LinePtr n = elim (search_below (λ p. (program_at r p).head.at ≡ n) (λ p. cases_eq (program_at r p).head.at n) (length r.programs)) [
@@ -176,7 +250,7 @@ module _ (r : Linkable) (u id : ℕ) where
   offset_or_fault AddrPtr n = elim (base_or_none r.addresses n) [ inl found ↦ inl (Kept n, (found, refl)) | inr none ↦ inr none ]
   offset_or_fault StrOffsetsPtr n = inl (Kept n, refl)
   offset_or_fault MacPtr n = inl (Kept n, refl)
-  offset_or_fault Views n = inr tt
+  offset_or_fault Views n = views_or_none r u id n
   offset_or_fault NoOffset n = inr tt
 
   -- an index counts a slot, or none, from a base that the root gives
@@ -233,7 +307,7 @@ names_something r u id LocListsPtr n v (p, here, e) none = none (p, here)
 names_something r u id AddrPtr n v (here, e) none = none here
 names_something r u id StrOffsetsPtr n v means none = none
 names_something r u id MacPtr n v means none = none
-names_something r u id Views n v means none = means
+names_something r u id Views n v means none = none (v, means)
 names_something r u id NoOffset n v means none = means
 
 points : (r : Linkable) (u id name : ℕ) (meaning : Meaning) (v : Linked) → Links r u id name meaning v → IsDangling r u id name meaning → ⊥

@@ -24,18 +24,19 @@ use Rattle.value_links.specs.Attributes.{OffsetClass, offset_class}
 use Rattle.value_links.specs.Attributes.OffsetClass.{LinePtr, RngList, LocList, RngListsPtr, LocListsPtr, AddrPtr, StrOffsetsPtr, MacPtr, Views, NoOffset}
 use Rattle.value_links.specs.Reading.{ProgramRead, UnitRead, Linkable, no_program, program_at, no_unit, unit_at, of_kind, part_at, declarations, IsUnitRead}
 use Rattle.value_links.specs.Values.{root_of}
-use Rattle.value_links.specs.ListPlaces.{IsOffsetsAt, SlotNames, IsBaseOf, base_of}
+use Rattle.value_links.specs.ListPlaces.{IsOffsetsAt, IsSlot, SlotNames, IsBaseOf, base_of}
 use Rattle.value_links.specs.Whole.{IsReadToLinks}
-use Rattle.value_links.specs.Linked.{Linked, IsTargetAt, IsSectionTarget, IsProgramAt, OffsetLinks, IndexLinks, Links}
+use Rattle.value_links.specs.Linked.{Linked, IsTargetAt, IsSectionTarget, IsProgramAt, is_located, TellsPlace, IsFirstLocated, OffsetLinks, IndexLinks, Links}
 use Rattle.value_links.specs.Operations.{OpTarget, LinkedOperation, NamesUnitEntry, NamesSectionEntry, NamesType, LinksReference, LinksOperation, LinksExpression}
 use Rattle.value_links.specs.Operations.OpTarget.{AnEntry}
-use Rattle.value_links.specs.Linked.Linked.{Operates, Refers, Program, SlotAt, BaseOf}
+use Rattle.value_links.specs.Linked.Linked.{Operates, Refers, Program, SlotAt, BaseOf, ViewsAt}
 use Rattle.value_links.specs.Laws.{OneLinked}
 use Rattle.value_links.proofs.Targets.{HasTargets, held_targets, entry_once, target_once}
 use Rattle.value_links.proofs.ReadingOnce.{zip_once}
 use Rattle.entry_read.proofs.Chained.{has_bytes, lies_once}
 use Rattle.value_links.proofs.Tiles.{units_chained, programs_chained, parts_chained, tiled_of}
 use Rattle.value_links.proofs.Bases.{one_base}
+use Rattle.value_links.proofs.Passing.{first_once}
 
 -- a unit in which an entry stands is one of those that are read: past the last no entry stands
 pub unit_known : (r : Linkable) (u id place : ℕ) → IsEntryAt (unit_at r u).forest id place → u < length r.units
@@ -109,6 +110,19 @@ module _ (file : List ℕ) (r : Linkable) (read : IsReadToLinks file r) where
   index_once : (u : ℕ) (kind : ListKind) (i : ℕ) (v w : Linked) → IndexLinks r u kind i v → IndexLinks r u kind i w → v ≡ w
   index_once u kind i v w (p, here, less, e) (q, there, more, f) = e ∙ ap (λ (z : ℕ). SlotAt kind z i) (base_once u kind p q here there) ∙ sym f
 
+  -- the place that the first location list of an entry tells is one
+  tells_once : (u : ℕ) (meaning : Meaning) (a b : ℕ) → TellsPlace r u meaning a → TellsPlace r u meaning b → a ≡ b
+  tells_once u (SectionPlace n) a b (here, e) (there, f) = e ∙ sym f
+  tells_once u (LocationList i) a b (p, base, slot) (q, other, there) =
+      let moved : IsSlot r.locations p i b = subst (λ (z : ℕ). IsSlot r.locations z i b) (base_once u Locations q p other base) there in
+      slot.tells ∙ sym moved.tells
+  tells_once u meaning a b tells other = absurd tells
+
+  pub located_once : (u id a b : ℕ) → IsFirstLocated r u id a → IsFirstLocated r u id b → a ≡ b
+  located_once u id a b f g =
+      let same : f.attribute ≡ g.attribute = (first_once is_located f.before f.attribute f.after g.before g.attribute g.after (sym f.parts ∙ g.parts) f.first g.first f.located g.located).1 in
+      tells_once u g.attribute.1 a b (subst (λ (z : ℕ × Meaning). TellsPlace r u z.1 a) same f.tells) g.tells
+
   offset_once : (u id : ℕ) (class : OffsetClass) (n : ℕ) (v w : Linked) → OffsetLinks r u id class n v → OffsetLinks r u id class n w → v ≡ w
   offset_once u id LinePtr n v w (p, here, e) (q, there, f) = e ∙ ap (λ (z : ℕ). Program z) (program_once n p q here there) ∙ sym f
   offset_once u id RngList n v w (_, e) (_, f) = e ∙ sym f
@@ -118,7 +132,7 @@ module _ (file : List ℕ) (r : Linkable) (read : IsReadToLinks file r) where
   offset_once u id AddrPtr n v w (_, e) (_, f) = e ∙ sym f
   offset_once u id StrOffsetsPtr n v w a b = a ∙ sym b
   offset_once u id MacPtr n v w a b = a ∙ sym b
-  offset_once u id Views n v w a b = absurd a
+  offset_once u id Views n v w (list, here, together, e) (other, there, apart, f) = e ∙ ap (λ (z : ℕ). ViewsAt z n) (located_once u id list other here there) ∙ sym f
   offset_once u id NoOffset n v w a b = absurd a
 
   -- what an operation names is one thing, and past the last unit none names an entry of its unit

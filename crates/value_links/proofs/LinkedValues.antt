@@ -6,7 +6,7 @@ use Rattle.entry_arena.specs.declared.entry.Target.{Target}
 use Rattle.entry_arena.specs.Order.{IsInOrder}
 use Rattle.entry_read.specs.Units.{HeadAndForest}
 use Rattle.value_links.specs.declared.link.Link.{Link}
-use Rattle.value_links.specs.declared.link.Link.TheVariants.{Plain, Place, Lines, List as AtList, Slot, Base, Kept as KeptPlace}
+use Rattle.value_links.specs.declared.link.Link.TheVariants.{Plain, Place, Lines, List as AtList, Slot, Base, Views, Kept as KeptPlace}
 use Rattle.value_links.specs.declared.parts.Parts.{Parts}
 use Rattle.value_links.specs.Sections.{debug_info, debug_abbrev}
 use Rattle.value_links.specs.Attributes.OffsetClass.{LinePtr}
@@ -49,6 +49,7 @@ module _ (file : List ℕ) (r : Linkable) (parts : Parts) (holds : HoldsParts fi
     section_link name n (Some (AtList kind k)) none = absurd none
     section_link name n (Some (Slot kind p i)) none = absurd none
     section_link name n (Some (Base kind p)) none = absurd none
+    section_link name n (Some (Views list k)) none = absurd none
     section_link name n (Some (KeptPlace k)) none = absurd none
     section_link name n None none = λ linked (w, target, (known, here), e).
         let inside : w < length parts.units.units.items = subst (λ (z : ℕ). w < z) (sym parts_count) known in

@@ -8,13 +8,13 @@ use Rattle.abbrev_tables.specs.Listings.{spec_at}
 use Rattle.entry_arena.specs.Arena.{value_at}
 use Rattle.entry_read.specs.Places.{HaveOwners}
 use Rattle.value_links.specs.declared.link.Link.{Link}
-use Rattle.value_links.specs.declared.link.Link.TheVariants.{Plain, Place, Lines, List as AtList, Slot, Base, Kept as KeptPlace}
+use Rattle.value_links.specs.declared.link.Link.TheVariants.{Plain, Place, Lines, List as AtList, Slot, Base, Views, Kept as KeptPlace}
 use Rattle.value_links.specs.Sections.{debug_info, debug_abbrev}
 use Rattle.value_links.specs.Reading.{UnitRead, Linkable, no_unit, declarations, unit_at}
 use Rattle.value_links.specs.Values.{entry_of, declaration_of, HasValueAt}
 use Rattle.value_links.specs.inside.Values.{meaning_at}
 use Rattle.value_links.specs.Linked.{Linked, Links}
-use Rattle.value_links.specs.Linked.Linked.{Itself, Operates, Refers, Program, ListAt, SlotAt, BaseOf, Kept}
+use Rattle.value_links.specs.Linked.Linked.{Itself, Operates, Refers, Program, ListAt, SlotAt, BaseOf, ViewsAt, Kept}
 use Rattle.value_links.specs.Links.{IsLinkOf, IsFollowed}
 use Rattle.value_links.specs.inside.Owners.{IsOwner, name_with}
 use Rattle.value_links.specs.Laws.{OneLinkedValue, OneLink}
@@ -72,6 +72,7 @@ told_once (Program program) a b e f = e ∙ sym f
 told_once (ListAt kind place) a b e f = e ∙ sym f
 told_once (SlotAt kind part slot) a b e f = e ∙ sym f
 told_once (BaseOf kind part) a b e f = e ∙ sym f
+told_once (ViewsAt list place) a b e f = e ∙ sym f
 told_once (Kept place) a b e f = e ∙ sym f
 
 -- and it is followed to one
@@ -82,6 +83,7 @@ followed_once r (Place unit target) a b e f = e ∙ sym f
 followed_once r (Lines program) a b e f = e ∙ sym f
 followed_once r (AtList kind place) a b e f = e ∙ sym f
 followed_once r (Base kind part) a b e f = e ∙ sym f
+followed_once r (Views list place) a b e f = e ∙ sym f
 followed_once r (KeptPlace place) a b e f = e ∙ sym f
 
 pub link_once : OneLink

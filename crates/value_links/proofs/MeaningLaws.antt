@@ -1,20 +1,24 @@
 -- What a value refers to means one thing, and means something where all is told of lists.
-use Rattle.std.proofs.Common.{◌≡◌, ◌<◌, ◌∙◌, inl, inr, ℕ, List, length, sym, ap, subst, refl}
+use Rattle.std.proofs.Common.{◌≡◌, ◌<◌, ◌∙◌, inl, inr, ℕ, List, [], length, sym, ap, subst, refl}
+use Rattle.std.specs.List.{Contains}
+use Rattle.std.proofs.lemmas.List.{get_or_default}
 use Rattle.form_codec.specs.Forms.{Meaning}
 use Rattle.form_codec.specs.Forms.Meaning.{Expression, InUnit, InSection, SectionPlace, LocationList, RangeList}
 use Rattle.list_model.specs.declared.entry.ListKind.{ListKind}
 use Rattle.list_model.specs.declared.entry.ListKind.TheVariants.{Ranges, Locations}
+use Rattle.loc_lists.specs.declared.views.ViewPair.{ViewPair}
 use Rattle.value_links.specs.Attributes.{OffsetClass, offset_class}
 use Rattle.value_links.specs.Attributes.OffsetClass.{LinePtr, RngList, LocList, RngListsPtr, LocListsPtr, AddrPtr, StrOffsetsPtr, MacPtr, Views, NoOffset}
-use Rattle.value_links.specs.Reading.{Linkable, Reading, of_kind, lists_of, part_at}
+use Rattle.value_links.specs.Reading.{ViewRead, Linkable, Reading, of_kind, lists_of, part_at, view_at}
 use Rattle.value_links.specs.Linked.{Linked, OffsetLinks, IndexLinks, Links, IsLinked}
-use Rattle.value_links.specs.Linked.Linked.{Itself as LinkItself, Operates as LinkOperates, Refers as LinkRefers, Program as LinkProgram, ListAt, SlotAt, BaseOf, Kept as LinkKept}
-use Rattle.value_links.specs.Lists.{AreTold}
+use Rattle.value_links.specs.Linked.Linked.{Itself as LinkItself, Operates as LinkOperates, Refers as LinkRefers, Program as LinkProgram, ListAt, SlotAt, BaseOf, ViewsAt, Kept as LinkKept}
+use Rattle.value_links.specs.Lists.{AreViewsNamed, AreTold}
 use Rattle.value_links.specs.Whole.{IsReading}
 use Rattle.value_links.specs.Resolved.{ListMeaning, MeansList, Resolved, ResolvesLink}
-use Rattle.value_links.specs.Resolved.Resolved.{Itself, Operates, Refers, Program, AList, Indexed, PartOf, Kept}
+use Rattle.value_links.specs.Resolved.Resolved.{Itself, Operates, Refers, Program, AList, Indexed, PartOf, Pairs, Kept}
 use Rattle.value_links.specs.Laws.{OneMeaning, LinkedMean}
 use Rattle.value_links.proofs.LinkedOnce.{slot_once, linked_once}
+use Rattle.value_links.proofs.ViewsOnce.{pairs_once}
 use Rattle.value_links.proofs.ListMeanings.{list_means_once, named_means}
 
 -- ONE THING
@@ -29,6 +33,7 @@ resolved_once file r read (SlotAt kind n i) v w (x, a, here, p, e) (y, b, there,
     let same : x ≡ y = slot_once r.links kind n i x y here there in
     e ∙ ap (λ (z : ListMeaning). Indexed i z) (list_means_once file r read kind y a b (subst (λ (z : ℕ). MeansList r kind z a) same p) q) ∙ sym f
 resolved_once file r read (BaseOf kind p) v w a b = a ∙ sym b
+resolved_once file r read (ViewsAt list n) v w (a, here, e) (b, there, f) = e ∙ ap (λ (z : List ViewPair). Pairs z) (pairs_once r.views read.views.rising list n a b here there) ∙ sym f
 resolved_once file r read (LinkKept n) v w a b = a ∙ sym b
 
 pub meaning_once : OneMeaning
@@ -55,7 +60,7 @@ offset_sound r u id LocListsPtr n v (p, here, e) = subst (λ (z : Linked). IsSou
 offset_sound r u id AddrPtr n v (here, e) = subst (λ (z : Linked). IsSound r z) (sym e) tt
 offset_sound r u id StrOffsetsPtr n v e = subst (λ (z : Linked). IsSound r z) (sym e) tt
 offset_sound r u id MacPtr n v e = subst (λ (z : Linked). IsSound r z) (sym e) tt
-offset_sound r u id Views n v none = absurd none
+offset_sound r u id Views n v (list, first, together, e) = subst (λ (z : Linked). IsSound r z) (sym e) tt
 offset_sound r u id NoOffset n v none = absurd none
 
 links_sound : (r : Linkable) (u id name : ℕ) (meaning : Meaning) (v : Linked) → Links r u id name meaning v → IsSound r v
@@ -66,6 +71,14 @@ links_sound r u id name (LocationList i) v links = index_sound r u Locations i v
 links_sound r u id name (RangeList i) v links = index_sound r u Ranges i v links
 links_sound r u id name (Expression bytes) v (operations, expression, e) = subst (λ (z : Linked). IsSound r z) (sym e) tt
 links_sound r u id name meaning v e = subst (λ (z : Linked). IsSound r z) (sym e) tt
+
+-- view pairs that a value names are read
+pairs_read : (file : List ℕ) (r : Reading) → IsReading file r → (list n : ℕ) → AreViewsNamed r.links list n → (pairs : List ViewPair) × Contains r.views (record { list = list; at = n; pairs = pairs })
+pairs_read file r read list n named =
+    let (k, inside, goes, stands) = read.views.all list n named in
+    let view : ViewRead = view_at r.views k in
+    let same : view ≡ record { list = list; at = n; pairs = view.pairs } = ap (λ (z : ℕ). record { list = z; at = view.at; pairs = view.pairs }) goes ∙ ap (λ (z : ℕ). record { list = list; at = z; pairs = view.pairs }) stands in
+    (view.pairs, (k, inside, sym (get_or_default r.views k (record { list = 0; at = 0; pairs = [] }) (record { list = list; at = n; pairs = view.pairs }) inside) ∙ same))
 
 resolved_of : (file : List ℕ) (r : Reading) → IsReading file r → ((kind : ListKind) → AreTold r.links kind (lists_of r kind)) → (u number : ℕ) → u < length r.links.units → (linked : Linked) → IsLinked r.links u number linked → IsSound r.links linked → (v : Resolved) × ResolvesLink r linked v
 resolved_of file r read told u number known (LinkItself meaning) here sound = (Itself meaning, refl)
@@ -80,6 +93,9 @@ resolved_of file r read told u number known (SlotAt kind p i) here (inside, coun
     let (meaning, means) = named_means file r read kind (told kind) at (inr (p, i, names)) in
     (Indexed i meaning, (at, meaning, names, means, refl))
 resolved_of file r read told u number known (BaseOf kind p) here sound = (PartOf kind p, refl)
+resolved_of file r read told u number known (ViewsAt list n) here sound =
+    let (pairs, held) = pairs_read file r read list n (u, number, known, here) in
+    (Pairs pairs, (pairs, held, refl))
 resolved_of file r read told u number known (LinkKept n) here sound = (Kept n, refl)
 
 pub links_mean : LinkedMean

@@ -24,8 +24,7 @@ use Rattle.value_links.specs.Lists.{LinkNames}
 use Rattle.value_links.specs.inside.Namings.{slot_number, AreJoined, FaultSlots, class_of, index_meaning, IsIndexIn, IsPlaceNamed}
 use Rattle.value_links.specs.declared.list_places.Contributions.{Contributions}
 use Rattle.value_links.specs.declared.parts.Parts.{Parts}
-use Rattle.value_links.specs.Parts.{HoldsParts, HoldsLists, IsBaseFound, lists_in, bases_in}
-use Rattle.value_links.proofs.HeldUnits.{held_count}
+use Rattle.value_links.specs.Parts.{HoldsLists, lists_in, bases_in}
 use Rattle.value_links.proofs.Bases.{one_base}
 use Rattle.value_links.proofs.PartPlaces.{offsets_once, slot_inside}
 use Rattle.value_links.proofs.NamingLists.{joined_push, pair_is}
@@ -100,7 +99,7 @@ offset_named r kind u id LocListsPtr n at linked (p, is, e) names = absurd (subs
 offset_named r kind u id AddrPtr n at linked (is, e) names = absurd (subst (λ (z : Linked). LinkNames r z kind at) e names)
 offset_named r kind u id StrOffsetsPtr n at linked e names = absurd (subst (λ (z : Linked). LinkNames r z kind at) e names)
 offset_named r kind u id MacPtr n at linked e names = absurd (subst (λ (z : Linked). LinkNames r z kind at) e names)
-offset_named r kind u id Views n at linked none names = absurd none
+offset_named r kind u id Views n at linked (list, is, together, e) names = absurd (subst (λ (z : Linked). LinkNames r z kind at) e names)
 offset_named r kind u id NoOffset n at linked none names = absurd none
 
 -- a section offset of lists of a kind refers to the one at its place
@@ -171,31 +170,21 @@ slot_room section p i origin tiled inside counted room =
 pub slot_joined : (section : ListSection) (p i at : ℕ) (xs ys : List (ℕ × ℕ)) → ys ≡ xs ++ (at, slot_number) ∷ [] → SlotNames section p i at → AreJoined xs ys (λ y. SlotNames section p i y.0 × (y.1 ≡ slot_number))
 slot_joined section p i at xs ys e names = joined_push xs ys (at, slot_number) (λ y. SlotNames section p i y.0 × (y.1 ≡ slot_number)) e (names, refl) (λ y (there, of). pair_is y at slot_number (slot_once section p i y.0 at there names) of)
 
--- the contribution that is held for a unit is the one that its root names
-pub base_held : (file : List ℕ) (r : Linkable) (kind : ListKind) (parts : Parts) → HoldsParts file r parts → (u : ℕ) → u < length parts.units.units.items → (bases : List (Option ℕ)) → bases ≡ bases_in parts kind → IsBaseFound r u kind (get_or bases u None)
-base_held file r kind parts holds u inside bases e =
-    let known : u < length r.units = subst (λ (z : ℕ). u < z) (held_count r.units parts.units.units.items holds.units.units) inside in
-    subst (λ (z : List (Option ℕ)). IsBaseFound r u kind (get_or z u None)) (sym e) ((holds.bases kind).each u known)
+-- what a slot names, or nothing
+abbrev pub IsSlotNamed : ListSection → ℕ → ℕ → Option ℕ → Type 0
+IsSlotNamed section p i found = MatchOption found ((at : ℕ) → ¬ SlotNames section p i at) (SlotNames section p i)
 
 module _ (r : Linkable) (kind : ListKind) (u id name i : ℕ) where
-  pub index_unbased : (base : Option ℕ) → base ≡ None → IsBaseFound r u kind base → IsPlaceNamed r kind u id name (index_meaning kind i) None
-  index_unbased base e none = index_nothing r kind u id name i (λ p at is counted names. subst (IsBaseFound r u kind) e none p is)
+  -- an index names what the slot does that it counts
+  pub index_found : (section : ListSection) → section ≡ of_kind r kind → ContributionsTile section.section section.parts → (p slot : ℕ) → IsBaseOf r u kind p → slot ≡ i → slot < (part_at section p).slots → (found : Option ℕ) → IsSlotNamed section p slot found → IsPlaceNamed r kind u id name (index_meaning kind i) found
+  index_found section same tiled p slot based one counted found is = answer found named
+    where
+      tiled_there : ContributionsTile (of_kind r kind).section (of_kind r kind).parts
+      tiled_there = subst (λ (z : ListSection). ContributionsTile z.section z.parts) same tiled
 
-  module _ (base : Option ℕ) (p : ℕ) (e : base ≡ Some p) (found : IsBaseFound r u kind base) (section : ListSection) (same : section ≡ of_kind r kind) (tiled : ContributionsTile section.section section.parts) where
-    based : IsBaseOf r u kind p
-    based = subst (IsBaseFound r u kind) e found
+      named : IsSlotNamed (of_kind r kind) p i found
+      named = subst (λ (n : ℕ). IsSlotNamed (of_kind r kind) p n found) one (subst (λ (z : ListSection). IsSlotNamed z p slot found) same is)
 
-    tiled_there : ContributionsTile (of_kind r kind).section (of_kind r kind).parts
-    tiled_there = subst (λ (z : ListSection). ContributionsTile z.section z.parts) same tiled
-
-    pub index_past : (part_at section p).slots ≤ i → IsPlaceNamed r kind u id name (index_meaning kind i) None
-    index_past past = index_nothing r kind u id name i (λ q at is counted names.
-        let one : q ≡ p = base_once r kind u q p tiled_there is based in
-        let there : i < (part_at section p).slots = subst (λ (z : ℕ). i < (part_at section z).slots) one (subst (λ (z : ListSection). i < (part_at z q).slots) (sym same) counted) in
-        absurd (omega arith))
-
-    pub index_found : (found : Option ℕ) → i < (part_at section p).slots → MatchOption found ((at : ℕ) → ¬ SlotNames section p i at) (SlotNames section p i) → IsPlaceNamed r kind u id name (index_meaning kind i) found
-    index_found (Some at) counted names = index_place r kind u id name i p at tiled_there based (subst (λ (z : ListSection). i < (part_at z p).slots) same counted) (subst (λ (z : ListSection). SlotNames z p i at) same names)
-    index_found None counted none = index_nothing r kind u id name i (λ q at is there names.
-        let one : q ≡ p = base_once r kind u q p tiled_there is based in
-        none at (subst (λ (z : ListSection). SlotNames z p i at) (sym same) (subst (λ (z : ℕ). SlotNames (of_kind r kind) z i at) one names)))
+      answer : (found : Option ℕ) → IsSlotNamed (of_kind r kind) p i found → IsPlaceNamed r kind u id name (index_meaning kind i) found
+      answer (Some at) names = index_place r kind u id name i p at tiled_there based (subst (λ (n : ℕ). n < (part_at (of_kind r kind) p).slots) one (subst (λ (z : ListSection). slot < (part_at z p).slots) same counted)) names
+      answer None none = index_nothing r kind u id name i (λ q at other counts names. none at (subst (λ (z : ℕ). SlotNames (of_kind r kind) z i at) (base_once r kind u q p tiled_there other based) names))

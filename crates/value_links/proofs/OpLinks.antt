@@ -11,7 +11,7 @@ use Rattle.entry_arena.specs.declared.entry.Target.TheVariants.{Entry as TheEntr
 use Rattle.entry_arena.specs.Arena.{IsEntryAt}
 use Rattle.entry_read.specs.Units.{HeadAndForest}
 use Rattle.value_links.specs.declared.link.Link.{Link}
-use Rattle.value_links.specs.declared.link.Link.TheVariants.{Plain, Place, Lines, List as AtList, Slot, Base, Kept}
+use Rattle.value_links.specs.declared.link.Link.TheVariants.{Plain, Place, Lines, List as AtList, Slot, Base, Views, Kept}
 use Rattle.value_links.specs.declared.operations.OpLink.{OpLink}
 use Rattle.value_links.specs.declared.operations.OpLink.TheVariants as op_link
 use Rattle.value_links.specs.declared.parts.Parts.{Parts}
@@ -89,6 +89,7 @@ module _ (file : List ℕ) (r : Linkable) (parts : Parts) (holds : HoldsParts fi
     section_other (AtList kind k) other found = absurd found
     section_other (Slot kind p i) other found = absurd found
     section_other (Base kind p) other found = absurd found
+    section_other (Views list k) other found = absurd found
     section_other (Kept k) other found = absurd found
 
 -- A BASE TYPE

@@ -3,7 +3,6 @@ use Rattle.std.proofs.Common.{◌≡◌, ◌≤◌, ◌<◌, ◌^◌, ◌∙◌,
 use Rattle.std.specs.Prelude.{Option, Some, None, IfSome, MatchOption}
 use Rattle.std.specs.List.{All}
 use Rattle.std.proofs.lemmas.List.Elements.{All-from_get_or}
-use Rattle.std.proofs.lemmas.List.{get_or_default}
 use Rattle.form_codec.specs.Forms.{Meaning}
 use Rattle.entry_read.specs.Units.{declarations_of}
 use Rattle.list_model.specs.declared.contribution.Contribution.{Contribution}
@@ -20,14 +19,15 @@ use Rattle.value_links.specs.ListPlaces.{IsListPlace, IsOffsetsAt, IsBaseOf, bas
 use Rattle.value_links.specs.Linked.{IndexLinks, OffsetLinks}
 use Rattle.value_links.specs.Linked.Linked.{ListAt, SlotAt, BaseOf}
 use Rattle.value_links.specs.Links.{IsFoundFor, held_at}
-use Rattle.value_links.specs.Parts.{section_held, IsBaseFound, HoldsParts, lists_in, bases_in}
+use Rattle.value_links.specs.Parts.{section_held, IsBaseFound, HoldsParts, HoldsLists, lists_in, bases_in}
 use Rattle.value_links.specs.inside.Checks.{table_held, root_attributes}
 use Rattle.value_links.specs.inside.Links.{base_class}
-use Rattle.value_links.specs.inside.ListPlaces.{IsPartFound, AreBasesHeld}
+use Rattle.value_links.specs.inside.ListPlaces.{AreContributions, IsPartFound, AreBasesHeld}
 use Rattle.value_links.specs.inside.Namings.{class_of}
 use Rattle.value_links.proofs.Bases.{one_base}
 use Rattle.value_links.proofs.LinkedValues.{parts_count}
-use Rattle.value_links.proofs.PartPlaces.{no_part, offsets_once, slots_few}
+use Rattle.value_links.proofs.PartPlaces.{offsets_once, slots_few}
+use Rattle.value_links.proofs.NamingPlaces.{base_inside, part_is}
 
 -- the contribution that a base names, or none
 pub part_found : (section : ListSection) (attributes : List (ℕ × Meaning)) (name base : ℕ) (found : Option ℕ) → IsFirstBase attributes name base → MatchOption found ((p : ℕ) → ¬ IsOffsetsAt section base p) (IsOffsetsAt section base) → IsPartFound section attributes name found
@@ -44,6 +44,10 @@ bases_inside section name held bases are =
     one attributes None none = tt
 
 -- WHAT VALUES REFER TO
+
+-- the slot that an index counts in the contribution that a root names, or none
+abbrev pub IsSlotFound : Linkable → ℕ → ListKind → ℕ → Option (ℕ × ℕ) → Type 0
+IsSlotFound r u kind i found = MatchOption found ((p : ℕ) → IsBaseOf r u kind p → (part_at (of_kind r kind) p).slots ≤ i) (λ (s : ℕ × ℕ). IsBaseOf r u kind s.0 × (s.1 ≡ i))
 
 -- a list can begin at a place, or none can
 offset_list : (r : Linkable) (u id : ℕ) (kind : ListKind) (place p : ℕ) → IsListPlace (of_kind r kind) p place → IsFoundFor (OffsetLinks r u id (class_of kind) place) (Some (AtList kind place))
@@ -94,12 +98,15 @@ module _ (file : List ℕ) (r : Linkable) (parts : Parts) (holds : HoldsParts fi
         let known : u < length r.units = subst (λ (z : ℕ). u < z) (parts_count file r parts holds) inside in
         subst (λ (z : List (Option ℕ)). IsBaseFound r u kind (get_or z u None)) (sym based_by) ((holds.bases kind).each u known)
 
-    -- a root without one has no slots
-    pub no_base_link : (i : ℕ) → get_or bases u None ≡ None → IsFoundFor (IndexLinks r u kind i) None
-    no_base_link i none = λ linked (p, base, counted, is). subst (IsBaseFound r u kind) none base_found p base
+    -- an index counts no slot where the root gives no base, or where it is wide
+    pub no_base_slot : (i : ℕ) → get_or bases u None ≡ None → IsSlotFound r u kind i None
+    no_base_slot i none = λ p base. absurd (subst (IsBaseFound r u kind) none base_found p base)
+
+    pub wide_index : (i : ℕ) → 2 ^ 32 ≤ i → IsSlotFound r u kind i None
+    wide_index i wide = λ p base. let few : (part_at (of_kind r kind) p).slots < 2 ^ 32 = slots_few (of_kind r kind).section (of_kind r kind).parts tiled p base.2.0 in omega arith
 
     module _ (p : ℕ) (some : get_or bases u None ≡ Some p) where
-      based : IsBaseOf r u kind p
+      pub based : IsBaseOf r u kind p
       based = subst (IsBaseFound r u kind) some base_found
 
       base_once : (q : ℕ) → IsBaseOf r u kind q → p ≡ q
@@ -107,31 +114,25 @@ module _ (file : List ℕ) (r : Linkable) (parts : Parts) (holds : HoldsParts fi
           let one : m ≡ based.0 = one_base (root_of (unit_at r u)).attributes (base_of kind) m based.0 is based.1 in
           offsets_once (of_kind r kind).section (of_kind r kind).parts tiled based.0 p q based.2 (subst (λ (z : ℕ). IsOffsetsAt (of_kind r kind) z q) one there)
 
-      -- an index past the slots has none
-      past_slots : (i : ℕ) → (part_at (of_kind r kind) p).slots ≤ i → IsFoundFor (IndexLinks r u kind i) None
-      past_slots i past = λ linked (q, base, counted, is).
-          let one : p ≡ q = base_once q base in
-          let less : i < (part_at (of_kind r kind) p).slots = subst (λ (z : ℕ). i < (part_at (of_kind r kind) z).slots) (sym one) counted in
-          absurd (omega arith)
+      -- nor does one past the slots
+      pub past_slots : (i slot : ℕ) → slot ≡ i → (part_at (section_held held) p).slots ≤ slot → IsSlotFound r u kind i None
+      past_slots i slot one past = λ q base.
+          let there : (part_at (of_kind r kind) p).slots ≤ slot = subst (λ (z : ListSection). (part_at z p).slots ≤ slot) section_same past in
+          subst (λ (z : ℕ). (part_at (of_kind r kind) z).slots ≤ i) (base_once q base) (subst (λ (z : ℕ). (part_at (of_kind r kind) p).slots ≤ z) one there)
 
-      pub wide_index : (i : ℕ) → 2 ^ 32 ≤ i → IsFoundFor (IndexLinks r u kind i) None
-      wide_index i wide =
-          let few : (part_at (of_kind r kind) p).slots < 2 ^ 32 = slots_few (of_kind r kind).section (of_kind r kind).parts tiled p based.2.0 in
-          past_slots i (omega arith)
+  -- the slot that is found is what an index refers to
+  pub slot_link : (u i p slot : ℕ) → IsBaseOf r u kind p → slot ≡ i → slot < (part_at (section_held held) p).slots → IsFoundFor (IndexLinks r u kind i) (Some (Slot kind p slot))
+  slot_link u i p slot based one less =
+      let there : slot < (part_at (of_kind r kind) p).slots = subst (λ (z : ListSection). slot < (part_at z p).slots) section_same less in
+      (SlotAt kind p i, (p, based, subst (λ (z : ℕ). z < (part_at (of_kind r kind) p).slots) one there, refl), ap (λ (z : ℕ). Slot kind p z) one)
 
-      -- the contribution, as it is looked up
-      module _ (part : Contribution) (at : part ≡ get_or held.parts.items p part) where
-        part_is : part ≡ part_at (of_kind r kind) p
-        part_is =
-            let here : p < length held.parts.items = subst (λ (z : List Contribution). p < length z) parts_are based.2.0 in
-            at ∙ (get_or_default held.parts.items p part no_part here ∙ ap (λ (z : List Contribution). get_or z p no_part) (sym parts_are))
+-- contributions are held where lists are
+pub contributions_held : (parts : Parts) (kind : ListKind) → HoldsLists parts → AreContributions (lists_in parts kind)
+contributions_held parts kind lists = record { tiled = lists.tiled kind; few = lists.few kind }
 
-        pub slot_link : (i slot : ℕ) → slot ≡ i → slot < part.slots → IsFoundFor (IndexLinks r u kind i) (Some (Slot kind p slot))
-        slot_link i slot one less =
-            let counted : i < (part_at (of_kind r kind) p).slots = subst (λ (z : ℕ). z < (part_at (of_kind r kind) p).slots) one (subst (λ (z : Contribution). slot < z.slots) part_is less) in
-            (SlotAt kind p i, (p, based, counted, refl), ap (λ (z : ℕ). Slot kind p z) one)
-
-        pub no_slot_link : (i slot : ℕ) → slot ≡ i → part.slots ≤ slot → IsFoundFor (IndexLinks r u kind i) None
-        no_slot_link i slot one past =
-            let there : (part_at (of_kind r kind) p).slots ≤ slot = subst (λ (z : Contribution). z.slots ≤ slot) part_is past in
-            past_slots i (omega arith)
+-- the contribution that a unit names is looked up, by the bases that are held
+pub part_held : (parts : Parts) (kind : ListKind) → HoldsLists parts → (u p : ℕ) (bases : List (Option ℕ)) → bases ≡ bases_in parts kind → u < length parts.units.units.items → get_or bases u None ≡ Some p → (held : Contributions) → held ≡ lists_in parts kind → (part : Contribution) → part ≡ get_or held.parts.items p part → (part ≡ part_at (section_held (lists_in parts kind)) p) × (p < length (lists_in parts kind).parts.items)
+part_held parts kind lists u p bases e inside some held same part at =
+    let known : p < length (lists_in parts kind).parts.items = base_inside parts kind lists u p bases (lists_in parts kind) e refl inside some in
+    let there : part ≡ get_or (lists_in parts kind).parts.items p part = subst (λ (z : Contributions). part ≡ get_or z.parts.items p part) same at in
+    (part_is (lists_in parts kind).parts.items p part known there, known)

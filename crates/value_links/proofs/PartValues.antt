@@ -18,7 +18,7 @@ use Rattle.value_links.specs.declared.parts.Parts.{Parts}
 use Rattle.value_links.specs.Sections.{debug_info, debug_abbrev}
 use Rattle.value_links.specs.Reading.{Linkable, unit_at, declarations}
 use Rattle.value_links.specs.Whole.{AreFirstBases}
-use Rattle.value_links.specs.Values.{entry_of, declaration_of, HasValueAt}
+use Rattle.value_links.specs.Values.{entry_of, declaration_of, described_at, HasValueAt}
 use Rattle.value_links.specs.World.{head_and_forest}
 use Rattle.value_links.specs.Linked.{Linked, Links, IsFirstLow, HasAddress}
 use Rattle.value_links.specs.Linked.Linked.{Operates}
@@ -26,7 +26,7 @@ use Rattle.value_links.specs.LinkFaults.{FaultValue, FaultAttribute, FaultType}
 use Rattle.value_links.specs.Links.{held_at}
 use Rattle.value_links.specs.Laws.{AreLinked}
 use Rattle.value_links.specs.Parts.{HoldsParts}
-use Rattle.value_links.specs.inside.Checks.{table_held, root_attributes, IsCause, IsTyped, IsChecked, IsNoExpr, IsExprLinked, IsColumnLinked, AreColumnsLinked, AreEntriesLinked, IsUnitLinked}
+use Rattle.value_links.specs.inside.Checks.{table_held, attributes_at, root_attributes, IsCause, IsTyped, IsChecked, IsNoExpr, IsExprLinked, IsColumnLinked, AreColumnsLinked, AreEntriesLinked, IsUnitLinked}
 use Rattle.value_links.proofs.HeldUnits.{unit_owners}
 use Rattle.value_links.proofs.LinkedValues.{parts_count, part_is}
 use Rattle.value_links.proofs.TabledUnits.{table_is}
@@ -43,6 +43,12 @@ module _ (file : List ℕ) (r : Linkable) (parts : Parts) (holds : HoldsParts fi
 
     pub table_same : table_held parts.units u ≡ (unit_at r u).table
     table_same = table_is r.units parts.units u holds.units known_unit
+
+    -- the attributes of an entry, as they are held
+    pub attributes_held : (id : ℕ) (unit : HeadAndForest) (table : Listing) → unit ≡ held_at parts.units.units.items u → table ≡ table_held parts.units u → attributes_at unit.forest (declarations_of table) id ≡ (described_at (unit_at r u) id).attributes
+    attributes_held id unit table e t =
+        ap (λ (z : HeadAndForest). attributes_at z.forest (declarations_of table) id) (e ∙ unit_same)
+        ∙ ap (λ (z : Listing). attributes_at (unit_at r u).forest (declarations_of z) id) (t ∙ table_same)
 
     pub owned : HaveOwners (declarations (unit_at r u)) (unit_at r u).forest
     owned = unit_owners (debug_info file) (debug_abbrev file) r.units holds.read.units u known_unit

@@ -34,10 +34,10 @@ use Rattle.companions.specs.Aranges.{AreRising, SetsTile}
 use Rattle.companions.proofs.Tiling.{one_tile as one_set_tile}
 use Rattle.value_links.specs.Sections.{debug_info, debug_abbrev, debug_line, debug_aranges, debug_lists}
 use Rattle.value_links.specs.Attributes.{addr_base}
-use Rattle.value_links.specs.Reading.{ProgramRead, UnitRead, ListSection, ListRead, Linkable, lists_of, line_heads, unit_heads, unit_starts, no_unit, HasRows, declarations, IsUnitRead}
+use Rattle.value_links.specs.Reading.{ProgramRead, UnitRead, ListSection, ListRead, ViewRead, Linkable, lists_of, line_heads, unit_heads, unit_starts, no_unit, HasRows, declarations, IsUnitRead}
 use Rattle.value_links.specs.Values.{root_of}
 use Rattle.value_links.specs.Contexts.{low_pcs, first_base, IsTableOf, IsContext}
-use Rattle.value_links.specs.Lists.{AreListsOf}
+use Rattle.value_links.specs.Lists.{AreListsOf, AreViewsRead}
 use Rattle.value_links.specs.Whole.{AreContexts}
 use Rattle.value_links.specs.Laws.{OneLinkable, OneReading}
 use Rattle.abbrev_tables.proofs.ListingOnce.{listing_once}
@@ -45,6 +45,7 @@ use Rattle.entry_read.proofs.Chained.{stand_apart, has_bytes}
 use Rattle.value_links.proofs.Tiles.{units_chained}
 use Rattle.value_links.proofs.Bases.{one_base}
 use Rattle.value_links.proofs.ListsOnce.{section_once, lists_once}
+use Rattle.value_links.proofs.ViewsOnce.{views_once}
 
 -- LISTS
 
@@ -167,10 +168,13 @@ reading_once file r s p q =
     let lists : (kind : ListKind) → lists_of r kind ≡ lists_of s kind = λ (kind : ListKind). lists_once file s.links q.links kind (lists_of r kind) (lists_of s kind) (subst (λ (z : Linkable). AreListsOf z kind (lists_of r kind)) links (p.lists kind)) (q.lists kind) in
     let ranges : r.range_lists ≡ s.range_lists = lists Ranges in
     let locations : r.location_lists ≡ s.location_lists = lists Locations in
+    let seen : AreViewsRead s.links s.location_lists r.views = subst (λ (z : List ListRead). AreViewsRead s.links z r.views) locations (subst (λ (z : Linkable). AreViewsRead z r.location_lists r.views) links p.views) in
+    let views : r.views ≡ s.views = views_once s.links s.location_lists (q.lists Locations).rising r.views s.views seen q.views in
     let rising : AreRising (unit_starts s.links.units) = starts_rise (debug_info file) s.links.units q.links.units.tiled in
     let moved : SetsTile (debug_aranges file) (unit_starts s.links.units) r.sets = subst (λ (z : Linkable). SetsTile (debug_aranges file) (unit_starts z.units) r.sets) links p.sets in
     let sets : r.sets ≡ s.sets = one_set_tile (debug_aranges file) (unit_starts s.links.units) r.sets s.sets 0 rising moved q.sets in
-    ap (λ (z : Linkable). record { links = z; range_lists = r.range_lists; location_lists = r.location_lists; sets = r.sets }) links
-    ∙ ap (λ (z : List ListRead). record { links = s.links; range_lists = z; location_lists = r.location_lists; sets = r.sets }) ranges
-    ∙ ap (λ (z : List ListRead). record { links = s.links; range_lists = s.range_lists; location_lists = z; sets = r.sets }) locations
-    ∙ ap (λ (z : List ArangeSet). record { links = s.links; range_lists = s.range_lists; location_lists = s.location_lists; sets = z }) sets
+    ap (λ (z : Linkable). record { links = z; range_lists = r.range_lists; location_lists = r.location_lists; views = r.views; sets = r.sets }) links
+    ∙ ap (λ (z : List ListRead). record { links = s.links; range_lists = z; location_lists = r.location_lists; views = r.views; sets = r.sets }) ranges
+    ∙ ap (λ (z : List ListRead). record { links = s.links; range_lists = s.range_lists; location_lists = z; views = r.views; sets = r.sets }) locations
+    ∙ ap (λ (z : List ViewRead). record { links = s.links; range_lists = s.range_lists; location_lists = s.location_lists; views = z; sets = r.sets }) views
+    ∙ ap (λ (z : List ArangeSet). record { links = s.links; range_lists = s.range_lists; location_lists = s.location_lists; views = s.views; sets = z }) sets

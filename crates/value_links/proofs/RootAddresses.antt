@@ -1,7 +1,7 @@
 -- The first bases that roots give, by what is held.
-use Rattle.std.proofs.Common.{◌≡◌, ◌≤◌, ◌<◌, ◌+◌, ◌++◌, ◌∙◌, Bool, true, false, true≢false, take, drop, ℕ, List, [], ◌∷◌, length, get_or, sym, ap, subst, refl, arith}
+use Rattle.std.proofs.Common.{◌≡◌, ◌≤◌, ◌<◌, ◌+◌, ◌∙◌, Bool, true, false, true≢false, take, drop, ℕ, List, [], ◌∷◌, length, get_or, sym, ap, subst, refl, arith}
 use Rattle.std.specs.Prelude.{Option, Some, None, filter}
-use Rattle.std.proofs.lemmas.List.{get_or_default, take-append-drop, length-take-le}
+use Rattle.std.proofs.lemmas.List.{get_or_default, length-take-le}
 use Rattle.std.proofs.lemmas.Slice.Zip.{AllZip-long}
 use Rattle.std.proofs.lemmas.Bool.{eqb-true}
 use Rattle.dw_base.specs.declared.fault.Kind.{Kind}
@@ -34,8 +34,9 @@ use Rattle.value_links.proofs.Bases.{one_base}
 use Rattle.value_links.proofs.ContextLaws.{zip_at}
 use Rattle.value_links.proofs.EntryValues.{stands_at}
 use Rattle.value_links.proofs.TabledUnits.{has_root}
-use Rattle.value_links.proofs.RootValues.{column_inside, attribute_is, no_first_low, first_low_is}
-use Rattle.value_links.proofs.PartValues.{known_unit, unit_same, table_same, owned}
+use Rattle.value_links.proofs.Passing.{split_at, none_among}
+use Rattle.value_links.proofs.RootValues.{column_inside, attribute_is, first_low_is}
+use Rattle.value_links.proofs.PartValues.{known_unit, unit_same, table_same, attributes_held, owned}
 
 -- NUMBERS OF ADDRESSES
 
@@ -106,16 +107,14 @@ module _ (file : List ℕ) (r : Linkable) (parts : Parts) (holds : HoldsParts fi
     table_here = t ∙ table_same file r parts holds u inside
 
     attributes_here : root_attributes unit.forest (declarations_of table) ≡ (root_of (unit_at r u)).attributes
-    attributes_here =
-        ap (λ (z : HeadAndForest). root_attributes z.forest (declarations_of table)) unit_here
-        ∙ ap (λ (z : Listing). root_attributes (unit_at r u).forest (declarations_of z)) table_here
+    attributes_here = attributes_held file r parts holds u inside 0 unit table e t
 
     pub cause_here : (i : ℕ) (kind : Kind) → (HasAddress r u i → ⊥) → IsBaseCause (root_attributes unit.forest (declarations_of table)) addr_base kind → FaultNumber r u i kind
     cause_here i kind none is = number_cause r u i kind none (subst (λ (z : List (ℕ × Meaning)). IsBaseCause z addr_base kind) attributes_here is)
 
     -- there is none
     pub no_first : filter is_low_pc (root_attributes unit.forest (declarations_of table)) ≡ [] → (i place : ℕ) → IsFirstLow r u i place → ⊥
-    no_first none i place low = no_first_low (root_of (unit_at r u)).attributes low.before (low_pc, AddressNumber i) low.after (ap (filter is_low_pc) (sym attributes_here) ∙ none) low.parts refl
+    no_first none i place low = none_among is_low_pc (root_of (unit_at r u)).attributes low.before (low_pc, AddressNumber i) low.after (ap (filter is_low_pc) (sym attributes_here) ∙ none) low.parts refl
 
     module _ (k : ℕ) (first : IsFirstLowIn (root_attributes unit.forest (declarations_of table)) k) (name : ℕ) (v : Value) (at : IsAttributeAt (root_attributes unit.forest (declarations_of table)) k (name, meant_in unit.forest.section v)) where
       first_here : IsFirstLowIn (root_of (unit_at r u)).attributes k
@@ -151,11 +150,11 @@ module _ (file : List ℕ) (r : Linkable) (parts : Parts) (holds : HoldsParts fi
             let k_in : k < length attributes = subst (λ (z : List (ℕ × Meaning)). k < length z) attributes_here less in
             let tabled : IsUnitWithTable own read.table = subst (IsUnitWithTable own) table_here (subst (λ (z : HeadAndForest). IsUnitWithTable z table) (unit_same file r parts holds u inside) with_table) in
             let belong = owned file r parts holds u inside in
-            let counted : k < (entry_of read 0).count = column_inside own read.table tabled (entry_of read 0) refl k k_in in
+            let counted : k < (entry_of read 0).count = column_inside own read.table tabled 0 (has_root own read.table tabled) k k_in in
             let by_unit : StandsAtColumn read.forest.section (declarations_of table) read.forest.values (entry_of read 0) k place = subst (λ (z : HeadAndForest). StandsAtColumn z.forest.section (declarations_of table) z.forest.values (entry_at z.forest.entries 0) k place) unit_here stands in
             let by_table : StandsAtColumn read.forest.section (declarations_of read.table) read.forest.values (entry_of read 0) k place = subst (λ (z : Listing). StandsAtColumn read.forest.section (declarations_of z) read.forest.values (entry_of read 0) k place) table_here by_unit in
             let column = stands_at read belong 0 (has_root own read.table tabled) k place counted by_table in
-            let is_it = attribute_is own read.table tabled (entry_of read 0) refl k k_in b there in
+            let is_it = attribute_is own read.table tabled 0 (has_root own read.table tabled) k counted b there in
             let number : (entry_of read 0).first + k ≡ k = omega (arith, belong.first) in
             let meaning = meant_in read.forest.section (value_at read.forest.values ((entry_of read 0).first + k)) in
             let by_number : HasValueAt read 0 k (spec_at (declaration_of read 0).columns k).name meaning place = subst (λ (z : ℕ). HasValueAt read 0 z (spec_at (declaration_of read 0).columns k).name meaning place) number column in
@@ -165,7 +164,7 @@ module _ (file : List ℕ) (r : Linkable) (parts : Parts) (holds : HoldsParts fi
               number = k;
               before = take k attributes;
               after = drop (k + 1) attributes;
-              parts = sym (take-append-drop k attributes) ∙ ap (λ (z : List (ℕ × Meaning)). take k attributes ++ z) there;
+              parts = split_at attributes k b there;
               first = first_here.first;
               counted = sym (length-take-le k attributes most);
               stands = subst (λ (z : Meaning). HasValueAt read 0 k low_pc z place) (ap (λ (z : ℕ × Meaning). z.1) (sym is_it)) by_name;

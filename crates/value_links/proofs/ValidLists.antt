@@ -31,17 +31,18 @@ use Rattle.value_links.specs.Attributes.OffsetClass.{LinePtr, RngList, LocList, 
 use Rattle.value_links.specs.Reading.{ListRead, Linkable, Reading, unit_at, of_kind, lists_of, part_at, list_at, context_at}
 use Rattle.value_links.specs.ListPlaces.{IsListPlace, IsSlot, SlotNames}
 use Rattle.value_links.specs.Linked.{Linked, OffsetLinks, Links}
-use Rattle.value_links.specs.Linked.Linked.{Itself, Operates, Refers, Program, ListAt, SlotAt, BaseOf, Kept}
+use Rattle.value_links.specs.Linked.Linked.{Itself, Operates, Refers, Program, ListAt, SlotAt, BaseOf, ViewsAt, Kept}
 use Rattle.value_links.specs.Operations.{OpTarget, LinkedOperation, IsSomeExpression, NamesUnitEntry, NamesType, LinksReference, Names, LinksOperation, LinksExpression}
 use Rattle.value_links.specs.Lists.{IsNamedIn, IsListOf, IsListIn, IsUnowned, IsOfTwoUnits, CountsInUnit, HasUnitOffset, AreExpressionsRead, owner_unit, expressions_at}
 use Rattle.value_links.specs.Whole.{IsReading}
 use Rattle.list_model.specs.Items.{FaultIndexes}
-use Rattle.value_links.specs.ListFaults.{IsSlotAstray, IsNamedAt, AreBefore, FaultBytes, FaultEntries, FaultLooking, IsAstrayIn, FaultListOperations, FaultListExpression, IsTornApart, FaultExpressionsOf, BeginsWith, list_total, expression_bytes, expression_limit, PassesTotal, FaultByRule, FaultOfKind, FaultOfUses}
+use Rattle.value_links.specs.ListFaults.{IsSlotAstray, IsNamedAt, AreBefore, FaultBytes, FaultEntries, FaultLooking, IsAstrayIn, FaultListOperations, FaultListExpression, IsTornApart, FaultExpressionsOf, BeginsWith, list_total, expression_bytes, expression_limit, PassesTotal, FaultByRule, FaultOfKind, FaultOfViews, FaultOfUses}
 use Rattle.value_links.specs.Faults.{FaultOfLists}
 use Rattle.value_links.specs.Laws.{AreListsWithin}
 use Rattle.value_links.proofs.Tiles.{tiled_of}
 use Rattle.value_links.proofs.ListsOnce.{place_once, list_same}
 use Rattle.value_links.proofs.ReadingOnce.{linkable_once}
+use Rattle.value_links.proofs.ValidViews.{views_faultless}
 use Rattle.value_links.proofs.LinkedOnce.{unit_known}
 use Rattle.value_links.proofs.ListMeanings.{owner_once}
 use Rattle.value_links.proofs.ExpressionLaws.{linked_operations_faultless}
@@ -78,7 +79,7 @@ offset_slot r u id LocListsPtr n linked (p, here, e) is = no_slot linked (BaseOf
 offset_slot r u id AddrPtr n linked (here, e) is = no_slot linked (Kept n) e is refl
 offset_slot r u id StrOffsetsPtr n linked e is = no_slot linked (Kept n) e is refl
 offset_slot r u id MacPtr n linked e is = no_slot linked (Kept n) e is refl
-offset_slot r u id Views n linked none is = none
+offset_slot r u id Views n linked (list, first, together, e) is = no_slot linked (ViewsAt list n) e is refl
 offset_slot r u id NoOffset n linked none is = none
 
 pub slot_linked : (r : Linkable) (u id name : ℕ) (meaning : Meaning) (kind : ListKind) (p i : ℕ) → Links r u id name meaning (SlotAt kind p i) → IsSlotOf r kind p i
@@ -275,6 +276,9 @@ pub lists_whole : (file : List ℕ) (reach : Reach) (r : Reading) → IsReading 
 lists_whole file reach r read few kind place (inl (of, (inner, here, (other, to_links, f)))) =
     let same : other ≡ r.links = linkable_once file other r.links to_links read.links in
     section_faultless file reach r read few of kind inner (subst (λ (z : Linkable). FaultOfKind z reach of kind inner) same f)
-lists_whole file reach r read few kind place (inr (inner, here, (other, to_links, f))) =
+lists_whole file reach r read few kind place (inr (inl (inner, here, (other, to_links, f)))) =
+    let same : other ≡ r.links = linkable_once file other r.links to_links read.links in
+    views_faultless file r read few.views kind inner (subst (λ (z : Linkable). FaultOfViews z kind inner) same f)
+lists_whole file reach r read few kind place (inr (inr (inner, here, (other, to_links, f)))) =
     let same : other ≡ r.links = linkable_once file other r.links to_links read.links in
     uses_faultless file reach r read few kind inner (subst (λ (z : Linkable). FaultOfUses z kind inner) same f)

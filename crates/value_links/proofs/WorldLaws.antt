@@ -36,30 +36,32 @@ use Rattle.list_model.specs.declared.entry.ListKind.TheVariants.{Ranges, Locatio
 use Rattle.list_model.specs.Addresses.{AreAllTables}
 use Rattle.list_model.specs.Faults.{FaultContributions}
 use Rattle.list_model.specs.Faults.{FaultTables as FaultTablesOf}
+use Rattle.loc_lists.specs.Views.{view_limit}
 use Rattle.companions.specs.declared.set.ArangeSet.{ArangeSet}
 use Rattle.companions.specs.Aranges.{AreRising, SetsTile}
 use Rattle.companions.specs.Faults.{FaultSets}
 use Rattle.value_links.specs.declared.lists.ListRead.{ListRead as HeldList}
+use Rattle.value_links.specs.declared.views.ViewRead.{ViewRead as HeldViews}
 use Rattle.value_links.specs.declared.list_places.Contributions.{Contributions}
 use Rattle.value_links.specs.declared.parts.Parts.{Parts}
 use Rattle.value_links.specs.declared.units.Units.{Units}
-use Rattle.value_links.specs.Sections.{section_named, body_or_none, body_named, offset_named, debug_info, debug_abbrev, debug_line, debug_aranges, debug_addr, debug_lists, info_name, abbrev_name, line_name, aranges_name, addr_name, lists_name}
-use Rattle.value_links.specs.Reading.{ProgramRead, UnitRead, ListSection, Linkable, Reading, of_kind, lists_of, line_heads, HasRows, AreProgramsIn, unit_at, unit_heads, unit_starts}
+use Rattle.value_links.specs.Sections.{section_named, body_or_none, body_named, offset_named, debug_info, debug_abbrev, debug_line, debug_aranges, debug_addr, debug_lists, info_name, abbrev_name, line_name, aranges_name, addr_name, loclists_name, lists_name}
+use Rattle.value_links.specs.Reading.{ProgramRead, UnitRead, ListSection, ListRead, ViewRead, Linkable, Reading, of_kind, lists_of, line_heads, HasRows, AreProgramsIn, unit_at, unit_heads, unit_starts}
 use Rattle.value_links.specs.ListPlaces.{base_of}
 use Rattle.value_links.specs.Whole.{ArePartsOf, IsReadToLinks, HasAddrBase, AreAddressesRead, AreFirstBases, IsReading}
-use Rattle.value_links.specs.Lists.{AreListsOf, AreTold, AreWithinReach}
+use Rattle.value_links.specs.Lists.{AreListsOf, AreViewsRead, pair_total, AreTold, AreWithinReach}
 use Rattle.value_links.specs.Operations.{IsSomeExpression}
 use Rattle.value_links.specs.LinkFaults.{FaultExprOf}
-use Rattle.value_links.specs.ListFaults.{FaultOfKind}
+use Rattle.value_links.specs.ListFaults.{FaultOfKind, FaultOfViews}
 use Rattle.value_links.specs.Debug.{Debug, MeansDebug}
 use Rattle.value_links.specs.Faults.{FaultOfNames, FaultOfUnits, NamesFault}
-use Rattle.value_links.specs.Laws.{HaveFewRows, AreBuilt, AreLinked, IsImageInOrder, AreProgramsInOrder, AreUnitsInOrder}
+use Rattle.value_links.specs.Laws.{HaveFewRows, AreBuilt, AreLinked, IsImageInOrder, AreProgramsInOrder, AreUnitsInOrder, AreLinksInOrder}
 use Rattle.value_links.specs.Parts.{HoldUnits, AreUnitsHeld, section_held, HaveBases, lists_in, bases_in, HoldsParts, LinkFault, IsUnitsFault}
 use Rattle.value_links.specs.inside.Checks.{AreContextsHeld, IsSomeExpressionFault}
 use Rattle.value_links.specs.inside.Passes.{starts_of, ArePartsRead, ArePartsInOrder, HoldAllLists, NamesLaterFault}
 use Rattle.value_links.specs.inside.ListPlaces.{AreContributions, AreBasesHeld}
 use Rattle.value_links.specs.inside.World.{IsHeldIn}
-use Rattle.value_links.specs.World.{World, head_and_forest, contributions_held, lists_held, HaveOperations, HoldLists, IsWorldOf}
+use Rattle.value_links.specs.World.{World, head_and_forest, contributions_held, lists_held, HaveOperations, HoldLists, HoldViews, IsWorldOf}
 use Rattle.value_links.proofs.SectionLaws.{sections_are_found}
 use Rattle.value_links.proofs.Tiles.{programs_chained}
 use Rattle.value_links.proofs.ReadingOnce.{starts_rise}
@@ -351,9 +353,13 @@ module _ (file : List ℕ) (parts : Parts) (read : ArePartsRead file parts) wher
 
 -- SETS OF ADDRESS RANGES
 
+-- the view pairs that values name are held, and keep the limit
+abbrev pub ViewsHeld : Linkable → List ListRead → List HeldViews → Type 0
+ViewsHeld r read held = (runs : List ViewRead) × AreViewsRead r read runs × HoldViews runs held × (pair_total runs ≤ view_limit)
+
 -- a world by its parts
-abbrev pub world_by : List ℕ → Parts → List HeldList → List HeldList → List ArangeSet → World
-world_by image parts ranges locations sets = record { image = image; programs = parts.programs.items; units = parts.units.units.items; operations = parts.operations.items; tables = parts.units.tables.items; table_of = parts.units.table_of.items; contexts = parts.contexts.items; range_parts = parts.ranges.parts.items; ranges = ranges; location_parts = parts.locations.parts.items; locations = locations; sets = sets }
+abbrev pub world_by : List ℕ → Parts → List HeldList → List HeldList → List HeldViews → List ArangeSet → World
+world_by image parts ranges locations views sets = record { image = image; programs = parts.programs.items; units = parts.units.units.items; operations = parts.operations.items; tables = parts.units.tables.items; table_of = parts.units.table_of.items; contexts = parts.contexts.items; range_parts = parts.ranges.parts.items; ranges = ranges; location_parts = parts.locations.parts.items; locations = locations; views = views; sets = sets }
 
 starts_held : (units : List UnitRead) → starts_of (map head_and_forest units) ≡ unit_starts units
 starts_held [] = refl
@@ -395,23 +401,33 @@ module _ (file : List ℕ) (parts : Parts) (order : ArePartsInOrder file parts) 
     tiled_there : SetsTile (debug_aranges file) (unit_starts order.r.units) sets
     tiled_there = subst (λ (z : List ℕ). SetsTile (debug_aranges file) z sets) starts_are tiled
 
+    links_in_order : (reach : Reach) → HaveOperations reach parts.units.units.items parts.operations.items → IsImageInOrder file reach → AreLinksInOrder file reach order.r
+    links_in_order reach operations image = record { before = in_order reach image; read = order.holds.read; linked = order.linked; within = expressions_within file order.r parts order.holds reach operations; roots = order.roots; sets = (sets, tiled_there) }
+
     pub named_refused : (reach : Reach) (kind : ListKind) (refusal : Refusal) → HaveOperations reach parts.units.units.items parts.operations.items → ((r : Linkable) → HoldsParts file r parts → IsRefusedFor (IsFaultOf (FaultOfKind r reach kind) (offset_named file (lists_name kind))) refusal) → NamesLaterFault file reach refusal
     named_refused reach kind (Refused fault) operations refused image =
         let (inner, here, f) = refused order.r order.holds in
-        first_faults.lists file reach order.r fault.kind fault.place (record { before = in_order reach image; read = order.holds.read; linked = order.linked; within = expressions_within file order.r parts order.holds reach operations; roots = order.roots; sets = (sets, tiled_there) }) (inl (kind, (inner, here, (order.r, order.holds.read, f))))
+        first_faults.lists file reach order.r fault.kind fault.place (links_in_order reach operations image) (inl (kind, (inner, here, (order.r, order.holds.read, f))))
     named_refused reach kind NoMemory operations refused image = tt
+
+    pub views_refused : (reach : Reach) (refusal : Refusal) → HaveOperations reach parts.units.units.items parts.operations.items → IsRefusedFor (IsFaultOf (FaultOfViews order.r) (offset_named file loclists_name)) refusal → NamesLaterFault file reach refusal
+    views_refused reach (Refused fault) operations (inner, here, f) image = first_faults.lists file reach order.r fault.kind fault.place (links_in_order reach operations image) (inr (inl (inner, here, (order.r, order.holds.read, f))))
+    views_refused reach NoMemory operations refused image = tt
 
     -- THE FILE
 
-    module _ (reach : Reach) (image : IsImageInOrder file reach) (operations : HaveOperations reach parts.units.units.items parts.operations.items) (ranges locations : List HeldList) (lists : (r : Linkable) → HoldsParts file r parts → HoldAllLists r reach ranges locations) where
+    module _ (reach : Reach) (image : IsImageInOrder file reach) (operations : HaveOperations reach parts.units.units.items parts.operations.items) (ranges locations : List HeldList) (lists : (r : Linkable) → HoldsParts file r parts → HoldAllLists r reach ranges locations) (views : List HeldViews) (runs : (r : Linkable) (read : List ListRead) → HoldsParts file r parts → AreListsOf r Locations read → HoldLists r Locations read locations → ViewsHeld r read views) where
       named : HoldAllLists order.r reach ranges locations
       named = lists order.r order.holds
 
+      seen : ViewsHeld order.r named.location_lists views
+      seen = runs order.r named.location_lists order.holds named.are_locations named.hold_locations
+
       abbrev reading : Reading
-      reading = record { links = order.r; range_lists = named.range_lists; location_lists = named.location_lists; sets = sets }
+      reading = record { links = order.r; range_lists = named.range_lists; location_lists = named.location_lists; views = seen.0; sets = sets }
 
       whole : IsReading file reading
-      whole = record { links = order.holds.read; roots = order.roots; lists = each_kind (λ kind. AreListsOf order.r kind (lists_of reading kind)) named.are_ranges named.are_locations; sets = tiled_there }
+      whole = record { links = order.holds.read; roots = order.roots; lists = each_kind (λ kind. AreListsOf order.r kind (lists_of reading kind)) named.are_ranges named.are_locations; views = seen.1; sets = tiled_there }
 
       told : (kind : ListKind) → AreTold order.r kind (lists_of reading kind)
       told = each_kind (λ kind. AreTold order.r kind (lists_of reading kind)) (lists_told order.r Ranges named.range_lists ranges named.hold_ranges) (lists_told order.r Locations named.location_lists locations named.hold_locations)
@@ -424,7 +440,7 @@ module _ (file : List ℕ) (parts : Parts) (order : ArePartsInOrder file parts) 
       meaning = linked_means file reading whole told order.linked
 
       abbrev world : World
-      world = world_by file parts ranges locations sets
+      world = world_by file parts ranges locations views sets
 
       abbrev world_of : IsWorldOf file reach world
       world_of = record {
@@ -440,18 +456,20 @@ module _ (file : List ℕ) (parts : Parts) (order : ArePartsInOrder file parts) 
           sections = λ kind. (order.holds.read.lists kind).bytes_are;
           contributions = each_kind (λ kind. contributions_held world kind ≡ (of_kind order.r kind).parts) (ap (λ (z : ListSection). z.parts) (order.holds.lists Ranges)) (ap (λ (z : ListSection). z.parts) (order.holds.lists Locations));
           lists = each_kind (λ kind. HoldLists order.r kind (lists_of reading kind) (lists_held world kind)) named.hold_ranges named.hold_locations;
+          views = seen.2;
           sets = refl;
         };
         operations = operations;
         within = within;
+        few_views = seen.3;
         debug = meaning.0;
         means = meaning.1;
-        valid = valid_meaning file reach reading meaning.0 (in_order reach image) whole meaning.1 (expressions_within file order.r parts order.holds reach operations) (record { entries = named.entries; bytes = named.bytes; expressions = within });
+        valid = valid_meaning file reach reading meaning.0 (in_order reach image) whole meaning.1 (expressions_within file order.r parts order.holds reach operations) (record { entries = named.entries; bytes = named.bytes; expressions = within; views = seen.3 });
       }
 
       -- likewise where the image that was read is the file
-      pub world_read : (bytes : List ℕ) → bytes ≡ file → IsWorldOf file reach (world_by bytes parts ranges locations sets)
-      world_read bytes same = subst (λ (z : List ℕ). IsWorldOf file reach (world_by z parts ranges locations sets)) (sym same) world_of
+      pub world_read : (bytes : List ℕ) → bytes ≡ file → IsWorldOf file reach (world_by bytes parts ranges locations views sets)
+      world_read bytes same = subst (λ (z : List ℕ). IsWorldOf file reach (world_by z parts ranges locations views sets)) (sym same) world_of
 
-      pub world_held : (bytes : List ℕ) → bytes ≡ file → IsHeldIn bytes parts (world_by bytes parts ranges locations sets)
-      world_held bytes same = subst (λ (z : List ℕ). IsHeldIn z parts (world_by z parts ranges locations sets)) (sym same) (record { reach = reach; is = world_of; parts_are = order.holds })
+      pub world_held : (bytes : List ℕ) → bytes ≡ file → IsHeldIn bytes parts (world_by bytes parts ranges locations views sets)
+      world_held bytes same = subst (λ (z : List ℕ). IsHeldIn z parts (world_by z parts ranges locations views sets)) (sym same) (record { reach = reach; is = world_of; parts_are = order.holds; built = order.built })

@@ -38,6 +38,10 @@ str_offsets_base = DW_AT_STR_OFFSETS_BASE
 abbrev pub macros : ℕ
 macros = DW_AT_MACROS
 
+-- DW_AT_location
+abbrev pub location : ℕ
+location = DW_AT_LOCATION
+
 -- DW_AT_GNU_locviews, an extension: view numbers for the entries of a location list
 abbrev pub gnu_locviews : ℕ
 gnu_locviews = DW_AT_GNU_LOCVIEWS

@@ -10,7 +10,7 @@ use Rattle.dw_base.specs.declared.fault.Refusal.TheVariants.{Refused, NoMemory}
 use Rattle.elf_sections.specs.Faults.{ElfFault, NameFault}
 use Rattle.line_write.specs.Faults.{LinesFault}
 use Rattle.spelled.specs.Spelled.{StandsAt}
-use Rattle.form_codec.specs.declared.form.Form.TheVariants.{Ref1, Ref2, SecOffset}
+use Rattle.form_codec.specs.declared.form.Form.TheVariants.{Ref1, Ref2}
 use Rattle.form_codec.specs.Forms.{code_of}
 use Rattle.abbrev_tables.specs.declared.decl.Spec.{Spec}
 use Rattle.abbrev_tables.specs.Tables.{Declared, SpellsDeclared}
@@ -25,12 +25,11 @@ use Rattle.list_model.specs.declared.entry.ListKind.{ListKind}
 use Rattle.list_model.specs.Faults.{FaultContributions}
 use Rattle.list_model.specs.Faults.{FaultTables as FaultTablesOf}
 use Rattle.companions.specs.Faults.{FaultSets}
-use Rattle.value_links.specs.Sections.{offset_named, debug_info, debug_abbrev, debug_line, debug_aranges, debug_addr, debug_lists, info_name, abbrev_name, line_name, aranges_name, addr_name, lists_name}
-use Rattle.value_links.specs.Attributes.{gnu_locviews}
+use Rattle.value_links.specs.Sections.{offset_named, debug_info, debug_abbrev, debug_line, debug_aranges, debug_addr, debug_lists, info_name, abbrev_name, line_name, aranges_name, addr_name, loclists_name, lists_name}
 use Rattle.value_links.specs.Reading.{UnitRead, Linkable, unit_heads, counts_of, AreWithin, IsUnitRead, AreUnitsOf}
 use Rattle.value_links.specs.Whole.{IsReadToLinks, HasAddrBase}
 use Rattle.value_links.specs.LinkFaults.{FaultInUnit}
-use Rattle.value_links.specs.ListFaults.{FaultOfKind, FaultOfUses}
+use Rattle.value_links.specs.ListFaults.{FaultOfKind, FaultOfViews, FaultOfUses}
 
 -- a fault of a section, which counts from the section's first byte, stands at a place of the file
 abbrev pub FaultIn : List ℕ → List ℕ → (Kind → ℕ → Type 0) → Kind → ℕ → Type 0
@@ -68,9 +67,9 @@ FaultOffset info abbrevs kind place = ⊥
 abbrev pub IsTablePlace : List ℕ → List ℕ → ℕ → Type 0
 IsTablePlace info abbrevs at = (head : UnitHead) × IsUnitOf info head × (head.table ≡ at) × (at < length abbrevs)
 
--- a column has the form DW_FORM_ref1 or DW_FORM_ref2, or it is a DW_AT_GNU_locviews that is a section offset
+-- a column has the form DW_FORM_ref1 or DW_FORM_ref2
 abbrev pub IsUnbuiltColumn : Spec → Type 0
-IsUnbuiltColumn column = (column.form ≡ code_of Ref1) ⊎ ((column.form ≡ code_of Ref2) ⊎ ((column.name ≡ gnu_locviews) × (column.form ≡ code_of SecOffset)))
+IsUnbuiltColumn column = (column.form ≡ code_of Ref1) ⊎ (column.form ≡ code_of Ref2)
 
 -- a declaration has such a column
 abbrev pub HasUnbuiltColumn : Declared → Type 0
@@ -147,7 +146,7 @@ FaultAddresses file kind place = (units : List UnitRead) × AreUnitsOf file unit
 abbrev pub FaultOfLinks : List ℕ → Reach → Kind → ℕ → Type 0
 FaultOfLinks file reach kind place = FaultIn file info_name (FaultLinks file reach) kind place ⊎ (FaultIn file addr_name (FaultAddresses file) kind place ⊎ FaultIn file aranges_name (FaultAranges file) kind place)
 
--- SIXTH PASS: lists, and the slots that name them (DWARF 5 sections 2.6.2, 2.17.3, 7.25, 7.28 and 7.29)
+-- SIXTH PASS: lists, their view pairs, and the slots that name them (DWARF 5 sections 2.6.2, 2.17.3, 7.25, 7.28 and 7.29)
 
 -- what is read up to the places of lists has a fault
 abbrev pub OfLinkable : List ℕ → (Linkable → Kind → ℕ → Type 0) → Kind → ℕ → Type 0
@@ -156,7 +155,8 @@ OfLinkable file FaultOf kind place = (r : Linkable) × IsReadToLinks file r × F
 abbrev pub FaultOfLists : List ℕ → Reach → Kind → ℕ → Type 0
 FaultOfLists file reach kind place =
     ((of : ListKind) × FaultIn file (lists_name of) (OfLinkable file (λ r. FaultOfKind r reach of)) kind place)
-    ⊎ FaultIn file info_name (OfLinkable file FaultOfUses) kind place
+    ⊎ (FaultIn file loclists_name (OfLinkable file FaultOfViews) kind place
+    ⊎ FaultIn file info_name (OfLinkable file FaultOfUses) kind place)
 
 -- THE PASSES
 

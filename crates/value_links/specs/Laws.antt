@@ -15,12 +15,13 @@ use Rattle.entry_read.specs.Heads.{type_unit}
 use Rattle.entry_read.specs.Expressions.{IsExprAt}
 use Rattle.list_model.specs.declared.entry.ListKind.{ListKind}
 use Rattle.list_model.specs.Reading.{list_entry_limit}
+use Rattle.loc_lists.specs.Views.{view_limit}
 use Rattle.companions.specs.declared.set.ArangeSet.{ArangeSet}
 use Rattle.companions.specs.Aranges.{SetsTile}
 use Rattle.value_links.specs.Sections.{debug_aranges, debug_lists}
 use Rattle.value_links.specs.Reading.{ProgramRead, UnitRead, Linkable, Reading, of_kind, lists_of, declarations, unit_at, unit_starts, AreProgramsOf, AreUnitsOf}
 use Rattle.value_links.specs.Whole.{ArePartsOf, IsReadToLinks, AreRootsRead, IsReading}
-use Rattle.value_links.specs.Lists.{AreTold, AreWithinReach}
+use Rattle.value_links.specs.Lists.{AreTold, AreWithinReach, pair_total}
 use Rattle.value_links.specs.ListFaults.{list_total, entry_total, expression_bytes, expression_limit}
 use Rattle.value_links.specs.Values.{HasValueAt}
 use Rattle.value_links.specs.Operations.{IsSomeExpression, LinkedOperation, LinksExpression}
@@ -108,11 +109,12 @@ pub record AreLinked (r : Linkable) : Type 0 where
   pub values : (u id number name : ℕ) (meaning : Meaning) (place : ℕ) → u < length r.units → HasValueAt (unit_at r u) id number name meaning place → (linked : Linked) × Links r u id name meaning linked
   pub types : (u : ℕ) → u < length r.units → (unit_at r u).head.kind ≡ type_unit → (id : ℕ) × IsTypeEntry r u id
 
--- the lists that something names keep the limits of their entries and of their expressions
+-- the lists that something names keep the limits of their entries, of their expressions and of their view pairs
 pub record AreListsWithin (r : Reading) (reach : Reach) : Type 0 where
   pub entries : entry_total r.range_lists + entry_total r.location_lists ≤ list_entry_limit reach
   pub bytes : list_total expression_bytes r.range_lists + list_total expression_bytes r.location_lists ≤ expression_limit reach
   pub expressions : (kind : ListKind) → AreWithinReach r.links kind reach (lists_of r kind)
+  pub views : pair_total r.views ≤ view_limit
 
 -- the first two passes find the image of a file in order, the third its programs too, the fourth its units and contributions, and the
 -- fifth what values refer to, first bases, address tables and sets of address ranges

@@ -25,7 +25,7 @@ use Rattle.value_links.specs.Attributes.OffsetClass.{LinePtr, RngList, LocList, 
 use Rattle.value_links.specs.Reading.{Linkable, unit_at, of_kind}
 use Rattle.value_links.specs.Operations.{OpTarget, Names}
 use Rattle.value_links.specs.ListPlaces.{IsOffsetsAt, base_of}
-use Rattle.value_links.specs.Linked.{Linked, IsLocalTarget, IsSectionTarget, IsTypeEntry, IsProgramAt, IsListAt, IndexLinks, IsAddressesAt, IsFirstLow, HasAddress}
+use Rattle.value_links.specs.Linked.{Linked, IsLocalTarget, IsSectionTarget, IsTypeEntry, IsProgramAt, IsListAt, IndexLinks, IsAddressesAt, ViewLinks, IsFirstLow, HasAddress}
 use Rattle.value_links.specs.Values.{HasValueAt, GivesBase}
 
 -- a reference that no entry and no end of a chain is the target of
@@ -35,7 +35,8 @@ IsTargetless r u (InSection n) = ¬ ((unit : ℕ) × (target : Target) × IsSect
 IsTargetless r u meaning = ⊥
 
 -- A section offset names nothing that its class allows: no line number program, no place of a list, no contribution to a section of
--- lists, no address table; no view numbers, which aren't read yet; or its attribute has no class.
+-- lists, no address table, no place of view pairs in the contribution of the entry's first location list, or the entry has no such list; or
+-- its attribute has no class.
 abbrev pub NamesNothing : Linkable → ℕ → ℕ → OffsetClass → ℕ → Type 0
 NamesNothing r u id LinePtr n = ¬ ((p : ℕ) × IsProgramAt r n p)
 NamesNothing r u id RngList n = ¬ IsListAt r Ranges n
@@ -45,7 +46,7 @@ NamesNothing r u id LocListsPtr n = ¬ ((p : ℕ) × IsOffsetsAt (of_kind r Loca
 NamesNothing r u id AddrPtr n = ¬ IsAddressesAt r n
 NamesNothing r u id StrOffsetsPtr n = ⊥
 NamesNothing r u id MacPtr n = ⊥
-NamesNothing r u id Views n = Unit {0}
+NamesNothing r u id Views n = ¬ ((linked : Linked) × ViewLinks r u id n linked)
 NamesNothing r u id NoOffset n = Unit {0}
 
 -- the root gives a base for an index, and the index is none of its slots, or the base names nothing

@@ -1,6 +1,6 @@
 -- What the values of attributes refer to (DWARF 5 sections 2.3, 7.5.4 and 7.5.5). What a value means is said apart from that, since
 -- a list is read only once it is known which values name it.
-use Rattle.std.specs.Prelude.{◌≡◌, ◌<◌, ◌+◌, ◌∷◌, ◌++◌, ℕ, List, [], length, filter}
+use Rattle.std.specs.Prelude.{◌≡◌, ◌<◌, ◌+◌, ◌∷◌, ◌++◌, ℕ, List, [], length, filter, Bool, true, false, nat_eq}
 use Rattle.form_codec.specs.Forms.{Meaning}
 use Rattle.form_codec.specs.Forms.Meaning.{AddressNumber, Expression, InUnit, InSection, SectionPlace, LocationList, RangeList}
 use Rattle.entry_arena.specs.declared.entry.Target.{Target}
@@ -10,18 +10,18 @@ use Rattle.list_model.specs.declared.entry.ListKind.{ListKind}
 use Rattle.list_model.specs.declared.entry.ListKind.TheVariants.{Ranges, Locations}
 use Rattle.list_model.specs.declared.tables.AddrTable.{AddrTable}
 use Rattle.list_model.specs.Addresses.{HasBase}
-use Rattle.value_links.specs.Attributes.{OffsetClass, offset_class}
+use Rattle.value_links.specs.Attributes.{OffsetClass, offset_class, location}
 use Rattle.value_links.specs.Attributes.OffsetClass.{LinePtr, RngList, LocList, RngListsPtr, LocListsPtr, AddrPtr, StrOffsetsPtr, MacPtr, Views, NoOffset}
 use Rattle.value_links.specs.Contexts.{low_pc, is_low_pc, NamesTable}
-use Rattle.value_links.specs.ListPlaces.{IsListPlace, IsOffsetsAt, IsBaseOf}
-use Rattle.value_links.specs.Reading.{Linkable, program_at, unit_at, of_kind, part_at}
-use Rattle.value_links.specs.Values.{HasValueAt, root_of}
+use Rattle.value_links.specs.ListPlaces.{IsListPlace, IsSlot, IsOffsetsAt, IsBaseOf}
+use Rattle.value_links.specs.Reading.{ListSection, Linkable, program_at, unit_at, of_kind, part_at}
+use Rattle.value_links.specs.Values.{HasValueAt, described_at, root_of}
 use Rattle.value_links.specs.Operations.{LinkedOperation, LinksExpression}
 
--- What a value refers to: itself; what the operations of an expression name; an entry, or the end of the children of an entry, in the unit with a number; the number of a
--- line number program; the list of a kind that begins at a place; a slot of a contribution, which is to name a list; a
--- contribution; or a section offset that is kept as the number that it is. Units, entries, programs, contributions and slots are
--- numbered from 0 in their order.
+-- What a value refers to: itself; what the operations of an expression name; an entry, or the end of the children of an entry, in the
+-- unit with a number; the number of a line number program; the list of a kind that begins at a place; a slot of a contribution, which is
+-- to name a list; a contribution; the place of a location list and that of view pairs which go with it; or a section offset that is kept
+-- as the number that it is. Units, entries, programs, contributions and slots are numbered from 0 in their order.
 pub data Linked : Type 0 where
   Itself : Meaning → Linked
   Operates : List LinkedOperation → Linked
@@ -30,6 +30,7 @@ pub data Linked : Type 0 where
   ListAt : ListKind → ℕ → Linked
   SlotAt : ListKind → ℕ → ℕ → Linked
   BaseOf : ListKind → ℕ → Linked
+  ViewsAt : ℕ → ℕ → Linked
   Kept : ℕ → Linked
 
 -- REFERENCES
@@ -69,8 +70,40 @@ IndexLinks r u kind i linked = (p : ℕ) × IsBaseOf r u kind p × (i < (part_at
 abbrev pub IsAddressesAt : Linkable → ℕ → Type 0
 IsAddressesAt r base = (table : AddrTable) × HasBase r.addresses base table
 
--- What a section offset in an entry of a unit refers to, by its class. View numbers aren't read yet: a table that declares an offset of
--- them is refused before. Neither such an offset nor one of an attribute of no class refers to anything.
+-- VIEW PAIRS (an extension of GNU's, as this project understands it)
+
+-- whether an attribute is a DW_AT_location with a location list
+abbrev pub is_located : ℕ × Meaning → Bool
+is_located (name, SectionPlace n) = nat_eq name location
+is_located (name, LocationList i) = nat_eq name location
+is_located attribute = false
+
+-- The value of such an attribute tells a place: that of its list, or what its slot tells. Whether a list can begin where a slot tells is
+-- asked with the lists.
+abbrev pub TellsPlace : Linkable → ℕ → Meaning → ℕ → Type 0
+TellsPlace r u (SectionPlace n) list = IsListAt r Locations n × (list ≡ n)
+TellsPlace r u (LocationList i) list = (p : ℕ) × IsBaseOf r u Locations p × IsSlot r.locations p i list
+TellsPlace r u meaning list = ⊥
+
+-- the first such attribute of an entry of the unit `u` tells this place
+pub record IsFirstLocated (r : Linkable) (u id list : ℕ) : Type 0 where
+  pub before : List (ℕ × Meaning)
+  pub attribute : ℕ × Meaning
+  pub after : List (ℕ × Meaning)
+  pub parts : (described_at (unit_at r u) id).attributes ≡ before ++ attribute ∷ after
+  pub first : filter is_located before ≡ []
+  pub located : is_located attribute ≡ true
+  pub tells : TellsPlace r u attribute.1 list
+
+-- view pairs stand in the contribution of the list with which they go, behind its offsets
+abbrev pub AreTogether : ListSection → ℕ → ℕ → Type 0
+AreTogether section list n = ((q : ℕ) × IsListPlace section q list) → (p : ℕ) × IsListPlace section p list × IsListPlace section p n
+
+-- an offset in an entry names view pairs: they go with the list of the entry's first DW_AT_location that has one
+abbrev pub ViewLinks : Linkable → ℕ → ℕ → ℕ → Linked → Type 0
+ViewLinks r u id n linked = (list : ℕ) × IsFirstLocated r u id list × AreTogether r.locations list n × (linked ≡ ViewsAt list n)
+
+-- What a section offset in an entry of a unit refers to, by its class. One of an attribute of no class refers to nothing.
 abbrev pub OffsetLinks : Linkable → ℕ → ℕ → OffsetClass → ℕ → Linked → Type 0
 OffsetLinks r u id LinePtr n linked = (p : ℕ) × IsProgramAt r n p × (linked ≡ Program p)
 OffsetLinks r u id RngList n linked = IsListAt r Ranges n × (linked ≡ ListAt Ranges n)
@@ -80,7 +113,7 @@ OffsetLinks r u id LocListsPtr n linked = (p : ℕ) × IsOffsetsAt (of_kind r Lo
 OffsetLinks r u id AddrPtr n linked = IsAddressesAt r n × (linked ≡ Kept n)
 OffsetLinks r u id StrOffsetsPtr n linked = linked ≡ Kept n
 OffsetLinks r u id MacPtr n linked = linked ≡ Kept n
-OffsetLinks r u id Views n linked = ⊥
+OffsetLinks r u id Views n linked = ViewLinks r u id n linked
 OffsetLinks r u id NoOffset n linked = ⊥
 
 -- ATTRIBUTES

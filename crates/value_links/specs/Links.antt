@@ -8,12 +8,12 @@ use Rattle.value_links.specs.declared.operations.OpLink.{OpLink}
 use Rattle.value_links.specs.declared.operations.OpLink.TheVariants as op_link
 use Rattle.value_links.specs.Operations.{OpTarget, Names}
 use Rattle.value_links.specs.Operations.OpTarget.{NoTarget, GenericType, AnEntry}
-use Rattle.value_links.specs.declared.link.Link.TheVariants.{Plain, Place, Lines, List as AtList, Slot, Base, Kept as KeptPlace}
+use Rattle.value_links.specs.declared.link.Link.TheVariants.{Plain, Place, Lines, List as AtList, Slot, Base, Views, Kept as KeptPlace}
 use Rattle.value_links.specs.Reading.{Linkable, no_unit, of_kind}
 use Rattle.value_links.specs.ListPlaces.{SlotNames}
 use Rattle.value_links.specs.World.{head_and_forest}
 use Rattle.value_links.specs.Linked.{Linked, Links, IsLinked}
-use Rattle.value_links.specs.Linked.Linked.{Itself, Operates, Refers, Program, ListAt, SlotAt, BaseOf, Kept}
+use Rattle.value_links.specs.Linked.Linked.{Itself, Operates, Refers, Program, ListAt, SlotAt, BaseOf, ViewsAt, Kept}
 
 -- the link tells what a value refers to
 abbrev pub IsLinkOf : Linked → Link → Type 0
@@ -24,6 +24,7 @@ IsLinkOf (Program program) link = link ≡ Lines program
 IsLinkOf (ListAt kind place) link = link ≡ AtList kind place
 IsLinkOf (SlotAt kind part slot) link = link ≡ Slot kind part slot
 IsLinkOf (BaseOf kind part) link = link ≡ Base kind part
+IsLinkOf (ViewsAt list place) link = link ≡ Views list place
 IsLinkOf (Kept place) link = link ≡ KeptPlace place
 
 -- where a slot is told, the list that it names

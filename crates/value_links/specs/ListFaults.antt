@@ -1,6 +1,6 @@
--- The faults that the sixth pass looks for: lists, their indexes and expressions, and the slots of contributions (DWARF 5 sections
+-- The faults that the sixth pass looks for: lists, their indexes and expressions, view pairs, and the slots of contributions (DWARF 5 sections
 -- 2.6.2, 2.17.3, 7.25, 7.28 and 7.29). All that values refer to up to the places of lists is in order before.
-use Rattle.std.specs.Prelude.{◌≡◌, ◌<◌, ◌≤◌, ◌+◌, ◌^◌, ◌⊎◌, ◌++◌, ℕ, List, [], length, Option, Some, None}
+use Rattle.std.specs.Prelude.{◌≡◌, ◌<◌, ◌≤◌, ◌+◌, ◌^◌, ◌⊎◌, ◌++◌, ℕ, List, [], length, slice_index_or, Option, Some, None}
 use Rattle.std.specs.List.{Contains, sum_by}
 use Rattle.dw_base.specs.declared.fault.Kind.{Kind}
 use Rattle.dw_base.specs.declared.fault.Kind.TheVariants.{Limit, Pointer, ListShared, Target as NoTarget}
@@ -20,19 +20,20 @@ use Rattle.list_model.specs.declared.entry.ListKind.{ListKind}
 use Rattle.list_model.specs.declared.entry.ListKind.TheVariants.{Ranges, Locations}
 use Rattle.list_model.specs.declared.entry.RawEntry.{RawEntry}
 use Rattle.list_model.specs.Contributions.{offset_place, bytes_from}
-use Rattle.list_model.specs.Entries.{Entry}
+use Rattle.list_model.specs.Entries.{Entry, AreSaid}
 use Rattle.list_model.specs.Items.{FaultIndexes}
 use Rattle.list_model.specs.Reading.{AreReadFrom, list_entry_limit}
 use Rattle.range_lists.specs.Ranges.{FaultRangeList}
 use Rattle.range_lists.specs.Ranges.{IsRead as IsRangeRead}
 use Rattle.loc_lists.specs.Locations.{FaultLocationList, items_among}
+use Rattle.loc_lists.specs.Views.{FaultRun, view_limit}
 use Rattle.loc_lists.specs.Locations.{IsRead as IsLocationRead}
 use Rattle.value_links.specs.Reading.{ListRead, Linkable, unit_at, of_kind, part_at, list_at, context_at}
 use Rattle.value_links.specs.ListPlaces.{IsListPlace, IsSlot, SlotNames}
 use Rattle.value_links.specs.Linked.{Links}
 use Rattle.value_links.specs.Linked.Linked.{SlotAt}
 use Rattle.value_links.specs.Operations.{OpTarget, Names, NamesSectionEntry}
-use Rattle.value_links.specs.Lists.{IsNamed, IsNamedIn, IsListIn, IsOwner, IsUnowned, IsOfTwoUnits, HasUnitOffset}
+use Rattle.value_links.specs.Lists.{IsNamed, IsNamedIn, IsListIn, IsOwner, IsUnowned, IsOfTwoUnits, HasUnitOffset, AreViewsNamed, pair_count}
 use Rattle.value_links.specs.Values.{HasValueAt}
 
 -- SLOTS
@@ -183,6 +184,57 @@ pub record PassesTotal (r : Linkable) (measure : List RawEntry → ℕ) (limit :
 -- the number of entries does, or of the bytes of their expressions
 abbrev pub PassesLimit : Linkable → Reach → ListKind → ℕ → Type 0
 PassesLimit r reach of place = PassesTotal r length (list_entry_limit reach) of place ⊎ PassesTotal r expression_bytes (expression_limit reach) of place
+
+-- VIEW PAIRS
+
+-- So many view pairs at a place go with the list at another, by the entries of the list. They are to stand in its contribution, which has
+-- this number.
+pub record AreViewsWanted (r : Linkable) (list at p count : ℕ) : Type 0 where
+  pub named : AreViewsNamed r list at
+  pub read : ListRead
+  pub of_list : IsListIn r Locations read
+  pub same : read.at ≡ list
+  pub holder : p ≡ read.part
+  pub entries : List Entry
+  pub said : AreSaid Locations read.raws entries
+  pub counted : count ≡ pair_count entries
+
+-- one of the pairs isn't whole in the contribution, or doesn't fit
+abbrev pub FaultPairs : Linkable → Kind → ℕ → Type 0
+FaultPairs r kind place = (list : ℕ) × (at : ℕ) × (p : ℕ) × (count : ℕ) × AreViewsWanted r list at p count × FaultRun r.locations.section (part_at r.locations p) at count kind place
+
+-- view pairs that are counted: where they go, where they stand, and how many they are
+pub record CountedPairs : Type 0 where
+  pub list : ℕ
+  pub at : ℕ
+  pub count : ℕ
+
+abbrev pub ArePairs : Linkable → CountedPairs → Type 0
+ArePairs r c = (p : ℕ) × AreViewsWanted r c.list c.at p c.count
+
+-- They are counted in the order of their places; those that go with several lists once for each, in the order of the lists.
+abbrev pub PairsComeBefore : CountedPairs → CountedPairs → Type 0
+PairsComeBefore a b = (a.at < b.at) ⊎ ((a.at ≡ b.at) × (a.list < b.list))
+
+abbrev pub pairs_at : List CountedPairs → ℕ → CountedPairs
+pairs_at front k = slice_index_or front k (record { list = 0; at = 0; count = 0 })
+
+-- With some view pairs all that something names are more than a file may have.
+pub record PassesPairs (r : Linkable) (place : ℕ) : Type 0 where
+  pub last : CountedPairs
+  pub wanted : ArePairs r last
+  pub front : List CountedPairs
+  pub order : (j k : ℕ) → j < k → k < length front → PairsComeBefore (pairs_at front j) (pairs_at front k)
+  pub each : (k : ℕ) → k < length front → ArePairs r (pairs_at front k) × PairsComeBefore (pairs_at front k) last
+  pub all : (list at : ℕ) → AreViewsNamed r list at → (at < last.at) ⊎ ((at ≡ last.at) × (list < last.list)) → (k : ℕ) × (k < length front) × ((pairs_at front k).list ≡ list) × ((pairs_at front k).at ≡ at)
+  pub within : sum_by (λ (c : CountedPairs). c.count) front ≤ view_limit
+  pub past : view_limit < sum_by (λ (c : CountedPairs). c.count) front + last.count
+  pub here : place ≡ last.at
+
+-- the view pairs of .debug_loclists
+abbrev pub FaultOfViews : Linkable → Kind → ℕ → Type 0
+FaultOfViews r Limit place = PassesPairs r place
+FaultOfViews r kind place = FaultPairs r kind place
 
 -- THE PASS
 

@@ -1,7 +1,7 @@
 -- The lists of a file: which are named, by which units, in which contexts, and which are frozen (DWARF 5 sections 2.6.2, 2.17.3,
 -- 7.28 and 7.29).
-use Rattle.std.specs.Prelude.{◌≡◌, ◌≢◌, ◌<◌, ◌^◌, ◌⊎◌, ℕ, List, [], length, filter, Option, Some, None, not, false}
-use Rattle.std.specs.List.{All, Contains}
+use Rattle.std.specs.Prelude.{◌≡◌, ◌≢◌, ◌<◌, ◌^◌, ◌⊎◌, ℕ, List, [], length, filter, Option, Some, None, Bool, not, true, false}
+use Rattle.std.specs.List.{All, Contains, sum_by}
 use Rattle.dw_base.specs.declared.fault.Reach.{Reach}
 use Rattle.dw_base.specs.declared.fault.Reach.TheVariants.{Wide}
 use Rattle.expr_ops.specs.declared.names.Named.{Named}
@@ -17,11 +17,14 @@ use Rattle.list_model.specs.Entries.{Entry, AreSaid}
 use Rattle.list_model.specs.Items.{Bounds, Give, IsDead, sets_base}
 use Rattle.range_lists.specs.Ranges.{IsRangeList}
 use Rattle.loc_lists.specs.Locations.{IsLocationList, expressions_of}
-use Rattle.value_links.specs.Reading.{ListRead, Linkable, of_kind, part_at, list_at, context_at}
+use Rattle.loc_lists.specs.Views.{IsRunAt}
+use Rattle.list_model.specs.declared.entry.EntryKind.{EntryKind}
+use Rattle.list_model.specs.declared.entry.EntryKind.TheVariants.{BaseAddressx, BaseAddress, DefaultLocation}
+use Rattle.value_links.specs.Reading.{ListRead, ViewRead, Linkable, of_kind, part_at, list_at, view_at, context_at}
 use Rattle.value_links.specs.ListPlaces.{IsListPlace, SlotNames}
 use Rattle.value_links.specs.Operations.{IsSomeExpression, LinkedOperation, LinksExpression}
 use Rattle.value_links.specs.Linked.{Linked, IsLinked}
-use Rattle.value_links.specs.Linked.Linked.{ListAt, SlotAt}
+use Rattle.value_links.specs.Linked.Linked.{ListAt, SlotAt, ViewsAt}
 
 -- WHAT NAMES A LIST
 
@@ -158,6 +161,50 @@ pub record AreListsOf (r : Linkable) (kind : ListKind) (lists : List ListRead) :
   pub looked : (k u : ℕ) → k < length lists → IsNamedIn r kind (list_at lists k).at u → AreLookedUp r kind u (list_at lists k)
   pub expressions : (k : ℕ) → k < length lists → AreExpressionsRead r kind (list_at lists k)
   pub slots : (p i : ℕ) → p < length (of_kind r kind).parts → i < (part_at (of_kind r kind) p).slots → (at : ℕ) × SlotNames (of_kind r kind) p i at
+
+-- VIEW PAIRS
+
+-- a value names view pairs at a place, which go with the location list at another
+abbrev pub AreViewsNamed : Linkable → ℕ → ℕ → Type 0
+AreViewsNamed r list at = (u : ℕ) × (number : ℕ) × (u < length r.units) × IsLinked r u number (ViewsAt list at)
+
+-- whether an entry of a kind is an item from a start up to an end
+abbrev pub is_bounded : EntryKind → Bool
+is_bounded BaseAddressx = false
+is_bounded BaseAddress = false
+is_bounded DefaultLocation = false
+is_bounded kind = true
+
+-- how many pairs go with entries: one with each that is such an item
+abbrev pub pair_count : List Entry → ℕ
+pair_count entries = length (filter (λ (entry : Entry). is_bounded entry.kind) entries)
+
+-- view pairs: something names them for a list, and there are as many as the list has such entries, in its contribution
+pub record AreViewsOf (r : Linkable) (lists : List ListRead) (view : ViewRead) : Type 0 where
+  pub named : AreViewsNamed r view.list view.at
+  pub k : ℕ
+  pub inside : k < length lists
+  pub at : (list_at lists k).at ≡ view.list
+  pub entries : List Entry
+  pub said : AreSaid Locations (list_at lists k).raws entries
+  pub counted : length view.pairs ≡ pair_count entries
+  pub read : IsRunAt r.locations.section (part_at r.locations (list_at lists k).part) view.at view.pairs
+
+-- by rising place of the list, and for one list by rising place
+abbrev pub AreViewsApart : ViewRead → ViewRead → Type 0
+AreViewsApart first second = (first.list < second.list) ⊎ ((first.list ≡ second.list) × (first.at < second.at))
+
+-- all view pairs that something names, once for each list with which they go
+pub record AreViewsRead (r : Linkable) (lists : List ListRead) (views : List ViewRead) : Type 0 where
+  pub rising : (j k : ℕ) → j < k → k < length views → AreViewsApart (view_at views j) (view_at views k)
+  pub each : (k : ℕ) → k < length views → AreViewsOf r lists (view_at views k)
+  pub all : (list at : ℕ) → AreViewsNamed r list at → (k : ℕ) × (k < length views) × ((view_at views k).list ≡ list) × ((view_at views k).at ≡ at)
+
+-- how many pairs runs have together
+abbrev pub pair_total : List ViewRead → ℕ
+pair_total views = sum_by (λ (view : ViewRead). length view.pairs) views
+
+-- WHAT CAN BE TOLD
 
 -- What can be told of a list: the unit that owns it, and whether it is frozen.
 pub record IsTold (r : Linkable) (kind : ListKind) (list : ListRead) : Type 0 where

@@ -18,6 +18,7 @@ use Rattle.list_model.specs.declared.contribution.Contribution.{Contribution}
 use Rattle.list_model.specs.declared.entry.ListKind.{ListKind}
 use Rattle.list_model.specs.declared.entry.ListKind.TheVariants.{Ranges, Locations}
 use Rattle.list_model.specs.declared.entry.RawEntry.{RawEntry}
+use Rattle.loc_lists.specs.declared.views.ViewPair.{ViewPair}
 use Rattle.companions.specs.declared.set.ArangeSet.{ArangeSet}
 use Rattle.value_links.specs.Sections.{debug_info, debug_abbrev, debug_line}
 
@@ -53,11 +54,19 @@ pub record ListRead : Type 0 where
   pub part : ℕ
   pub raws : List RawEntry
 
--- Then the range lists and the location lists that something names, each by rising place, and the sets of address ranges.
+-- view pairs: the place of the location list with which they go, the place of the first, and the pairs
+pub record ViewRead : Type 0 where
+  pub list : ℕ
+  pub at : ℕ
+  pub pairs : List ViewPair
+
+-- Then the range lists and the location lists that something names, each by rising place, the view pairs of the latter, by rising place
+-- of the list and then of the first pair, and the sets of address ranges.
 pub record Reading : Type 0 where
   pub links : Linkable
   pub range_lists : List ListRead
   pub location_lists : List ListRead
+  pub views : List ViewRead
   pub sets : List ArangeSet
 
 -- LINE NUMBER PROGRAMS
@@ -166,6 +175,10 @@ lists_of r Locations = r.location_lists
 -- the contribution with a number; past the end there is none, and an empty one stands for it
 abbrev pub part_at : ListSection → ℕ → Contribution
 part_at section p = slice_index_or section.parts p (record { at = 0; len = 0; slots = 0 })
+
+-- the view pairs with a number; past the end there are none, and an empty run stands for them
+abbrev pub view_at : List ViewRead → ℕ → ViewRead
+view_at views k = slice_index_or views k (record { list = 0; at = 0; pairs = [] })
 
 -- the list with a number; past the end there is none, and an empty one stands for it
 abbrev pub list_at : List ListRead → ℕ → ListRead

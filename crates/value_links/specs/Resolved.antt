@@ -8,8 +8,9 @@ use Rattle.list_model.specs.Entries.{Entry, AreSaid}
 use Rattle.list_model.specs.Items.{Bounds, Give, Fits}
 use Rattle.value_links.specs.Reading.{ListRead, Linkable, Reading, lists_of, of_kind, context_at}
 use Rattle.value_links.specs.ListPlaces.{SlotNames}
+use Rattle.loc_lists.specs.declared.views.ViewPair.{ViewPair}
 use Rattle.value_links.specs.Linked.{Linked, Links}
-use Rattle.value_links.specs.Linked.Linked.{Itself as LinkItself, Operates as LinkOperates, Refers as LinkRefers, Program as LinkProgram, ListAt, SlotAt, BaseOf, Kept as LinkKept}
+use Rattle.value_links.specs.Linked.Linked.{Itself as LinkItself, Operates as LinkOperates, Refers as LinkRefers, Program as LinkProgram, ListAt, SlotAt, BaseOf, ViewsAt, Kept as LinkKept}
 use Rattle.value_links.specs.Operations.{LinkedOperation, LinksExpression}
 use Rattle.value_links.specs.Lists.{IsOwner, IsFrozen, owner_unit, expressions_at}
 
@@ -52,7 +53,7 @@ pub record MeansList (r : Reading) (kind : ListKind) (at : ℕ) (meaning : ListM
 
 -- A resolved value: the value itself; the operations of an expression, with what they name; an entry, or the end of the children of an entry, in the unit
 -- with a number; the number of a line number program; a list; an index and the list that it names; the number of a contribution to
--- the section of lists of a kind; or a section offset that is kept as the number that it is. Units, entries, programs and
+-- the section of lists of a kind; view pairs; or a section offset that is kept as the number that it is. Units, entries, programs and
 -- contributions are numbered from 0 in their order.
 pub data Resolved : Type 0 where
   Itself : Meaning → Resolved
@@ -62,6 +63,7 @@ pub data Resolved : Type 0 where
   AList : ListMeaning → Resolved
   Indexed : ℕ → ListMeaning → Resolved
   PartOf : ListKind → ℕ → Resolved
+  Pairs : List ViewPair → Resolved
   Kept : ℕ → Resolved
 
 -- what a value means that refers to this
@@ -73,6 +75,7 @@ ResolvesLink r (LinkProgram p) value = value ≡ Program p
 ResolvesLink r (ListAt kind at) value = (meaning : ListMeaning) × MeansList r kind at meaning × (value ≡ AList meaning)
 ResolvesLink r (SlotAt kind p i) value = (at : ℕ) × (meaning : ListMeaning) × SlotNames (of_kind r.links kind) p i at × MeansList r kind at meaning × (value ≡ Indexed i meaning)
 ResolvesLink r (BaseOf kind p) value = value ≡ PartOf kind p
+ResolvesLink r (ViewsAt list n) value = (pairs : List ViewPair) × Contains r.views (record { list = list; at = n; pairs = pairs }) × (value ≡ Pairs pairs)
 ResolvesLink r (LinkKept n) value = value ≡ Kept n
 
 -- What the value of an attribute with a name means in an entry `id` of the unit `u`, both by their numbers: what that means to

@@ -22,7 +22,7 @@ use Rattle.value_links.specs.declared.units.NamedTable.{NamedTable}
 use Rattle.value_links.specs.Sections.{debug_abbrev}
 use Rattle.list_model.specs.declared.entry.ListKind.{ListKind}
 use Rattle.value_links.specs.Reading.{UnitRead, Linkable, Reading, declarations, unit_at}
-use Rattle.value_links.specs.TidyLists.{AreTidyLists}
+use Rattle.value_links.specs.TidyLists.{AreTidyLists, AreTidyViews}
 use Rattle.value_links.specs.World.{head_and_forest, table_at, AreTablesOf}
 use Rattle.value_links.specs.Uses.{AreUses}
 use Rattle.value_links.specs.Classes.{OfReadings, HaveCodes}
@@ -104,6 +104,7 @@ pub record AreTidy (section : List ℕ) (r s : Reading) : Type 0 where
   pub units : All IsTidyUnit s.links.units
   pub expressions : AreTidyExpressions r.links s.links
   pub lists : (kind : ListKind) → AreTidyLists kind r s
+  pub views : AreTidyViews r s
 
 abbrev pub IsTidy : List ℕ → List ℕ → Type 0
 IsTidy file written = OfReadings (AreTidy (debug_abbrev written)) file written

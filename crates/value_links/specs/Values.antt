@@ -43,9 +43,12 @@ pub record HasValueAt (unit : UnitRead) (id number name : ℕ) (meaning : Meanin
   pub named : name ≡ column.name
   pub meant : meaning ≡ meant_in unit.forest.section value
 
--- the first entry of a unit
+-- an entry of a unit with its attributes, and the first one
+abbrev pub described_at : UnitRead → ℕ → Described
+described_at unit id = described_by unit.forest.section (declarations unit) unit.forest.values (entry_of unit id)
+
 abbrev pub root_of : UnitRead → Described
-root_of unit = described_by unit.forest.section (declarations unit) unit.forest.values (entry_of unit 0)
+root_of unit = described_at unit 0
 
 -- The attributes of a root give a base of this name, and the first is this. A base counts where it is a section offset (DWARF 5
 -- sections 3.1.1 and 7.28 to 7.29).

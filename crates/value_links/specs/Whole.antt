@@ -14,7 +14,7 @@ use Rattle.value_links.specs.Reading.{UnitRead, ListSection, Linkable, Reading, 
 use Rattle.value_links.specs.Values.{HasValueAt, root_of}
 use Rattle.value_links.specs.Contexts.{IsContext}
 use Rattle.value_links.specs.Linked.{IsFirstLow, HasAddress}
-use Rattle.value_links.specs.Lists.{AreListsOf}
+use Rattle.value_links.specs.Lists.{AreListsOf, AreViewsRead}
 
 -- of each unit the context that its root gives
 abbrev pub AreContexts : List ℕ → List UnitRead → List Context → Type 0
@@ -50,10 +50,11 @@ pub record AreRootsRead (r : Linkable) : Type 0 where
   pub tables : AreAddressesRead r.units r.addresses
   pub bases : AreFirstBases r
 
--- All is read: what values refer to and what roots give, the lists that something names, and the sets of .debug_aranges, each of
+-- All is read: what values refer to and what roots give, the lists that something names, their view pairs, and the sets of .debug_aranges, each of
 -- which names a unit by where it begins.
 pub record IsReading (file : List ℕ) (r : Reading) : Type 0 where
   pub links : IsReadToLinks file r.links
   pub roots : AreRootsRead r.links
   pub lists : (kind : ListKind) → AreListsOf r.links kind (lists_of r kind)
+  pub views : AreViewsRead r.links r.location_lists r.views
   pub sets : SetsTile (debug_aranges file) (unit_starts r.links.units) r.sets

@@ -1,5 +1,5 @@
 -- A file that is held with what is read of it, as callers see it.
-use Rattle.std.specs.Prelude.{◌≡◌, ◌<◌, ℕ, List, [], length, map, slice_index, slice_index_or, Option, Some}
+use Rattle.std.specs.Prelude.{◌≡◌, ◌≤◌, ◌<◌, ℕ, List, [], length, map, slice_index, slice_index_or, Option, Some}
 use Rattle.dw_base.specs.declared.fault.Reach.{Reach}
 use Rattle.line_machine.specs.declared.head.Head.{Head}
 use Rattle.entry_arena.specs.Operations.{HeldOps, no_operations}
@@ -16,9 +16,11 @@ use Rattle.range_lists.specs.Ranges.{IsMeaning as SayRanges}
 use Rattle.loc_lists.specs.Locations.{IsMeaning as SayLocations}
 use Rattle.companions.specs.declared.set.ArangeSet.{ArangeSet}
 use Rattle.value_links.specs.declared.units.NamedTable.{NamedTable}
+use Rattle.loc_lists.specs.Views.{view_limit}
 use Rattle.value_links.specs.declared.lists.ListRead.{ListRead as HeldList}
-use Rattle.value_links.specs.Reading.{UnitRead, ListRead, Linkable, Reading, of_kind, lists_of, line_heads, unit_among, list_at, context_at}
-use Rattle.value_links.specs.Lists.{IsOwner, IsFrozen, AreWithinReach}
+use Rattle.value_links.specs.declared.views.ViewRead.{ViewRead as HeldViews}
+use Rattle.value_links.specs.Reading.{UnitRead, ListRead, ViewRead, Linkable, Reading, of_kind, lists_of, line_heads, unit_among, list_at, context_at}
+use Rattle.value_links.specs.Lists.{IsOwner, IsFrozen, AreWithinReach, pair_total}
 use Rattle.value_links.specs.Sections.{debug_addr, debug_lists}
 use Rattle.value_links.specs.Whole.{IsReading}
 use Rattle.value_links.specs.Debug.{Debug, MeansDebug}
@@ -26,7 +28,7 @@ use Rattle.value_links.specs.Faults.{IsValid}
 
 -- the bytes of the file, the headers of its line number programs, its units, the operations of the expressions of each, the
 -- abbreviation tables that units name, of each unit the number of its table and the context of its lists, of range lists and of location
--- lists the contributions and the lists that something names, and the sets of address ranges
+-- lists the contributions and the lists that something names, the view pairs of location lists, and the sets of address ranges
 pub record World : Type 0 where
   pub image : List ℕ
   pub programs : List Head
@@ -39,6 +41,7 @@ pub record World : Type 0 where
   pub ranges : List HeldList
   pub location_parts : List Contribution
   pub locations : List HeldList
+  pub views : List HeldViews
   pub sets : List ArangeSet
 
 -- the operations of the unit with a number; past the end there is none, and none stand for them
@@ -101,6 +104,10 @@ pub record HoldLists (r : Linkable) (kind : ListKind) (lists : List ListRead) (h
   pub count : length held ≡ length lists
   pub each : (k : ℕ) (d : HeldList) → k < length lists → HoldsList r kind (list_at lists k) (slice_index_or held k d)
 
+-- each run of view pairs is held
+abbrev pub HoldViews : List ViewRead → List HeldViews → Type 0
+HoldViews views held = views ≡ map (λ (run : HeldViews). record { list = run.list; at = run.at; pairs = run.pairs.items }) held
+
 -- what is held is the file, and what is read of it. The rows of programs aren't held.
 pub record Holds (file : List ℕ) (world : World) (r : Reading) : Type 0 where
   pub image : world.image ≡ file
@@ -112,6 +119,7 @@ pub record Holds (file : List ℕ) (world : World) (r : Reading) : Type 0 where
   pub sections : (kind : ListKind) → (of_kind r.links kind).section ≡ debug_lists file kind
   pub contributions : (kind : ListKind) → contributions_held world kind ≡ (of_kind r.links kind).parts
   pub lists : (kind : ListKind) → HoldLists r.links kind (lists_of r kind) (lists_held world kind)
+  pub views : HoldViews r.views world.views
   pub sets : world.sets ≡ r.sets
 
 -- The world is that of a valid file: all is read, what is read means something, and the world holds it.
@@ -121,6 +129,7 @@ pub record IsWorldOf (file : List ℕ) (reach : Reach) (world : World) : Type 0 
   pub holds : Holds file world r
   pub operations : HaveOperations reach world.units world.operations
   pub within : (kind : ListKind) → AreWithinReach r.links kind reach (lists_of r kind)
+  pub few_views : pair_total r.views ≤ view_limit
   pub debug : Debug
   pub means : MeansDebug file r debug
   pub valid : IsValid file reach

@@ -9,4 +9,5 @@ pub mod Owners
 pub mod Passes
 pub mod Tabled
 pub mod Values
+pub mod Views
 pub mod World

@@ -141,16 +141,17 @@ fn cause_of(unit: &Unit<'_>, table: &Table, value: &Value) -> Kind
     }
 }
 
-// The fault of a value of the unit with a number, as that of an attribute with a name. The value is no expression.
-fn fault_of(parts: &Parts<'_>, number: u32, name: u64, value: &Value) -> Option<Kind>
+// The fault of a value of an entry of the unit with a number, as that of an attribute with a name. The value is no expression.
+fn fault_of(parts: &Parts<'_>, number: u32, id: u32, name: u64, value: &Value) -> Option<Kind>
     requires lists { HoldsLists parts.now }
     requires held { AreSomeUnits parts.now.units }
     requires number { number < length parts.now.units.units.items }
+    requires id { id < length (held_at parts.now.units.units.items number).forest.entries }
     requires plain { IsNoExpr value.now }
-    ensures { (id : ℕ) → InEach parts.now (λ r. IsChecked r number id name (meant_in (unit_at r number).forest.section value.now) result) }
+    ensures { InEach parts.now (λ r. IsChecked r number id name (meant_in (unit_at r number).forest.section value.now) result) }
 {
     let unit = unit_of(&parts.units, number);
-    match resolve(parts, number, name, value) {
+    match resolve(parts, number, id, name, value) {
         Some(_) => None,
         None => Some(cause_of(unit, table_of(&parts.units, number), value)),
     }
@@ -187,7 +188,7 @@ fn check_column(parts: &Parts<'_>, number: u32, id: u32, column: u32) -> Result<
         let own = value_number(unit.forest(), id, column);
         return check_expression(parts, number, own, span);
     }
-    match fault_of(parts, number, name, &value) {
+    match fault_of(parts, number, id, name, &value) {
         Some(kind) => {
             let place = place_of_value(unit, table, id, column);
             Err(Fault { kind, place })
@@ -267,9 +268,10 @@ fn check_unit(parts: &Parts<'_>, number: u32) -> Result<(), Fault>
 ///
 /// A fault stands at the first byte of a value: Target where a reference has no target, Pointer where a section offset names
 /// nothing that its attribute's class allows, an index counts from such a base, or it is past the slots of its base, and NoBase where
-/// an index has no base; at the DW_AT_low_pc that gives such a number NoBase where the root names no table, and Pointer where the
-/// table has no such address. Target stands at the field type_offset that names no entry, and at the reference of an operation that
-/// names no entry that it may.
+/// an index has no base. Of view pairs Pointer says that the entry has no location list, or that they aren't in its contribution. At
+/// the DW_AT_low_pc that gives the number of an address it is NoBase where the root names no table, and Pointer where the table has no
+/// such address. Target stands at the field type_offset that names no entry, and at the reference of an operation that names no entry
+/// that it may.
 pub fn check_links(parts: &Parts<'_>, info: &[u8], abbrevs: &[u8], origin: u64) -> Result<(), Fault>
     requires lists { HoldsLists parts.now }
     requires held { AreUnitsHeld info.now abbrevs.now parts.now.units }

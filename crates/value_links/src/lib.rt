@@ -14,6 +14,7 @@ mod list_bases;
 mod list_expressions;
 mod list_places;
 mod lists;
+mod located;
 mod namings;
 mod operations;
 mod owners;
@@ -24,6 +25,7 @@ mod tables;
 #[cfg(test)]
 mod tests;
 mod units;
+mod views;
 mod world;
 #[cfg(test)]
 mod world_tests;
@@ -39,4 +41,5 @@ pub use lists::ListRead;
 pub use operations::{OpLink, resolve_op};
 pub use parts::Parts;
 pub use units::{NamedTable, Units, read_units};
+pub use views::ViewRead;
 pub use world::World;

@@ -3,26 +3,27 @@ ghost use Rattle.std.specs.Prelude.{◌≡◌, ◌≢◌, ◌≤◌, ◌<◌, �
 ghost use Rattle.form_codec.specs.Values.{meant_in};
 ghost use Rattle.entry_arena.specs.Order.{IsInOrder};
 ghost use Rattle.value_links.specs.Attributes.{offset_class};
-ghost use Rattle.value_links.specs.Reading.{Linkable, unit_at};
-ghost use Rattle.value_links.specs.Attributes.OffsetClass.{LinePtr, RngList, LocList, AddrPtr};
+ghost use Rattle.value_links.specs.Reading.{Linkable, unit_at, of_kind, part_at};
+ghost use Rattle.value_links.specs.Attributes.OffsetClass.{LinePtr, RngList, LocList, AddrPtr, Views};
+ghost use Rattle.value_links.specs.ListPlaces.{IsBaseOf};
 ghost use Rattle.value_links.specs.Linked.{OffsetLinks, IndexLinks};
 ghost use Rattle.value_links.specs.Links.{held_at, IsFoundFor, IsLinkFound};
 ghost use Rattle.value_links.specs.inside.Links.{program_among, IsLastFrom, IsTargetFound, IsSectionTargetFound, AreProgramsApart, AreUnitsApart};
-ghost use Rattle.value_links.specs.inside.Checks.{IsNoExpr};
+ghost use Rattle.value_links.specs.inside.Checks.{AreSomeUnits, InEach, IsNoExpr};
 ghost use Rattle.value_links.specs.inside.ListPlaces.{AreContributions};
-ghost use Rattle.list_model.specs.declared.entry.ListKind.{ListKind as AnyKind};
-ghost use Rattle.value_links.specs.Parts.{HoldsParts, HoldsLists, lists_in};
+ghost use Rattle.value_links.specs.Parts.{HoldsParts, HoldsLists, lists_in, section_held};
 ghost use Rattle.value_links.specs.inside.Namings.{class_of};
 ghost use Rattle.value_links.specs.inside.Links.{base_class};
 
 use crate::list_places::{holder_of, part_with_offsets};
+use crate::located::viewed_list;
 use crate::parts::Parts;
 use crate::units::Units;
 use dw_base::constants::{
-    DW_AT_ADDR_BASE, DW_AT_DATA_MEMBER_LOCATION, DW_AT_FRAME_BASE, DW_AT_LOCATION,
-    DW_AT_LOCLISTS_BASE, DW_AT_MACROS, DW_AT_RANGES, DW_AT_RETURN_ADDR, DW_AT_RNGLISTS_BASE,
-    DW_AT_SEGMENT, DW_AT_START_SCOPE, DW_AT_STATIC_LINK, DW_AT_STMT_LIST, DW_AT_STR_OFFSETS_BASE,
-    DW_AT_STRING_LENGTH, DW_AT_USE_LOCATION, DW_AT_VTABLE_ELEM_LOCATION,
+    DW_AT_ADDR_BASE, DW_AT_DATA_MEMBER_LOCATION, DW_AT_FRAME_BASE, DW_AT_GNU_LOCVIEWS,
+    DW_AT_LOCATION, DW_AT_LOCLISTS_BASE, DW_AT_MACROS, DW_AT_RANGES, DW_AT_RETURN_ADDR,
+    DW_AT_RNGLISTS_BASE, DW_AT_SEGMENT, DW_AT_START_SCOPE, DW_AT_STATIC_LINK, DW_AT_STMT_LIST,
+    DW_AT_STR_OFFSETS_BASE, DW_AT_STRING_LENGTH, DW_AT_USE_LOCATION, DW_AT_VTABLE_ELEM_LOCATION,
 };
 use entry_arena::Target;
 use entry_read::Unit;
@@ -46,6 +47,8 @@ pub enum Link {
     Slot(ListKind, u32, u32),
     /// A contribution to the section of lists of a kind.
     Base(ListKind, u32),
+    /// The place of a location list, and that of view pairs which go with it. Both are in .debug_loclists.
+    Views(u64, u64),
     /// A place of a section into which it isn't followed.
     Kept(u64),
 }
@@ -167,10 +170,25 @@ fn addresses_at(parts: &Parts<'_>, place: u64) -> Option<Link>
     Some(Link::Kept(place))
 }
 
-// What a section offset refers to, which is the value of an attribute of this name. View numbers aren't read yet.
-fn section_place(parts: &Parts<'_>, name: u64, place: u64) -> Option<Link>
-    requires held { (kind : AnyKind) → AreContributions (lists_in parts.now kind) }
-    ensures { (file : List ℕ) (r : Linkable) (u id : ℕ) → HoldsParts file r parts.now → IsFoundFor (OffsetLinks r u id (offset_class name) place) result }
+// The view pairs at a place that an offset of an entry names.
+fn views_at(parts: &Parts<'_>, unit: u32, id: u32, place: u64) -> Option<Link>
+    requires lists { HoldsLists parts.now }
+    requires held { AreSomeUnits parts.now.units }
+    requires unit { unit < length parts.now.units.units.items }
+    requires id { id < length (held_at parts.now.units.units.items unit).forest.entries }
+    ensures { (file : List ℕ) (r : Linkable) → HoldsParts file r parts.now → IsFoundFor (OffsetLinks r unit id Views place) result }
+{
+    let list = viewed_list(parts, unit, id, place)?;
+    Some(Link::Views(list, place))
+}
+
+// What a section offset refers to, which is the value of an attribute of this name in an entry.
+fn section_place(parts: &Parts<'_>, unit: u32, id: u32, name: u64, place: u64) -> Option<Link>
+    requires lists { HoldsLists parts.now }
+    requires held { AreSomeUnits parts.now.units }
+    requires unit { unit < length parts.now.units.units.items }
+    requires id { id < length (held_at parts.now.units.units.items unit).forest.entries }
+    ensures { (file : List ℕ) (r : Linkable) → HoldsParts file r parts.now → IsFoundFor (OffsetLinks r unit id (offset_class name) place) result }
 {
     if is_of_ranges(name) {
         return list_at(parts, ListKind::Ranges, place);
@@ -184,33 +202,54 @@ fn section_place(parts: &Parts<'_>, name: u64, place: u64) -> Option<Link>
         DW_AT_LOCLISTS_BASE => base_at(parts, ListKind::Locations, place),
         DW_AT_ADDR_BASE => addresses_at(parts, place),
         DW_AT_STR_OFFSETS_BASE | DW_AT_MACROS => Some(Link::Kept(place)),
+        DW_AT_GNU_LOCVIEWS => views_at(parts, unit, id, place),
         _ => None,
     }
 }
 
-// The slot that an index of a list of a kind counts, in the contribution that the root of the unit with a number names.
-fn slot_at(parts: &Parts<'_>, kind: ListKind, unit: u32, index: u64) -> Option<Link>
+/// The contribution that the root of the unit with a number names for the indexes of lists of a kind, and the slot in it that an index
+/// counts; or None where the root names none or it has no such slot.
+pub(crate) fn slot_of(
+    parts: &Parts<'_>,
+    kind: ListKind,
+    unit: u32,
+    index: u64,
+) -> Option<(u32, u32)>
     requires lists { HoldsLists parts.now }
     requires unit { unit < length parts.now.units.units.items }
-    ensures { (file : List ℕ) (r : Linkable) → HoldsParts file r parts.now → IsFoundFor (IndexLinks r unit kind index) result }
+    ensures known { IfSome result (λ found. (found.0 < length (lists_in parts.now kind).parts.items) × (found.1 < (part_at (section_held (lists_in parts.now kind)) found.0).slots)) }
+    ensures slot { InEach parts.now (λ r. MatchOption result ((p : ℕ) → IsBaseOf r unit kind p → (part_at (of_kind r kind) p).slots ≤ index) (λ found. IsBaseOf r unit kind found.0 × (found.1 ≡ index))) }
 {
     let part = parts.bases(kind)[unit as usize]?;
     let slot = narrow(index)?;
     if slot < parts.lists(kind).parts[part as usize].slots {
-        Some(Link::Slot(kind, part, slot))
+        Some((part, slot))
     } else {
         None
     }
 }
 
-/// What a value refers to that stands in the unit with this number, counted from 0, as the value of an attribute of this name
-/// (DWARF 5 sections 7.5.4 and 7.5.5), or None exactly where it names nothing that it may name. An index of a list refers to
-/// its slot, whatever the slot tells. The value is no expression: the operations of one name things themselves. It takes no memory.
-pub fn resolve(parts: &Parts<'_>, unit: u32, name: u64, value: &Value) -> Option<Link>
-    requires unit { unit < length parts.now.units.units.items }
+// The slot of a contribution that an index of a list of a kind counts in the unit with a number.
+fn slot_at(parts: &Parts<'_>, kind: ListKind, unit: u32, index: u64) -> Option<Link>
     requires lists { HoldsLists parts.now }
+    requires unit { unit < length parts.now.units.units.items }
+    ensures { (file : List ℕ) (r : Linkable) → HoldsParts file r parts.now → IsFoundFor (IndexLinks r unit kind index) result }
+{
+    let (part, slot) = slot_of(parts, kind, unit, index)?;
+    Some(Link::Slot(kind, part, slot))
+}
+
+/// What a value refers to that stands in an entry of the unit with this number, both counted from 0, as the value of an attribute of
+/// this name (DWARF 5 sections 7.5.4 and 7.5.5), or None exactly where it names nothing that it may name. An index of a list refers to
+/// its slot, whatever the slot tells. View pairs go with the list of the entry's first DW_AT_location that has one. The value is no
+/// expression: the operations of one name things themselves. It takes no memory.
+pub fn resolve(parts: &Parts<'_>, unit: u32, id: u32, name: u64, value: &Value) -> Option<Link>
+    requires lists { HoldsLists parts.now }
+    requires held { AreSomeUnits parts.now.units }
+    requires unit { unit < length parts.now.units.units.items }
+    requires id { id < length (held_at parts.now.units.units.items unit).forest.entries }
     requires plain { IsNoExpr value.now }
-    ensures { (file : List ℕ) (r : Linkable) (id : ℕ) → HoldsParts file r parts.now → IsLinkFound r unit id name (meant_in (unit_at r unit).forest.section value.now) result }
+    ensures { (file : List ℕ) (r : Linkable) → HoldsParts file r parts.now → IsLinkFound r unit id name (meant_in (unit_at r unit).forest.section value.now) result }
 {
     match *value {
         Value::LocalRef(offset) => {
@@ -218,7 +257,7 @@ pub fn resolve(parts: &Parts<'_>, unit: u32, name: u64, value: &Value) -> Option
             Some(Link::Place(unit, target))
         }
         Value::SectionRef(place) => section_target(&parts.units.units, place),
-        Value::Offset(place) => section_place(parts, name, place),
+        Value::Offset(place) => section_place(parts, unit, id, name, place),
         Value::RangeIndex(index) => slot_at(parts, ListKind::Ranges, unit, index),
         Value::LocIndex(index) => slot_at(parts, ListKind::Locations, unit, index),
         _ => Some(Link::Plain),

@@ -4,7 +4,7 @@ ghost use Rattle.dw_base.specs.declared.fault.Reach.TheVariants.{Wide};
 ghost use Rattle.value_links.specs.declared.link_tests.TheConstants.{TABLE};
 ghost use Rattle.value_links.specs.Parts.{AreUnitsHeld, HoldsLists};
 ghost use Rattle.value_links.specs.World.{HaveOperations};
-ghost use Rattle.value_links.specs.inside.Checks.{IsNoExpr};
+ghost use Rattle.value_links.specs.inside.Checks.{AreSomeUnits, IsNoExpr};
 ghost use Rattle.value_links.specs.inside.ListPlaces.{AreContributions};
 
 use crate::contexts::contexts_of;
@@ -30,13 +30,15 @@ const ORIGIN: u64 = 64;
 // the forms exprloc and loclistx; a root with DW_AT_loclists_base; and roots without children, with DW_AT_stmt_list, and with
 // DW_AT_location in the form sec_offset. Declarations 9 to 13 are roots without children too: with DW_AT_rnglists_base, and
 // DW_AT_ranges in the form rnglistx; with DW_AT_addr_base, and DW_AT_low_pc in the form addrx; with DW_AT_ranges in the form
-// sec_offset; and with the second attribute of 10 and of 9 alone.
-const TABLE: [u8; 95] = [
+// sec_offset; and with the second attribute of 10 and of 9 alone. Declarations 14 to 16 are roots with DW_AT_GNU_locviews: behind
+// DW_AT_location in the form sec_offset; alone; and behind DW_AT_loclists_base, and DW_AT_location in the form loclistx.
+const TABLE: [u8; 126] = [
     1, 0x11, 1, 0, 0, 2, 0x34, 0, 0x49, 0x13, 0, 0, 3, 0x34, 0, 0x49, 0x10, 0, 0, 4, 0x34, 0, 2,
     0x18, 0, 0, 5, 0x34, 0, 2, 0x22, 0, 0, 6, 0x11, 1, 0x8c, 1, 0x17, 0, 0, 7, 0x11, 0, 0x10, 0x17,
     0, 0, 8, 0x11, 0, 2, 0x17, 0, 0, 9, 0x11, 0, 0x74, 0x17, 0x55, 0x23, 0, 0, 10, 0x11, 0, 0x73,
     0x17, 0x11, 0x1b, 0, 0, 11, 0x11, 0, 0x55, 0x17, 0, 0, 12, 0x11, 0, 0x11, 0x1b, 0, 0, 13, 0x11,
-    0, 0x55, 0x23, 0, 0, 0,
+    0, 0x55, 0x23, 0, 0, 14, 0x11, 0, 2, 0x17, 0xb7, 0x42, 0x17, 0, 0, 15, 0x11, 0, 0xb7, 0x42,
+    0x17, 0, 0, 16, 0x11, 0, 0x8c, 1, 0x17, 2, 0x22, 0xb7, 0x42, 0x17, 0, 0, 0,
 ];
 
 // A unit at 0 and one at 19, each a root at 12 behind the unit's first byte, and an entry at 13 with DW_AT_type. The code 0 that
@@ -46,13 +48,22 @@ const UNITS: [u8; 56] = [
     0, 0, 1, 3, 12, 0, 0, 0, 0, 0x0e, 0, 0, 0, 5, 0, 1, 8, 0, 0, 0, 0, 9, 12, 0, 0, 0, 0,
 ];
 
+// Units whose roots have view pairs at 17: with a location list at 16; with the first slot of the base 12; and with no location list.
+const VIEWED: [u8; 60] = [
+    0x11, 0, 0, 0, 5, 0, 1, 8, 0, 0, 0, 0, 14, 16, 0, 0, 0, 17, 0, 0, 0, 0x12, 0, 0, 0, 5, 0, 1, 8,
+    0, 0, 0, 0, 16, 12, 0, 0, 0, 0, 17, 0, 0, 0, 0x0d, 0, 0, 0, 5, 0, 1, 8, 0, 0, 0, 0, 15, 17, 0,
+    0, 0,
+];
+
 // Contributions at 0 and 17: one slot at 12 and a list at 16, and a list at 29.
 const RANGES: [u8; 30] = [
     13, 0, 0, 0, 5, 0, 8, 0, 1, 0, 0, 0, 4, 0, 0, 0, 0, 9, 0, 0, 0, 5, 0, 8, 0, 0, 0, 0, 0, 0,
 ];
 
-// A contribution of location lists with one slot at 12 and a list at 16.
-const LOCATIONS: [u8; 17] = [13, 0, 0, 0, 5, 0, 8, 0, 1, 0, 0, 0, 4, 0, 0, 0, 0];
+// Contributions of location lists at 0 and 18: one slot at 12, which tells 16, and lists at 16 and 17, and a list at 30.
+const LOCATIONS: [u8; 31] = [
+    14, 0, 0, 0, 5, 0, 8, 0, 1, 0, 0, 0, 4, 0, 0, 0, 0, 0, 9, 0, 0, 0, 5, 0, 8, 0, 0, 0, 0, 0, 0,
+];
 
 // An address table of one address, which stands at 8.
 const ADDRESSES: [u8; 16] = [12, 0, 0, 0, 5, 0, 8, 0, 0, 0x10, 0, 0, 0, 0, 0, 0];
@@ -163,15 +174,16 @@ fn base(part: u32) -> Link {
     Link::Base(ListKind::Ranges, part)
 }
 
-// What a value of the unit with a number refers to, where there is such a unit. No value is an expression.
+// What a value of the root of the unit with a number refers to, where there is such a unit. No value is an expression.
 fn link_of(parts: &Parts<'_>, unit: u32, name: u64, value: &Value) -> Result<Option<Link>, Fail>
-    requires { HoldsLists parts.now }
+    requires lists { HoldsLists parts.now }
+    requires held { AreSomeUnits parts.now.units }
 {
     if let Value::Expr(_) = *value {
         Err("an expression")?;
     }
     if (unit as usize) < parts.units.units.len() {
-        Ok(resolve(parts, unit, name, value))
+        Ok(resolve(parts, unit, 0, name, value))
     } else {
         Err("fewer units")?
     }
@@ -252,7 +264,7 @@ fn links_to_lists(rt: HostRuntime) -> Result<(), Fail> {
             Value::Offset(16),
             Some(Link::List(ListKind::Locations, 16)),
         ),
-        (0, 0x02, Value::Offset(17), None),
+        (0, 0x02, Value::Offset(18), None),
         (
             0,
             0x8c,
@@ -263,6 +275,33 @@ fn links_to_lists(rt: HostRuntime) -> Result<(), Fail> {
     ];
     for (unit, name, value, link) in rows.iter() {
         assert_eq!(rt; link_of(&parts, *unit, *name, value)?, *link);
+    }
+    Ok(())
+}
+
+// The unit in whose root view pairs are named, their place, and what they go with.
+#[test]
+fn links_to_views(rt: HostRuntime) -> Result<(), Fail> {
+    let alloc = rt.alloc();
+    let parts = read(alloc, &VIEWED)?;
+    let rows = [
+        (0, 16, Some(Link::Views(16, 16))),
+        (0, 17, Some(Link::Views(16, 17))),
+        // an offset of the contribution, the byte past its end, and a place in another contribution
+        (0, 15, None),
+        (0, 18, None),
+        (0, 30, None),
+        // what the slot tells
+        (1, 17, Some(Link::Views(16, 17))),
+        (1, 30, None),
+        // no location list
+        (2, 17, None),
+    ];
+    for (unit, place, link) in rows.iter() {
+        assert_eq!(rt;
+            link_of(&parts, *unit, 0x2137, &Value::Offset(*place))?,
+            *link
+        );
     }
     Ok(())
 }
@@ -347,7 +386,7 @@ fn linked_units(rt: HostRuntime) -> Result<(), Fail> {
     assert_eq!(rt; fault_of(alloc, &UNITS)?, None);
     // the type is the root
     assert_eq!(rt; fault_of(alloc, &type_unit(24))?, None);
-    let rows: [&[u8]; 8] = [
+    let rows: [&[u8]; 10] = [
         // DW_OP_lit0; DW_OP_convert to the generic type; and DW_OP_call4, which names the entry itself
         &[1, 4, 1, 0x30, 0],
         &[1, 4, 2, 0xa8, 0, 0],
@@ -361,6 +400,9 @@ fn linked_units(rt: HostRuntime) -> Result<(), Fail> {
         // a location list by its place, and one by its index
         &[8, 16, 0, 0, 0],
         &[6, 12, 0, 0, 0, 5, 0, 0],
+        // view pairs that go with such lists
+        &[14, 30, 0, 0, 0, 30, 0, 0, 0],
+        &[16, 12, 0, 0, 0, 0, 17, 0, 0, 0],
     ];
     for entries in rows.iter() {
         assert_eq!(rt; fault_in(alloc, entries)?, None);
@@ -372,7 +414,7 @@ fn linked_units(rt: HostRuntime) -> Result<(), Fail> {
 #[test]
 fn faulty_links(rt: HostRuntime) -> Result<(), Fail> {
     let alloc = rt.alloc();
-    let rows: [(&[u8], Fault); 9] = [
+    let rows: [(&[u8], Fault); 11] = [
         // a reference to the byte behind the entry's code
         (&[1, 2, 14, 0, 0, 0, 0], fault(Kind::Target, 14)),
         // a reference to the header of a unit
@@ -388,6 +430,9 @@ fn faulty_links(rt: HostRuntime) -> Result<(), Fail> {
         (&[6, 12, 0, 0, 0, 5, 1, 0], fault(Kind::Pointer, 18)),
         // no program begins there
         (&[7, 31, 0, 0, 0], fault(Kind::Pointer, 13)),
+        // view pairs of an entry without a location list, and view pairs in another contribution than the list
+        (&[15, 17, 0, 0, 0], fault(Kind::Pointer, 13)),
+        (&[14, 16, 0, 0, 0, 30, 0, 0, 0], fault(Kind::Pointer, 17)),
     ];
     for (entries, fault) in rows.iter() {
         assert_eq!(rt; fault_in(alloc, entries)?, Some(*fault));

@@ -15,7 +15,7 @@ ghost use Rattle.value_links.specs.inside.ListPlaces.{AreContributions};
 ghost use Rattle.value_links.specs.inside.Namings.{AreJoined, IsSlotNaming, IsPartNaming, AreSlotsFollowed, ArePartsFollowed, FaultSlots, class_of, index_meaning, IsIndexIn, ValueNames, IsPlaceNamed, IsColumnNaming, IsEntryNaming, IsUnitNaming, IsSomeNaming, AreNamings, AreInOrder};
 
 use crate::check::{column_name, table_of};
-use crate::link::{is_of_locations, is_of_ranges, unit_of};
+use crate::link::{is_of_locations, is_of_ranges, slot_of, unit_of};
 use crate::list_places::{Contributions, holder_of, slot_place, told_by};
 use crate::parts::Parts;
 use dw_base::{Fault, Kind, NoMemory, Refusal};
@@ -124,12 +124,8 @@ fn named_by_index(parts: &Parts<'_>, kind: ListKind, unit: u32, index: u64) -> O
     ensures named { (id name : ℕ) → InEach parts.now (λ r. IsPlaceNamed r kind unit id name (index_meaning kind index) result) }
     ensures begins { IfSome result (λ at. (p : ℕ) × IsListPlace (section_held (lists_in parts.now kind)) p at) }
 {
-    let part = parts.bases(kind)[unit as usize]?;
-    let contributions = parts.lists(kind);
-    if index >= u64::from(contributions.parts[part as usize].slots) {
-        return None;
-    }
-    named_by_slot(contributions, part, index as u32)
+    let (part, slot) = slot_of(parts, kind, unit, index)?;
+    named_by_slot(parts.lists(kind), part, slot)
 }
 
 // The index of a list of a kind that a value is.

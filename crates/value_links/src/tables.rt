@@ -13,7 +13,7 @@ ghost use Rattle.value_links.specs.inside.Tabled.{AreTablePlaces, AreNumbers, Is
 
 use crate::units::NamedTable;
 use abbrev_tables::{Spec, Table, listings};
-use dw_base::constants::{DW_AT_GNU_LOCVIEWS, DW_FORM_REF1, DW_FORM_REF2, DW_FORM_SEC_OFFSET};
+use dw_base::constants::{DW_FORM_REF1, DW_FORM_REF2};
 use dw_base::{Fault, Kind, NoMemory, Refusal};
 use entry_read::UnitHead;
 use std::alloc::Global;
@@ -40,11 +40,7 @@ pub(crate) fn table_places(alloc: Global, heads: &[UnitHead]) -> Result<Vec<u64>
 fn is_unbuilt(column: &Spec) -> bool
     ensures { IsTrue result ↔ IsUnbuiltColumn column.now }
 {
-    match column.form {
-        DW_FORM_REF1 | DW_FORM_REF2 => true,
-        DW_FORM_SEC_OFFSET => column.name == DW_AT_GNU_LOCVIEWS,
-        _ => false,
-    }
+    matches!(column.form, DW_FORM_REF1 | DW_FORM_REF2)
 }
 
 // Whether one of the columns is.

@@ -105,7 +105,7 @@ fn no_units(rt: HostRuntime) -> Result<(), Fail> {
 #[test]
 fn refused_units(rt: HostRuntime) -> Result<(), Fail> {
     let alloc = rt.alloc();
-    let rows: [(&[u8], &[u8], Kind, u64); 10] = [
+    let rows: [(&[u8], &[u8], Kind, u64); 9] = [
         // the second unit is cut, and it has version 4
         (&UNITS[..31], &TABLES, Kind::Short, 64 + 19),
         (
@@ -140,13 +140,6 @@ fn refused_units(rt: HostRuntime) -> Result<(), Fail> {
         (
             &[9, 0, 0, 0, 5, 0, 1, 8, 0, 0, 0, 0, 1],
             &[1, 0x11, 0, 0, 0, 2, 0x34, 0, 3, 8, 0x49, 0x12, 0, 0, 0],
-            Kind::Unbuilt,
-            1000 + 5,
-        ),
-        // a declaration with DW_AT_GNU_locviews in DW_FORM_sec_offset
-        (
-            &[9, 0, 0, 0, 5, 0, 1, 8, 0, 0, 0, 0, 1],
-            &[1, 0x11, 0, 0, 0, 2, 0x34, 0, 0xb7, 0x42, 0x17, 0, 0, 0],
             Kind::Unbuilt,
             1000 + 5,
         ),

@@ -13,10 +13,13 @@ ghost use Rattle.form_codec.specs.Values.{meant_in};
 ghost use Rattle.entry_read.specs.Places.{HaveOwners};
 ghost use Rattle.entry_read.specs.Units.{declarations_of, IsTable};
 ghost use Rattle.line_write.specs.Readings.{AreRead};
+ghost use Rattle.companions.specs.declared.set.ArangeSet.{ArangeSet as AnySet};
 ghost use Rattle.companions.specs.Aranges.{SetsTile};
 ghost use Rattle.value_links.specs.Sections.{body_named, offset_named, debug_line, debug_addr, debug_lists, debug_aranges, addr_name, lists_name};
-ghost use Rattle.value_links.specs.Reading.{Linkable, Reading, ListRead as AnyRead, unit_at, context_at, lists_of};
-ghost use Rattle.value_links.specs.Lists.{IsFrozen};
+ghost use Rattle.value_links.specs.Reading.{Linkable, Reading, ListRead as AnyRead, ViewRead as AnyViews, unit_at, context_at, lists_of};
+ghost use Rattle.list_model.specs.declared.entry.ListKind.TheVariants.{Locations};
+ghost use Rattle.loc_lists.specs.Views.{view_limit};
+ghost use Rattle.value_links.specs.Lists.{IsFrozen, AreListsOf, AreViewsRead, pair_total};
 ghost use Rattle.value_links.specs.Faults.{NamesFault};
 ghost use Rattle.value_links.specs.Laws.{IsImageInOrder};
 ghost use Rattle.value_links.specs.declared.link.Link.{Link as AnyLink};
@@ -24,8 +27,9 @@ ghost use Rattle.value_links.specs.declared.lists.ListRead.{ListRead as AnyList}
 ghost use Rattle.value_links.specs.Links.{held_at, HasLink, IsLinkFound, IsFollowed, IsOpLinkFound, IsNamedThing};
 ghost use Rattle.value_links.specs.Parts.{HoldsParts};
 ghost use Rattle.value_links.specs.inside.ListPlaces.{AreContributions};
+ghost use Rattle.value_links.specs.Whole.{AreAddressesRead};
 ghost use Rattle.value_links.specs.inside.Passes.{starts_of, ArePartsRead, ArePartsInOrder, HoldAllLists, NamesLaterFault};
-ghost use Rattle.value_links.specs.World.{World, Holds, contributions_held, lists_held, table_at, IsWorldOf, HaveOperations};
+ghost use Rattle.value_links.specs.World.{World, Holds, HoldLists, HoldViews, contributions_held, lists_held, table_at, IsWorldOf, HaveOperations};
 ghost use Rattle.value_links.specs.Operations.{NamesSectionEntry};
 ghost use Rattle.value_links.specs.inside.Checks.{IsNoExpr};
 ghost use Rattle.value_links.specs.inside.World.{own_table, AreListsApart};
@@ -42,6 +46,7 @@ use crate::parts::Parts;
 use crate::roots::names_addresses;
 use crate::sections::{DebugSection, debug_section};
 use crate::units::{NamedTable, read_units};
+use crate::views::{ViewRead, read_view_runs};
 use abbrev_tables::Table;
 use companions::{ArangeSet, read_aranges};
 use dw_base::{Fault, Kind, NoMemory, Reach, Refusal};
@@ -179,8 +184,23 @@ fn read_parts<'a>(
     })
 }
 
+// Whether the address tables of a file are in order, where entries name some. `fault` is that of the first one that has one.
+fn check_addresses(file: &[u8], parts: &Parts<'_>, fault: Option<Fault>) -> Result<(), Fault>
+    requires parts { ArePartsRead file.now parts.now }
+    requires fault { MatchOption fault (TablesFollow (debug_addr file.now) parts.now.tables.items 0 (length (debug_addr file.now))) (IsFaultOf (FaultTablesOf (debug_addr file.now)) (offset_named file.now addr_name)) }
+    ensures tables { OnOk result ((r : Linkable) → HoldsParts file.now r parts.now → AreAddressesRead r.units r.addresses) }
+    ensures refused { IfErr result (λ fault. (reach : Reach) → NamesLaterFault file.now reach (Refused fault)) }
+{
+    // The tables are those of this file.
+    let _file = file;
+    match fault {
+        Some(fault) if names_addresses(parts) => Err(fault),
+        _ => Ok(()),
+    }
+}
+
 // Whether each value of a file refers to what it may, and roots and address tables are in order. `fault` is that of the first address
-// table that has one.
+// table that has one. It is told before values are looked at: up to it nothing says which of them name a table.
 fn check_parts<'a>(
     file: &'a [u8],
     image: &Image<'a>,
@@ -194,13 +214,11 @@ fn check_parts<'a>(
     ensures linked { OnOk result ((reach : Reach) → IsImageInOrder file.now reach → ArePartsInOrder file.now parts.now) }
     ensures refused { IfErr result (λ fault. (reach : Reach) → NamesLaterFault file.now reach (Refused fault)) }
 {
+    check_addresses(file, parts, fault)?;
     let info = debug_section(file, image, b".debug_info".as_slice());
     let abbrev = debug_section(file, image, b".debug_abbrev".as_slice());
     check_links(parts, info.bytes, abbrev.bytes, info.origin)?;
-    match fault {
-        Some(fault) if names_addresses(parts) => Err(fault),
-        _ => Ok(()),
-    }
+    Ok(())
 }
 
 // Where units begin.
@@ -274,15 +292,38 @@ fn read_named_lists<'a>(
     Ok((ranges.lists, locations.lists))
 }
 
+// The view pairs of a file, of which these parts and location lists were read.
+fn read_file_views<'a>(
+    alloc: Global,
+    file: &'a [u8],
+    image: &Image<'a>,
+    parts: &Parts<'a>,
+    locations: &Vec<ListRead>,
+    reach: Reach,
+) -> Result<Vec<ViewRead>, Refusal>
+    requires image { image.now ≡ file.now }
+    requires read { IsRead file.now Wide }
+    requires parts { (reach : Reach) × IsImageInOrder file.now reach × ArePartsInOrder file.now parts.now }
+    requires operations { HaveOperations reach parts.now.units.units.items parts.now.operations.items }
+    requires sets { (sets : List AnySet) × SetsTile (debug_aranges file.now) (starts_of parts.now.units.units.items) sets }
+    requires lists { (r : Linkable) → HoldsParts file.now r parts.now → (ranges : List AnyList) × HoldAllLists r reach ranges locations.now.items }
+    ensures views { IfOk result (λ views. (r : Linkable) (read : List AnyRead) → HoldsParts file.now r parts.now → AreListsOf r Locations read → HoldLists r Locations read locations.now.items → (runs : List AnyViews) × AreViewsRead r read runs × HoldViews runs views.items × (pair_total runs ≤ view_limit)) }
+    ensures refused { IfErr result (λ refusal. NamesLaterFault file.now reach refusal) }
+{
+    let origin = lists_section(file, image, ListKind::Locations).origin;
+    read_view_runs(alloc, parts, locations, origin)
+}
+
 /// A valid file with what is read of it: its image, the headers of its line number programs, its units with the operations of their
-/// expressions, the abbreviation tables that they name and the contexts of their lists, its range lists and location lists, and its sets
-/// of address ranges. It borrows the bytes of the file.
+/// expressions, the abbreviation tables that they name and the contexts of their lists, its range lists and location lists, the view
+/// pairs of the latter, and its sets of address ranges. It borrows the bytes of the file.
 #[derive(Drop)]
 pub struct World<'a> {
     image: Image<'a>,
     parts: Parts<'a>,
     ranges: Vec<ListRead>,
     locations: Vec<ListRead>,
+    views: Vec<ViewRead>,
     sets: Vec<ArangeSet>,
 }
 
@@ -292,9 +333,9 @@ impl<'a> Model for World<'a> {
 
     ghost Value = { World };
 
-    ghost view = { λ w. record { image = w.image; programs = w.parts.programs.items; units = w.parts.units.units.items; operations = w.parts.operations.items; tables = w.parts.units.tables.items; table_of = w.parts.units.table_of.items; contexts = w.parts.contexts.items; range_parts = w.parts.ranges.parts.items; ranges = w.ranges.items; location_parts = w.parts.locations.parts.items; locations = w.locations.items; sets = w.sets.items } };
+    ghost view = { λ w. record { image = w.image; programs = w.parts.programs.items; units = w.parts.units.units.items; operations = w.parts.operations.items; tables = w.parts.units.tables.items; table_of = w.parts.units.table_of.items; contexts = w.parts.contexts.items; range_parts = w.parts.ranges.parts.items; ranges = w.ranges.items; location_parts = w.parts.locations.parts.items; locations = w.locations.items; views = w.views.items; sets = w.sets.items } };
 
-    ghost invariant = { λ w. IsHeldIn w.image w.parts (record { image = w.image; programs = w.parts.programs.items; units = w.parts.units.units.items; operations = w.parts.operations.items; tables = w.parts.units.tables.items; table_of = w.parts.units.table_of.items; contexts = w.parts.contexts.items; range_parts = w.parts.ranges.parts.items; ranges = w.ranges.items; location_parts = w.parts.locations.parts.items; locations = w.locations.items; sets = w.sets.items }) };
+    ghost invariant = { λ w. IsHeldIn w.image w.parts (record { image = w.image; programs = w.parts.programs.items; units = w.parts.units.units.items; operations = w.parts.operations.items; tables = w.parts.units.tables.items; table_of = w.parts.units.table_of.items; contexts = w.parts.contexts.items; range_parts = w.parts.ranges.parts.items; ranges = w.ranges.items; location_parts = w.parts.locations.parts.items; locations = w.locations.items; views = w.views.items; sets = w.sets.items }) };
 }
 
 impl<'a> World<'a> {
@@ -313,11 +354,13 @@ impl<'a> World<'a> {
         check_parts(file, &image, &parts, fault)?;
         let sets = read_sets(alloc, file, &image, &parts)?;
         let (ranges, locations) = read_named_lists(alloc, file, &image, &parts, &sets, reach)?;
+        let views = read_file_views(alloc, file, &image, &parts, &locations, reach)?;
         Ok(World {
             image,
             parts,
             ranges,
             locations,
+            views,
             sets,
         })
     }
@@ -419,6 +462,13 @@ impl<'a> World<'a> {
         }
     }
 
+    /// The view pairs of location lists, once for each list with which they go, by rising place of the list and then by their own.
+    pub fn views(&self) -> &Vec<ViewRead>
+        ensures { result.now.items ≡ self.now.views }
+    {
+        &self.views
+    }
+
     /// The sets of address ranges of .debug_aranges, in their order.
     pub fn aranges(&self) -> &Vec<ArangeSet>
         ensures { result.now.items ≡ self.now.sets }
@@ -426,16 +476,17 @@ impl<'a> World<'a> {
         &self.sets
     }
 
-    /// What a value refers to that stands in the unit with this number, counted from 0, as the value of an attribute of this
-    /// name (DWARF 5 sections 7.5.4 and 7.5.5), or None exactly where it names nothing that it may name. An index of a list refers
-    /// to its slot; `link` says which list the slot names. The value is no expression, whose operations name things themselves
-    /// (`resolve_op`). It takes no memory.
-    pub fn resolve(&self, unit: u32, name: u64, value: &Value) -> Option<Link>
+    /// What a value refers to that stands in an entry of the unit with this number, both counted from 0, as the value of an attribute
+    /// of this name (DWARF 5 sections 7.5.4 and 7.5.5), or None exactly where it names nothing that it may name. An index of a list
+    /// refers to its slot; `link` says which list the slot names. View pairs go with the list of the entry's first DW_AT_location that
+    /// has one. The value is no expression, whose operations name things themselves (`resolve_op`). It takes no memory.
+    pub fn resolve(&self, unit: u32, id: u32, name: u64, value: &Value) -> Option<Link>
         requires unit { unit < length self.now.units }
+        requires id { id < length (held_at self.now.units unit).forest.entries }
         requires plain { IsNoExpr value.now }
-        ensures { (file : List ℕ) (r : Reading) (id : ℕ) → Holds file self.now r → IsLinkFound r.links unit id name (meant_in (unit_at r.links unit).forest.section value.now) result }
+        ensures { (file : List ℕ) (r : Reading) → Holds file self.now r → IsLinkFound r.links unit id name (meant_in (unit_at r.links unit).forest.section value.now) result }
     {
-        resolve(&self.parts, unit, name, value)
+        resolve(&self.parts, unit, id, name, value)
     }
 
     /// What an operation names that stands in an expression of the unit with this number, counted from 0 (DWARF 5 sections 2.5.1.1,
@@ -496,7 +547,7 @@ impl<'a> World<'a> {
         }
         let id = owner_of(forest, value);
         let name = attribute_name(forest, self.table(unit), id, value);
-        match self.resolve(unit, name, &held) {
+        match self.resolve(unit, id, name, &held) {
             Some(link) => self.followed(link),
             // Each value means something.
             None => unreachable!(),

@@ -8,6 +8,7 @@ use dw_base::{Fault, Kind, Reach, Refusal};
 use entry_arena::Target;
 use form_codec::Value;
 use list_model::{Contribution, ListKind, Meaning};
+use loc_lists::ViewPair;
 use std::alloc::{AllocError, Global};
 use std::process::Abort;
 use std::test::Fail;
@@ -90,11 +91,13 @@ fn a_small_file_is_held(rt: HostRuntime) -> Result<(), Fail> {
     );
     assert_eq!(rt; counts, (1, 1, 1, 1, 1));
     assert!(rt; world.image().count() == 6);
-    if world.units().len() == 1 {
+    if world.units().len() == 1 && world.units()[0].forest().len() == 1 {
         assert!(rt; world.table(0).len() == 1);
-        let program = world.resolve(0, 0x10, &Value::Offset(0));
+        let program = world.resolve(0, 0, 0x10, &Value::Offset(0));
         assert!(rt; program == Some(Link::Lines(0)));
-        assert!(rt; world.resolve(0, 0x10, &Value::Offset(1)) == None);
+        assert!(rt; world.resolve(0, 0, 0x10, &Value::Offset(1)) == None);
+    } else {
+        Err("another count of entries")?;
     }
     Ok(())
 }
@@ -357,7 +360,7 @@ fn values_name_range_lists(rt: HostRuntime) -> Result<(), Fail> {
         (2, Link::List(ListKind::Ranges, 20)),
         (3, Link::List(ListKind::Ranges, 35)),
     ];
-    if world.units().len() == 1 {
+    if world.units().len() == 1 && world.units()[0].forest().len() == 3 {
         for (value, link) in rows.iter() {
             if *value < world.units()[0].forest().value_count() {
                 assert_eq!(rt; world.link(0, *value), *link);
@@ -365,9 +368,9 @@ fn values_name_range_lists(rt: HostRuntime) -> Result<(), Fail> {
                 Err("fewer values")?;
             }
         }
-        let slot = world.resolve(0, 0x55, &Value::RangeIndex(1));
+        let slot = world.resolve(0, 0, 0x55, &Value::RangeIndex(1));
         assert!(rt; slot == Some(Link::Slot(ListKind::Ranges, 0, 1)));
-        assert!(rt; world.resolve(0, 0x55, &Value::RangeIndex(2)) == None);
+        assert!(rt; world.resolve(0, 0, 0x55, &Value::RangeIndex(2)) == None);
         assert!(rt; world.context(0).base == 0x1000);
     } else {
         Err("another count of units")?;
@@ -400,6 +403,100 @@ fn refused_range_lists(rt: HostRuntime) -> Result<(), Fail> {
     ];
     for (changes, kind, place) in rows.iter() {
         let file = with_ranges(alloc, changes)?;
+        let fault = fault_of(alloc, &file)?;
+        assert!(rt;
+            fault
+                == Some(Fault {
+                    kind: *kind,
+                    place: *place as u64
+                })
+        );
+    }
+    Ok(())
+}
+
+// Abbreviations behind the file: 1 is a root with DW_AT_low_pc in the form addr, and DW_AT_location and DW_AT_GNU_locviews in the form
+// sec_offset.
+const VIEWS_TABLE: [u8; 13] = [1, 0x11, 0, 0x11, 1, 2, 0x17, 0xb7, 0x42, 0x17, 0, 0, 0];
+
+// A unit behind them, whose root has the base 0x1000 and names the list at 14 and the view pairs at 12.
+const VIEWS_UNIT: [u8; 29] = [
+    0x19, 0, 0, 0, 5, 0, 1, 8, 0, 0, 0, 0, 1, 0, 0x10, 0, 0, 0, 0, 0, 0, 14, 0, 0, 0, 12, 0, 0, 0,
+];
+
+// A contribution behind it: at 12 one pair, and at 14 a list of 16 bytes from 0x10 behind the base, with DW_OP_lit0.
+const VIEWED: [u8; 20] = [
+    0x10, 0, 0, 0, 5, 0, 8, 0, 0, 0, 0, 0, 0, 1, 4, 0x10, 0x20, 1, 0x30, 0,
+];
+
+// Where the unit and the contribution stand in the file with these.
+const VIEWS_UNIT_AT: usize = 653;
+
+const VIEWED_AT: usize = 682;
+
+// The file with these, where its headers have their places and sizes, and with other bytes at some places. .debug_aranges is
+// .debug_loclists.
+fn with_views(alloc: Global, changes: &[(usize, u8)]) -> Result<Vec<u8>, AllocError> {
+    let places = [
+        (235, 0x6c),
+        (236, 0x6f),
+        (237, 0x63),
+        (344, 0x80),
+        (345, 2),
+        (352, 13),
+        (408, 0x8d),
+        (409, 2),
+        (416, 29),
+        (512, 54),
+        (536, 0xaa),
+        (537, 2),
+        (544, 20),
+    ];
+    let mut file = extended(alloc, &places, &[&VIEWS_TABLE, &VIEWS_UNIT, &VIEWED])?;
+    for (at, byte) in changes {
+        for old in file.iter_mut().skip(*at).take(1) {
+            *old = *byte;
+        }
+    }
+    Ok(file)
+}
+
+// The place of the list, that of its view pairs, and the pairs; and what the values of the root refer to.
+#[test]
+fn view_pairs_are_held(rt: HostRuntime) -> Result<(), Fail> {
+    let alloc = rt.alloc();
+    let file = with_views(alloc, &[])?;
+    let world = World::read(alloc, &file, Reach::Narrow)
+        .ok()
+        .ok_or("refused")?;
+    let pair = ViewPair { first: 0, last: 1 };
+    assert_eq!(rt; world.views().len(), 1);
+    for run in world.views().iter() {
+        assert_eq!(rt; (run.list, run.at), (14, 12));
+        assert_eq!(rt; run.pairs.as_slice(), &[pair][..]);
+    }
+    if world.units().len() == 1 && world.units()[0].forest().value_count() == 3 {
+        assert!(rt; world.link(0, 1) == Link::List(ListKind::Locations, 14));
+        assert!(rt; world.link(0, 2) == Link::Views(14, 12));
+    } else {
+        Err("another count of values")?;
+    }
+    Ok(())
+}
+
+// View pairs that end past their contribution, a place of them before its lists, and an entry without a list in DW_AT_location.
+#[test]
+fn refused_view_pairs(rt: HostRuntime) -> Result<(), Fail> {
+    let alloc = rt.alloc();
+    let views = VIEWS_UNIT_AT + 25;
+    let rows: [(&[(usize, u8)], Kind, usize); 3] = [
+        (&[(views, 19)], Kind::Short, VIEWED_AT + 20),
+        (&[(views, 11)], Kind::Pointer, views),
+        // The list is that of DW_AT_frame_base.
+        (&[(645, 0x40)], Kind::Pointer, views),
+    ];
+    for (changes, kind, place) in rows.iter() {
+        let file = with_views(alloc, changes)?;
         let fault = fault_of(alloc, &file)?;
         assert!(rt;
             fault

@@ -54,9 +54,12 @@ pub record IsUnitWithTable (unit : HeadAndForest) (t : Listing) : Type 0 where
   pub head : IsHead unit.forest.section unit.head
   pub held : IsUnitHeld unit.forest.section unit.head (declarations_of t) unit.forest
 
--- the attributes of the first entry
+-- the attributes of an entry, and those of the first one
+abbrev pub attributes_at : Arena → List Declared → ℕ → List (ℕ × Meaning)
+attributes_at forest ds id = (described_by forest.section ds forest.values (entry_at forest.entries id)).attributes
+
 abbrev pub root_attributes : Arena → List Declared → List (ℕ × Meaning)
-root_attributes forest ds = (described_by forest.section ds forest.values (entry_at forest.entries 0)).attributes
+root_attributes forest ds = attributes_at forest ds 0
 
 -- of each unit that is held the context that its root gives
 pub record AreContextsHeld (addresses : List ℕ) (held : Units) (contexts : List Context) : Type 0 where

@@ -44,7 +44,7 @@ returns-in-Some-clause-fault c = λ (file : List ℕ) (r : Linkable) (holds : Ho
     let named = c.attribute_of-name.result in
     let column : IsColumn unit (declarations_of table) id k named.0 named.1 = subst (λ (z : HeadAndForest). IsColumn z (declarations_of table) id k named.0 named.1) e (record { named = c.attribute_of-name.ensures.name; valued = c.attribute_of-name.ensures.value }) in
     let stands = subst (λ (z : HeadAndForest). StandsAtColumn z.forest.section (declarations_of table) z.forest.values (entry_at z.forest.entries id) k c.place_of_value-place.result) e c.place_of_value-place.ensures in
-    λ reach. inl (column_fault file r c.args.parts.now holds c.args.number c.requires.number id c.requires.id table c.table_of-table.ensures.table (entry_at unit.forest.entries id) refl unit.forest.values refl k named.0 c.in-Some.kind c.place_of_value-place.result column.named c.requires.column stands (checked_value r c.args.number id named.0 unit (declarations_of table) k named.1 (Some c.in-Some.kind) column (c.in-Some.ensures id file r holds)))
+    λ reach. inl (column_fault file r c.args.parts.now holds c.args.number c.requires.number id c.requires.id table c.table_of-table.ensures.table (entry_at unit.forest.entries id) refl unit.forest.values refl k named.0 c.in-Some.kind c.place_of_value-place.result column.named c.requires.column stands (checked_value r c.args.number id named.0 unit (declarations_of table) k named.1 (Some c.in-Some.kind) column (c.in-Some.ensures file r holds)))
 
 pub returns-in-Some-clause-inside : goal.returns-in-Some-clause-inside
 returns-in-Some-clause-inside c =
@@ -63,7 +63,7 @@ returns-in-None-clause-linked c = λ (file : List ℕ) (r : Linkable) (holds : H
     let k = c.args.column in
     let named = c.attribute_of-name.result in
     let column : IsColumn unit (declarations_of table) id k named.0 named.1 = subst (λ (z : HeadAndForest). IsColumn z (declarations_of table) id k named.0 named.1) c.unit_of-unit.ensures (record { named = c.attribute_of-name.ensures.name; valued = c.attribute_of-name.ensures.value }) in
-    checked_column file r c.args.parts.now holds c.args.number c.requires.number id c.requires.id table c.table_of-table.ensures.table (entry_at unit.forest.entries id) refl unit.forest.values refl k named.0 None column.named (checked_value r c.args.number id named.0 unit (declarations_of table) k named.1 None column (c.in-None.ensures id file r holds))
+    checked_column file r c.args.parts.now holds c.args.number c.requires.number id c.requires.id table c.table_of-table.ensures.table (entry_at unit.forest.entries id) refl unit.forest.values refl k named.0 None column.named (checked_value r c.args.number id named.0 unit (declarations_of table) k named.1 None column (c.in-None.ensures file r holds))
 
 -- an expression
 

@@ -1,4 +1,4 @@
-use Rattle.std.proofs.Common.{◌≤◌, ℕ, List, length, take, drop, refl, sym, subst}
+use Rattle.std.proofs.Common.{◌≤◌, ℕ, List, length, take, drop, sym, subst}
 use Rattle.entry_arena.specs.declared.entry.Entry.{Entry}
 use Rattle.entry_arena.specs.Arena.{entry_at}
 use Rattle.entry_arena.specs.Trees.{declared_at}
@@ -31,7 +31,7 @@ place_of_value-requires-clause-column c =
     let unit = c.unit_of-unit.result.now in
     let table = c.table_of-table.result.now in
     let tabled = subst (λ (z : HeadAndForest). IsUnitWithTable z table) (sym c.unit_of-unit.ensures) c.table_of-table.ensures.unit in
-    column_inside unit table tabled (entry_at unit.forest.entries 0) refl c.in-Some.column (first_inside (root_attributes unit.forest (declarations_of table)) c.in-Some.column c.in-Some.ensures)
+    column_inside unit table tabled 0 (has_root unit table tabled) c.in-Some.column (first_inside (root_attributes unit.forest (declarations_of table)) c.in-Some.column c.in-Some.ensures)
 
 pub returns-in-None-clause-found : goal.returns-in-None-clause-found
 returns-in-None-clause-found c = λ (file : List ℕ) (r : Linkable) (holds : HoldsParts file r c.args.parts.now) (i place : ℕ) (low : IsFirstLow r c.args.number i place).

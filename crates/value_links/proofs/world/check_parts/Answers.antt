@@ -1,14 +1,10 @@
-use Rattle.std.proofs.Common.{◌≡◌, ◌∙◌, ℕ, List, length, sym, subst, rules, true≢false}
-use Rattle.std.specs.Prelude.{Option, MatchOption}
+use Rattle.std.proofs.Common.{◌≡◌, ℕ, List, sym, subst, arith}
 use Rattle.dw_base.specs.Refusals.{IsFaultOf}
 use Rattle.dw_base.specs.declared.fault.Fault.{Fault}
-use Rattle.list_model.specs.Addresses.{TablesFollow}
-use Rattle.list_model.specs.Faults.{FaultTables as FaultTablesOf}
-use Rattle.value_links.specs.Sections.{offset_named, debug_info, debug_abbrev, debug_addr, info_name, abbrev_name, addr_name}
-use Rattle.value_links.specs.Whole.{HasAddrBase}
+use Rattle.value_links.specs.Sections.{offset_named, debug_info, debug_abbrev, info_name, abbrev_name}
 use Rattle.value_links.specs.Parts.{AreUnitsHeld, LinkFault}
 use Rattle.value_links.proofs.HeldLists.{lists_held}
-use Rattle.value_links.proofs.WorldLaws.{bytes_are, origin_is, units_are_held, links_refused, addresses_refused, parts_in_order}
+use Rattle.value_links.proofs.WorldLaws.{bytes_are, origin_is, units_are_held, links_refused, parts_in_order}
 use Rattle.value_links.proofs.world.check_parts.Goals as goal
 
 pub check_links-requires-clause-lists : goal.check_links-requires-clause-lists
@@ -31,29 +27,9 @@ returns-in_err-check_links-clause-refused c =
     let fault : Fault = c.in_err-check_links.field-0.0 in
     let origin : c.debug_section-info.result.origin ≡ offset_named file info_name = origin_is file c.as_slice.result.now info_name c.debug_section-info.result.origin c.as_slice.ensures c.debug_section-info.ensures.origin in
     let refused = links_refused file c.args.parts.now c.requires.parts fault (λ f r limits holds. subst (λ (o : ℕ). IsFaultOf (LinkFault r limits) o fault) origin (c.in_err-check_links.ensures.fault f r limits holds)) in
-    search (rules, refused)
+    let e = c.from_residual-in_err-check_links.ensures in grind (arith, refused, e)
 
-pub returns-in-Some-clause-refused : goal.returns-in-Some-clause-refused
-returns-in-Some-clause-refused c =
-    let file : List ℕ = c.args.file.now in
-    let parts = c.args.parts.now in
+pub returns-clause-linked : goal.returns-clause-linked
+returns-clause-linked c = λ reach order.
     let read = c.requires.parts in
-    let has = (c.names_addresses.ensures file read.r read.holds).0 c.if-names_addresses.true in
-    let fault = subst (λ (z : Option Fault). MatchOption z (TablesFollow (debug_addr file) parts.tables.items 0 (length (debug_addr file))) (IsFaultOf (FaultTablesOf (debug_addr file)) (offset_named file addr_name))) c.in-Some.is c.requires.fault in
-    addresses_refused file parts read c.in-Some.fault has fault
-
--- no entry names an address table
-pub returns-in_default-clause-linked : goal.returns-in_default-clause-linked
-returns-in_default-clause-linked c = λ reach order.
-    let read = c.requires.parts in
-    let none : HasAddrBase read.r.units → ⊥ = λ has. true≢false (sym ((c.names_addresses.ensures c.args.file.now read.r read.holds).1 has) ∙ c.if-names_addresses.false) in
-    parts_in_order c.args.file.now c.args.parts.now read c.in_ok-check_links.ensures.linked c.in_ok-check_links.ensures.based (λ has. absurd (none has))
-
--- address tables fill their section
-pub returns-in_default-2-clause-linked : goal.returns-in_default-2-clause-linked
-returns-in_default-2-clause-linked c = λ reach order.
-    let file : List ℕ = c.args.file.now in
-    let parts = c.args.parts.now in
-    let read = c.requires.parts in
-    let filled = subst (λ (z : Option Fault). MatchOption z (TablesFollow (debug_addr file) parts.tables.items 0 (length (debug_addr file))) (IsFaultOf (FaultTablesOf (debug_addr file)) (offset_named file addr_name))) c.in_default.is c.requires.fault in
-    parts_in_order file parts read c.in_ok-check_links.ensures.linked c.in_ok-check_links.ensures.based (λ has. (parts.tables.items, subst (λ (z : List ℕ). TablesFollow z parts.tables.items 0 (length z)) (sym read.holds.read.addresses) filled))
+    parts_in_order c.args.file.now c.args.parts.now read c.in_ok-check_links.ensures.linked c.in_ok-check_links.ensures.based (c.in_ok-check_addresses.ensures.tables read.r read.holds)

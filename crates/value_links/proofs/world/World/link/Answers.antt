@@ -13,12 +13,12 @@ unreachable-requires c =
     let world : World = c.args.self.now in
     let (reach, is) = c.entries_of-forest.ensures.world in
     let links = value_links world reach is c.args.unit c.requires.unit c.entries_of-forest.result.now c.entries_of-forest.ensures.forest c.table.result.now c.table.ensures c.owner_of-id.result c.args.value c.attribute_name-name.result c.owner_of-id.ensures c.attribute_name-name.ensures c.value-held.result c.value-held.ensures in
-    c.in-None.ensures world.image is.r c.owner_of-id.result is.holds links.0 links.1
+    c.in-None.ensures world.image is.r is.holds links.0 links.1
 
 pub followed-requires : goal.followed-requires
 followed-requires c =
     let (reach, is) = c.entries_of-forest.ensures.world in
-    let found = c.in-Some.ensures c.args.self.now.image is.r c.owner_of-id.result is.holds in
+    let found = c.in-Some.ensures c.args.self.now.image is.r is.holds in
     let (to, followed) = can_follow is.r.links (λ kind. (is.read.lists kind).slots) c.args.unit c.owner_of-id.result c.attribute_name-name.result (meant_in (unit_at is.r.links c.args.unit).forest.section c.value-held.result) c.in-Some.link found in
     (c.args.self.now.image, is.r, to, is.holds, followed)
 
@@ -26,7 +26,7 @@ pub returns : goal.returns
 returns c = λ (file : List ℕ) (r : Reading) (holds : Holds file c.args.self.now r).
     let world : World = c.args.self.now in
     let (reach, is) = c.entries_of-forest.ensures.world in
-    value_linked world reach is c.args.unit c.requires.unit c.entries_of-forest.result.now c.entries_of-forest.ensures.forest c.table.result.now c.table.ensures c.owner_of-id.result c.args.value c.attribute_name-name.result c.owner_of-id.ensures c.attribute_name-name.ensures c.value-held.result c.value-held.ensures file r holds c.in-Some.link c.followed.result (c.in-Some.ensures file r c.owner_of-id.result holds) (c.followed.ensures file r holds)
+    value_linked world reach is c.args.unit c.requires.unit c.entries_of-forest.result.now c.entries_of-forest.ensures.forest c.table.result.now c.table.ensures c.owner_of-id.result c.args.value c.attribute_name-name.result c.owner_of-id.ensures c.attribute_name-name.ensures c.value-held.result c.value-held.ensures file r holds c.in-Some.link c.followed.result (c.in-Some.ensures file r holds) (c.followed.ensures file r holds)
 
 pub returns-in-Expr : goal.returns-in-Expr
 returns-in-Expr c = λ file r holds.
@@ -37,3 +37,6 @@ returns-in-Expr c = λ file r holds.
 
 pub resolve-requires-clause-plain : goal.resolve-requires-clause-plain
 resolve-requires-clause-plain c = no_expr c.value-held.result c.in_default.not-Expr
+
+pub resolve-requires-clause-id : goal.resolve-requires-clause-id
+resolve-requires-clause-id c = subst (λ (z : Arena). c.owner_of-id.result < length z.entries) c.entries_of-forest.ensures.forest c.owner_of-id.ensures.known

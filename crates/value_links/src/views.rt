@@ -1,0 +1,339 @@
+// The view pairs that go with location lists, which are an extension of GNU's.
+ghost use Rattle.std.specs.Prelude.{◌≡◌, ◌≤◌, ◌<◌, ◌+◌, ◌++◌, ◌∷◌, ◌^◌, ℕ, List, [], length, map, IfOk, IfErr, OnOk};
+ghost use Rattle.std.specs.List.{All, AllPairs};
+ghost use Rattle.dw_base.specs.Refusals.{IsFaultOf, IsRefusedFor};
+ghost use Rattle.form_codec.specs.Values.{meant_in};
+ghost use Rattle.list_model.specs.declared.entry.ListKind.TheVariants.{Locations};
+ghost use Rattle.loc_lists.specs.Views.{view_limit, FaultRun};
+ghost use Rattle.value_links.specs.Reading.{Linkable, ListRead as AnyRead, ViewRead as AnyViews, unit_at, part_at};
+ghost use Rattle.value_links.specs.Values.{entry_of};
+ghost use Rattle.value_links.specs.ListPlaces.{IsListPlace};
+ghost use Rattle.value_links.specs.Lists.{pair_total, AreListsOf, AreViewsRead};
+ghost use Rattle.value_links.specs.ListFaults.{FaultOfViews};
+ghost use Rattle.value_links.specs.Links.{held_at};
+ghost use Rattle.value_links.specs.Parts.{HoldsParts, HoldsLists, section_held};
+ghost use Rattle.value_links.specs.World.{HoldLists, HoldViews};
+ghost use Rattle.value_links.specs.inside.Checks.{AreSomeUnits, InEach};
+ghost use Rattle.value_links.specs.inside.ListPlaces.{AreContributions};
+ghost use Rattle.value_links.specs.inside.Namings.{AreJoined};
+ghost use Rattle.value_links.specs.inside.Views.{IsViewing, IsViewingFound, IsEntryViewing, IsUnitViewing, IsSomeViewing, IsBefore, AreViewings, AreLocationsHeld, IsListFrom, HasListFrom, HaveLists, is_bounded_code, raw_pairs, pairs_from, total_for, PassesWith, turn, AreTurned, IsRunRead, IsWanted, FaultWanted, AreRunsRead};
+ghost use Rattle.value_links.specs.inside.World.{AreListsApart};
+
+use crate::check::{attribute_of, table_of};
+use crate::link::unit_of;
+use crate::list_places::Contributions;
+use crate::lists::ListRead;
+use crate::located::viewed_list;
+use crate::parts::Parts;
+use dw_base::constants::{
+    DW_AT_GNU_LOCVIEWS, DW_LLE_OFFSET_PAIR, DW_LLE_START_END, DW_LLE_START_LENGTH,
+    DW_LLE_STARTX_ENDX, DW_LLE_STARTX_LENGTH,
+};
+use dw_base::{Fault, Kind, NoMemory, Refusal};
+use form_codec::Value;
+use list_model::RawEntry;
+use loc_lists::{ViewPair, read_views};
+use std::alloc::Global;
+
+/// A run of view pairs. Places count from the first byte of .debug_loclists.
+#[derive(Drop)]
+pub struct ViewRead {
+    /// Where the location list begins with which they go.
+    pub list: u64,
+    /// Where the first of them stands.
+    pub at: u64,
+    /// The pairs, one for each bounded entry of the list.
+    pub pairs: Vec<ViewPair>,
+}
+
+/// The place at which view pairs stand, and that of the list with which they go.
+type Viewing = (u64, u64);
+
+// The most view pairs that all runs of a file may have together.
+const VIEW_LIMIT: u64 = 1 << 24;
+
+// The view pairs that a value of an entry names, as that of an attribute with a name.
+fn viewed_by(parts: &Parts<'_>, unit: u32, id: u32, name: u64, value: &Value) -> Option<Viewing>
+    requires lists { HoldsLists parts.now }
+    requires held { AreSomeUnits parts.now.units }
+    requires unit { unit < length parts.now.units.units.items }
+    requires id { id < length (held_at parts.now.units.units.items unit).forest.entries }
+    ensures { InEach parts.now (λ r. IsViewingFound r unit id name (meant_in (unit_at r unit).forest.section value.now) result) }
+{
+    if name != DW_AT_GNU_LOCVIEWS {
+        return None;
+    }
+    let Value::Offset(place) = *value else {
+        return None;
+    };
+    let list = viewed_list(parts, unit, id, place)?;
+    Some((place, list))
+}
+
+// Appends a viewing.
+fn push(viewings: &mut Vec<Viewing>, viewing: Viewing) -> Result<(), NoMemory>
+    ensures { OnOk result (viewings.new.items ≡ viewings.old.items ++ viewing ∷ []) }
+{
+    viewings.push(viewing)?;
+    Ok(())
+}
+
+// Appends the view pairs that a value of an entry names, as that of an attribute with a name.
+fn push_value(
+    viewings: &mut Vec<Viewing>,
+    parts: &Parts<'_>,
+    unit: u32,
+    id: u32,
+    name: u64,
+    value: &Value,
+) -> Result<(), NoMemory>
+    requires lists { HoldsLists parts.now }
+    requires held { AreSomeUnits parts.now.units }
+    requires unit { unit < length parts.now.units.units.items }
+    requires id { id < length (held_at parts.now.units.units.items unit).forest.entries }
+    ensures { OnOk result (InEach parts.now (λ r. AreJoined viewings.old.items viewings.new.items (IsViewing r unit id name (meant_in (unit_at r unit).forest.section value.now)))) }
+{
+    if let Some(viewing) = viewed_by(parts, unit, id, name, value) {
+        push(viewings, viewing)?;
+    }
+    Ok(())
+}
+
+// Appends the view pairs that the values of an entry name.
+fn push_entry(
+    viewings: &mut Vec<Viewing>,
+    parts: &Parts<'_>,
+    unit: u32,
+    id: u32,
+) -> Result<(), NoMemory>
+    requires lists { HoldsLists parts.now }
+    requires held { AreSomeUnits parts.now.units }
+    requires unit { unit < length parts.now.units.units.items }
+    requires id { id < length (held_at parts.now.units.units.items unit).forest.entries }
+    ensures { OnOk result (InEach parts.now (λ r. AreJoined viewings.old.items viewings.new.items (IsEntryViewing r unit id (entry_of (unit_at r unit) id).count))) }
+{
+    let own = unit_of(&parts.units, unit);
+    let table = table_of(&parts.units, unit);
+    for column in 0..own.forest().entry(id).count {
+        let (name, value) = attribute_of(own, table, id, column);
+        push_value(viewings, parts, unit, id, name, &value)?;
+    }
+    Ok(())
+}
+
+// Appends those that the values of a unit name.
+fn push_unit(viewings: &mut Vec<Viewing>, parts: &Parts<'_>, unit: u32) -> Result<(), NoMemory>
+    requires lists { HoldsLists parts.now }
+    requires held { AreSomeUnits parts.now.units }
+    requires unit { unit < length parts.now.units.units.items }
+    ensures { OnOk result (InEach parts.now (λ r. AreJoined viewings.old.items viewings.new.items (IsUnitViewing r unit (length (unit_at r unit).forest.entries)))) }
+{
+    for id in 0..unit_of(&parts.units, unit).forest().len() {
+        push_entry(viewings, parts, unit, id)?;
+    }
+    Ok(())
+}
+
+// Appends those that the values of all units name.
+fn push_units(viewings: &mut Vec<Viewing>, parts: &Parts<'_>) -> Result<(), NoMemory>
+    requires lists { HoldsLists parts.now }
+    requires held { AreSomeUnits parts.now.units }
+    ensures { OnOk result (InEach parts.now (λ r. AreJoined viewings.old.items viewings.new.items (IsSomeViewing r (length r.units)))) }
+{
+    for unit in 0..parts.units.units.len() as u32 {
+        push_unit(viewings, parts, unit)?;
+    }
+    Ok(())
+}
+
+// All view pairs that values name, by rising place, and those of one place by the rising place of their list.
+fn viewings_of(alloc: Global, parts: &Parts<'_>) -> Result<Vec<Viewing>, NoMemory>
+    requires lists { HoldsLists parts.now }
+    requires held { AreSomeUnits parts.now.units }
+    ensures all { IfOk result (λ viewings. InEach parts.now (λ r. AreViewings r viewings.items)) }
+    ensures rising { IfOk result (λ viewings. AllPairs IsBefore viewings.items) }
+{
+    let mut viewings: Vec<Viewing> = Vec::new(alloc);
+    push_units(&mut viewings, parts)?;
+    viewings.sort_unstable();
+    viewings.dedup();
+    Ok(viewings)
+}
+
+// Whether view numbers go with an entry: it is an item from a start up to an end (DWARF 5 section 7.7.3).
+fn is_bounded(entry: &RawEntry) -> bool
+    ensures { result ≡ is_bounded_code entry.now.code }
+{
+    matches!(
+        entry.code,
+        DW_LLE_STARTX_ENDX
+            | DW_LLE_STARTX_LENGTH
+            | DW_LLE_OFFSET_PAIR
+            | DW_LLE_START_END
+            | DW_LLE_START_LENGTH
+    )
+}
+
+// How many view pairs go with a list of these entries.
+fn pair_count(raw: &[RawEntry]) -> u64
+    ensures { result ≡ raw_pairs raw.now }
+{
+    let mut count = 0;
+    for entry in raw {
+        if is_bounded(entry) {
+            count += 1;
+        }
+    }
+    count
+}
+
+// The list that begins at a place.
+fn list_from(lists: &[ListRead], place: u64) -> &ListRead
+    requires apart { AreListsApart lists.now }
+    requires known { HasListFrom lists.now place }
+    ensures { IsListFrom lists.now place result.now }
+{
+    match lists.binary_search_by_key(&place, |list| list.at) {
+        Ok(number) => &lists[number],
+        // A list begins there.
+        Err(_) => unreachable!(),
+    }
+}
+
+// How many view pairs go with the list that begins at a place.
+fn pairs_with(lists: &[ListRead], place: u64) -> u64
+    requires apart { AreListsApart lists.now }
+    requires known { HasListFrom lists.now place }
+    ensures { result ≡ pairs_from lists.now place }
+{
+    pair_count(&list_from(lists, place).raw)
+}
+
+// Whether all view pairs together keep the limit. A fault is that of the run with which they pass it.
+fn check_total(viewings: &[Viewing], lists: &[ListRead], origin: u64) -> Result<(), Fault>
+    requires apart { AreListsApart lists.now }
+    requires lists { HaveLists viewings.now lists.now }
+    requires room { All (λ viewing. origin + viewing.0 < 2 ^ 64) viewings.now }
+    ensures few { OnOk result (total_for lists.now viewings.now ≤ view_limit) }
+    ensures fault { IfErr result (PassesWith viewings.now lists.now origin) }
+{
+    let mut total = 0;
+    for (place, list) in viewings {
+        let count = pairs_with(lists, *list);
+        if count > VIEW_LIMIT - total {
+            return Err(Fault {
+                kind: Kind::Limit,
+                place: origin + *place,
+            });
+        }
+        total += count;
+    }
+    Ok(())
+}
+
+// View pairs, the place of the list before their own.
+fn turn_all(alloc: Global, viewings: &[Viewing]) -> Result<Vec<Viewing>, NoMemory>
+    ensures { IfOk result (λ turned. turned.items ≡ map turn viewings.now) }
+{
+    let turned = viewings
+        .iter()
+        .map(|viewing| (viewing.1, viewing.0))
+        .collect(alloc)?;
+    Ok(turned)
+}
+
+// View pairs by the places of their lists, and those of one list by their own.
+fn by_list(alloc: Global, viewings: &[Viewing]) -> Result<Vec<Viewing>, NoMemory>
+    ensures { IfOk result (λ turned. AreTurned viewings.now turned.items) }
+{
+    let mut turned = turn_all(alloc, viewings)?;
+    turned.sort_unstable();
+    Ok(turned)
+}
+
+// Reads the view pairs at a place that go with a list.
+fn read_run(
+    alloc: Global,
+    contributions: &Contributions<'_>,
+    list: &ListRead,
+    place: u64,
+    origin: u64,
+) -> Result<ViewRead, Refusal>
+    requires tiled { AreContributions contributions.now }
+    requires stands { IsListPlace (section_held contributions.now) list.now.part place }
+    requires few { raw_pairs list.now.raw.items ≤ view_limit }
+    requires room { origin + length contributions.now.section.now < 2 ^ 64 }
+    ensures read { IfOk result (IsRunRead (section_held contributions.now) list.now place) }
+    ensures fault { IfErr result (IsRefusedFor (IsFaultOf (FaultRun contributions.now.section.now (part_at (section_held contributions.now) list.now.part) place (raw_pairs list.now.raw.items)) origin)) }
+{
+    let part = &contributions.parts[list.part as usize];
+    let count = pair_count(&list.raw);
+    let pairs = read_views(alloc, contributions.section, part, place, count, origin)?;
+    Ok(ViewRead {
+        list: list.at,
+        at: place,
+        pairs,
+    })
+}
+
+// Appends a run.
+fn push_run(views: &mut Vec<ViewRead>, run: ViewRead) -> Result<(), NoMemory>
+    ensures { OnOk result (views.new.items ≡ views.old.items ++ run ∷ []) }
+{
+    views.push(run)?;
+    Ok(())
+}
+
+// Reads the view pairs at places, each behind that of the list with which they go.
+fn read_runs(
+    alloc: Global,
+    contributions: &Contributions<'_>,
+    lists: &[ListRead],
+    turned: &[Viewing],
+    origin: u64,
+) -> Result<Vec<ViewRead>, Refusal>
+    requires tiled { AreContributions contributions.now }
+    requires apart { AreListsApart lists.now }
+    requires lists { All (IsWanted (section_held contributions.now) lists.now) turned.now }
+    requires room { origin + length contributions.now.section.now < 2 ^ 64 }
+    ensures read { IfOk result (λ views. AreRunsRead (section_held contributions.now) lists.now turned.now views.items) }
+    ensures fault { IfErr result (IsRefusedFor (IsFaultOf (FaultWanted (section_held contributions.now) lists.now turned.now) origin)) }
+{
+    let mut views: Vec<ViewRead> = Vec::new(alloc);
+    for (list, place) in turned {
+        let run = read_run(
+            alloc,
+            contributions,
+            list_from(lists, *list),
+            *place,
+            origin,
+        )?;
+        push_run(&mut views, run)?;
+    }
+    Ok(views)
+}
+
+/// The view pairs that values name, once for each location list with which they go, by rising place of the list and then by their own.
+/// `lists` are the location lists that something names, by rising place, and `origin` is the file offset of .debug_loclists.
+///
+/// A refusal names a fault of the section, with its place in the file: `Short` and `LebWide` as `read_views` tells, and `Limit` at the
+/// run with which all have more than 2^24 pairs, in the order of their places, once for each list. `NoMemory` may come wherever memory
+/// is wanting.
+pub(crate) fn read_view_runs(
+    alloc: Global,
+    parts: &Parts<'_>,
+    lists: &[ListRead],
+    origin: u64,
+) -> Result<Vec<ViewRead>, Refusal>
+    requires held { AreSomeUnits parts.now.units }
+    requires parts { HoldsLists parts.now }
+    requires lists { AreLocationsHeld parts.now lists.now }
+    requires room { origin + length parts.now.locations.section.now < 2 ^ 64 }
+    ensures views { IfOk result (λ views. (file : List ℕ) (r : Linkable) (read : List AnyRead) → HoldsParts file r parts.now → AreListsOf r Locations read → HoldLists r Locations read lists.now → (runs : List AnyViews) × AreViewsRead r read runs × HoldViews runs views.items × (pair_total runs ≤ view_limit)) }
+    ensures fault { IfErr result (λ refusal. (file : List ℕ) (r : Linkable) → HoldsParts file r parts.now → IsRefusedFor (IsFaultOf (FaultOfViews r) origin) refusal) }
+{
+    let viewings = viewings_of(alloc, parts)?;
+    check_total(&viewings, lists, origin)?;
+    let turned = by_list(alloc, &viewings)?;
+    read_runs(alloc, &parts.locations, lists, &turned, origin)
+}
