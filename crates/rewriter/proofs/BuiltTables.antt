@@ -13,7 +13,7 @@ use Rattle.unit_write.specs.Placing.{columns_of}
 use Rattle.value_links.specs.declared.units.NamedTable.{NamedTable}
 use Rattle.value_links.specs.Laws.{IsBuilt}
 use Rattle.rewriter.specs.inside.Tables.{TableAnew, IsTableWritten}
-use Rattle.rewriter.proofs.ColumnLaws.{AreAllSpelled, built_still}
+use Rattle.rewriter.proofs.ColumnLaws.{built_still}
 
 module _ (units : List HeadAndForest) (section : List ℕ) (old : NamedTable) (new : TableAnew) (written : IsTableWritten units section old new) where
   -- the declaration from which the one with a number comes
@@ -44,11 +44,11 @@ module _ (units : List HeadAndForest) (section : List ℕ) (old : NamedTable) (n
       subst IsBuilt (get_or-map (declared_in old.table.specs) old.table.decls number none (declared_in old.table.specs none) inside) at
 
   -- where all declarations of the old table can be written, so can those of the new one
-  pub built_anew : AreAllSpelled units old → All IsBuilt (declarations_of old.table) → All IsBuilt (declarations_of written.listing)
-  built_anew spelled built =
+  pub built_anew : All IsBuilt (declarations_of old.table) → All IsBuilt (declarations_of written.listing)
+  built_anew built =
       All-from_get_or IsBuilt (declarations_of written.listing) (declared_at [] 0) (λ k below.
       let from = source k below in
       let decl : Decl = decl_at old.table.decls from.number in
-      let columns : IsBuilt (declared_in new.columns decl) = built_still units old new.columns written.columns spelled from.number from.inside (built_at built from.number from.inside) in
+      let columns : IsBuilt (declared_in new.columns decl) = built_still units old new.columns written.columns from.number from.inside (built_at built from.number from.inside) in
       let numbered : IsBuilt (numbered_as (k + 1) decl (columns_of old.table new.columns from.number)) = columns in
       subst IsBuilt (sym from.same) numbered)

@@ -3,7 +3,7 @@ use Rattle.std.proofs.Common.{◌≡◌, ◌<◌, ◌+◌, ◌-◌, ℕ, List, [
 use Rattle.std.specs.List.{All}
 use Rattle.std.specs.Prelude.{pos}
 use Rattle.std.proofs.lemmas.List.{get_or-map, length-map}
-use Rattle.std.proofs.lemmas.List.Elements.{All-weaker, All-get_or, All-from_get_or, Contains-get_or}
+use Rattle.std.proofs.lemmas.List.Elements.{All-weaker, All-contains, All-get_or, All-from_get_or, Contains-get_or}
 use Rattle.dw_base.specs.declared.fault.Kind.TheVariants.{Unbuilt}
 use Rattle.dw_base.specs.declared.fault.Reach.{Reach}
 use Rattle.abbrev_tables.specs.declared.decl.Spec.{Spec}
@@ -52,16 +52,26 @@ module _ (stand : DeclarationsStand) (file : List ℕ) (reach : Reach) (r : Read
 -- COLUMNS
 
 -- a column can be written
-abbrev pub IsBuiltColumn : Spec → Type 0
+abbrev IsBuiltColumn : Spec → Type 0
 IsBuiltColumn column = IsUnbuiltColumn column → ⊥
 
-pub built_columns : (d : Declared) → IsBuilt d → All IsBuiltColumn d.columns
+built_columns : (d : Declared) → IsBuilt d → All IsBuiltColumn d.columns
 built_columns d built =
     let none : Spec = record { name = 0; form = 0; constant = pos 0 } in
     All-from_get_or IsBuiltColumn d.columns none (λ k inside unbuilt. built (get_or d.columns k none, Contains-get_or d.columns k none inside, unbuilt))
 
 column_roomy : (column : Spec) → IsBuiltColumn column → IsRoomy column
-column_roomy column built = (λ is. built (inl is), λ is. built (inr (inl is)))
+column_roomy column built = (λ is. built (inl is), λ is. built (inr is))
+
+room_built : (column : Spec) → IsRoomy column → IsBuiltColumn column
+room_built column roomy unbuilt = elim unbuilt [
+  | inl one ↦ roomy.0 one
+  | inr two ↦ roomy.1 two
+]
 
 pub built_roomy : (d : Declared) → IsBuilt d → All IsRoomy d.columns
 built_roomy d built = All-weaker IsBuiltColumn IsRoomy column_roomy d.columns (built_columns d built)
+
+-- and where all columns have room, entries can be written
+pub roomy_built : (d : Declared) → All IsRoomy d.columns → IsBuilt d
+roomy_built d roomy (column, among, unbuilt) = room_built column (All-contains IsRoomy d.columns column roomy among) unbuilt

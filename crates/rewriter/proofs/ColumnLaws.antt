@@ -1,14 +1,14 @@
 -- Columns of a table in their least forms: each has its name, spells its values, and can be written where the old one can.
-use Rattle.std.proofs.Common.{◌≡◌, ◌≢◌, ◌<◌, ◌+◌, ◌∙◌, ℕ, List, [], ◌∷◌, length, take, drop, get_or, true, false, sym, ap, subst, refl, arith, inl, inr}
+use Rattle.std.proofs.Common.{◌≡◌, ◌≢◌, ◌<◌, ◌+◌, ◌∙◌, ℕ, List, [], length, take, drop, get_or, true, false, sym, ap, subst, refl, arith, inl, inr}
 use Rattle.std.specs.Prelude.{◌⊎◌}
 use Rattle.std.specs.List.{All, Contains}
 use Rattle.std.proofs.lemmas.Bool.{cases_Bool, cases_eq}
 use Rattle.std.proofs.lemmas.List.{get_or-map, length-map}
-use Rattle.std.proofs.lemmas.List.Elements.{All-contains, All-get_or, All-from_get_or}
+use Rattle.std.proofs.lemmas.List.Elements.{All-get_or, All-from_get_or}
 use Rattle.form_codec.specs.declared.form.Form.{Form}
 use Rattle.form_codec.specs.declared.form.Form.TheVariants as form
 use Rattle.form_codec.specs.Forms.{Meaning, SpellsValue, code_of, is_written}
-use Rattle.form_codec.specs.Columns.{IsChoice, IsLeastForm, EntriesWithin, AreSpelled, is_reference}
+use Rattle.form_codec.specs.Columns.{IsChoice, IsLeastForm, is_reference}
 use Rattle.form_codec.proofs.Codes.{code_once}
 use Rattle.abbrev_tables.specs.declared.decl.Decl.{Decl}
 use Rattle.abbrev_tables.specs.declared.decl.Spec.{Spec}
@@ -22,11 +22,9 @@ use Rattle.value_links.specs.Laws.{IsBuilt}
 use Rattle.value_links.specs.Uses.{uses_of, column_meanings}
 use Rattle.rewriter.specs.inside.Tables.{AreColumnsChosen}
 use Rattle.rewriter.proofs.AllColumns.{columns_all}
-use Rattle.rewriter.proofs.BuiltUnits.{IsBuiltColumn, built_columns, built_roomy}
-use Rattle.rewriter.proofs.ColumnMeanings.{meanings_count}
+use Rattle.rewriter.proofs.BuiltUnits.{built_roomy, roomy_built}
 use Rattle.rewriter.proofs.MeaningsAmong.{spelled_among}
 use Rattle.rewriter.proofs.MovedValues.{part_at, as_many}
-use Rattle.rewriter.proofs.OffsetSizes.{offset_form_once}
 
 -- COLUMNS OF A DECLARATION
 
@@ -41,10 +39,6 @@ column_here specs first count j inside = let p = part_at specs first count j no_
 pub record AreNamedAlike (old new : List Spec) : Type 0 where
   pub count : length new ≡ length old
   pub each : (j : ℕ) → j < length old → (spec_at new j).name ≡ (spec_at old j).name
-
--- where all columns can be written, entries can
-pub columns_built : (d : Declared) → All IsBuiltColumn d.columns → IsBuilt d
-columns_built d built (column, among, unbuilt) = All-contains IsBuiltColumn d.columns column built among unbuilt
 
 -- ONE COLUMN
 
@@ -72,24 +66,6 @@ roomy_still : (old : Spec) (meanings : List Meaning) (new : Spec) → IsKeptOrLe
 roomy_still old meanings new (inl kept) roomy = subst IsRoomy (sym kept) roomy
 roomy_still old meanings new (inr least) roomy = choice_roomy new least.enough.choice
 
--- a new column of section offsets had them before
-offsets_before : (old new : Spec) (meanings : List Meaning) (n : ℕ) → 0 < length meanings → AreSpelled old.form old.constant meanings → EntriesWithin new.form new.constant meanings n → new.form ≡ code_of form.SecOffset → old.form ≡ code_of form.SecOffset
-offsets_before old new [] n some spelled within is = absurd (omega arith)
-offsets_before old new (m ∷ ms) n some ((bytes, s), rest) (others, more, t, further, sum) is = offset_form_once old.form new.form old.constant new.constant m bytes others s t is
-
-built_least : (old : Spec) (meanings : List Meaning) (new : Spec) → IsChosen old meanings new → 0 < length meanings → AreSpelled old.form old.constant meanings → IsBuiltColumn old → IsBuiltColumn new
-built_least old meanings new chosen some spelled built unbuilt =
-    elim (chosen_is old meanings new chosen) [
-      | inl kept ↦ subst IsBuiltColumn (sym kept) built unbuilt
-      | inr least ↦
-          let roomy : IsRoomy new = choice_roomy new least.enough.choice in
-          elim unbuilt [
-            | inl one ↦ roomy.0 one
-            | inr (inl two) ↦ roomy.1 two
-            | inr (inr (views, offset)) ↦ built (inr (inr (sym chosen.least.name ∙ views, offsets_before old new meanings least.enough.entries some spelled least.enough.within offset)))
-          ]
-    ]
-
 -- some bytes spell a value in the form and with the constant of a column
 abbrev pub IsSpelledBy : Spec → Meaning → Type 0
 IsSpelledBy column meaning = (bytes : List ℕ) × SpellsValue column.form column.constant meaning bytes
@@ -99,11 +75,6 @@ spelled_still old meanings new m (inl kept) among spelled = subst (λ (z : Spec)
 spelled_still old meanings new m (inr least) among spelled = spelled_among new.form new.constant meanings least.enough.entries m least.enough.within among
 
 -- TABLES
-
--- each column of a table spells the values of all its entries
-abbrev pub AreAllSpelled : List HeadAndForest → NamedTable → Type 0
-AreAllSpelled units old =
-    (number j : ℕ) → number < length old.table.decls → j < (decl_at old.table.decls number).count → AreSpelled (spec_at old.table.specs ((decl_at old.table.decls number).first + j)).form (spec_at old.table.specs ((decl_at old.table.decls number).first + j)).constant (column_meanings units old.place number j)
 
 module _ (units : List HeadAndForest) (old : NamedTable) (columns : List Spec) (chosen : AreColumnsChosen units old columns) where
   -- where the columns of a declaration begin, and how many there are
@@ -163,30 +134,11 @@ module _ (units : List HeadAndForest) (old : NamedTable) (columns : List Spec) (
       let old_roomy : IsRoomy (spec_at old.table.specs (first_of number + j)) = subst IsRoomy was.0 before in
       subst IsRoomy (sym is.0) (roomy_still (spec_at old.table.specs (first_of number + j)) (column_meanings units old.place number j) (spec_at columns (first_of number + j)) (column_is number j inside is.1) old_roomy))
 
-  column_built : AreAllSpelled units old → (number j : ℕ) → number < length old.table.decls → j < count_of number → IsBuiltColumn (spec_at old.table.specs (first_of number + j)) → IsBuiltColumn (spec_at columns (first_of number + j))
-  column_built spelled number j inside below built =
-      elim (cases_eq (uses_of units old.place number) 0) [
-        | inl none ↦ subst IsBuiltColumn (sym (chosen.unused number j inside none below)) built
-        | inr some ↦
-            let filled : 0 < length (column_meanings units old.place number j) = (let u : uses_of units old.place number ≢ 0 = some in omega (arith, meanings_count units old.place number j, u)) in
-            built_least (spec_at old.table.specs (first_of number + j)) (column_meanings units old.place number j) (spec_at columns (first_of number + j)) (chosen.each number j inside some below) filled (spelled number j inside below) built
-      ]
-
-  all_columns_built : AreAllSpelled units old → (number : ℕ) → number < length old.table.decls → All IsBuiltColumn (olds number) → All IsBuiltColumn (news number)
-  all_columns_built spelled number inside built =
-      let size : length (news number) ≡ length (olds number) = columns_count number in
-      All-from_get_or IsBuiltColumn (news number) no_column (λ j among.
-      let is = column_here columns (first_of number) (count_of number) j among in
-      let was = column_here old.table.specs (first_of number) (count_of number) j (omega (arith, size, among)) in
-      let before : IsBuiltColumn (spec_at (olds number) j) = All-get_or IsBuiltColumn (olds number) j no_column (omega (arith, size, among)) built in
-      let old_built : IsBuiltColumn (spec_at old.table.specs (first_of number + j)) = subst IsBuiltColumn was.0 before in
-      subst IsBuiltColumn (sym is.0) (column_built spelled number j inside is.1 old_built))
-
   -- the declaration with a number can be written in its new columns
-  pub built_still : AreAllSpelled units old → (number : ℕ) → number < length old.table.decls → IsBuilt (declared_in old.table.specs (decl_at old.table.decls number)) → IsBuilt (declared_in columns (decl_at old.table.decls number))
-  built_still spelled number inside built =
+  pub built_still : (number : ℕ) → number < length old.table.decls → IsBuilt (declared_in old.table.specs (decl_at old.table.decls number)) → IsBuilt (declared_in columns (decl_at old.table.decls number))
+  built_still number inside built =
       let decl : Decl = decl_at old.table.decls number in
-      columns_built (declared_in columns decl) (all_columns_built spelled number inside (built_columns (declared_in old.table.specs decl) built))
+      roomy_built (declared_in columns decl) (columns_roomy number inside (built_roomy (declared_in old.table.specs decl) built))
 
   -- and those of all declarations have room
   abbrev AreRoomy : Declared → Type 0

@@ -19,7 +19,7 @@ module _ (world : World) (places : List Places) (new_places : NewPlaces) (u : �
     each = λ column below. absurd (let b : column < 0 = below in omega arith);
   }
 
-  pub numbers_more : (id : ℕ) (old now : List ℕ) (count number : ℕ) → AreNumbersUpTo world places new_places u id old now count → number < 2 ^ 32 → IsNumberOf world places new_places u (name_in world u id count) (value_in world u id count) number → AreNumbersUpTo world places new_places u id old (now ++ number ∷ []) (count + 1)
+  pub numbers_more : (id : ℕ) (old now : List ℕ) (count number : ℕ) → AreNumbersUpTo world places new_places u id old now count → number < 2 ^ 32 → IsNumberOf world places new_places u id (name_in world u id count) (value_in world u id count) number → AreNumbersUpTo world places new_places u id old (now ++ number ∷ []) (count + 1)
   numbers_more id old now count number up fits is =
       let size : length now ≡ length old + count = up.size in
       let longer : length (now ++ number ∷ []) ≡ length now + 1 = length-append now (number ∷ []) in
@@ -34,12 +34,12 @@ module _ (world : World) (places : List Places) (new_places : NewPlaces) (u : �
               subst (λ (z : ℕ). slice_index (now ++ number ∷ []) z < 2 ^ 32) same (subst (λ (z : ℕ). z < 2 ^ 32) (sym here) fits)
         ];
         each = λ column below. elim (cases_lt column count) [
-          | inl early ↦ subst (IsNumberOf world places new_places u (name_in world u id column) (value_in world u id column)) (sym (get_or-append now (number ∷ []) 0 (length old + column) (omega arith))) (up.each column early)
+          | inl early ↦ subst (IsNumberOf world places new_places u id (name_in world u id column) (value_in world u id column)) (sym (get_or-append now (number ∷ []) 0 (length old + column) (omega arith))) (up.each column early)
           | inr late ↦
               let same : count ≡ column = omega arith in
               let at : length now ≡ length old + count = size in
               let last : slice_index (now ++ number ∷ []) (length old + count) ≡ number = subst (λ (z : ℕ). slice_index (now ++ number ∷ []) z ≡ number) at here in
-              subst (λ (z : ℕ). IsNumberOf world places new_places u (name_in world u id z) (value_in world u id z) (slice_index (now ++ number ∷ []) (length old + z))) same (subst (IsNumberOf world places new_places u (name_in world u id count) (value_in world u id count)) (sym last) is)
+              subst (λ (z : ℕ). IsNumberOf world places new_places u id (name_in world u id z) (value_in world u id z) (slice_index (now ++ number ∷ []) (length old + z))) same (subst (IsNumberOf world places new_places u id (name_in world u id count) (value_in world u id count)) (sym last) is)
         ];
       }
 
@@ -74,10 +74,10 @@ module _ (world : World) (places : List Places) (new_places : NewPlaces) (u : �
           | inl early ↦
               let earlier : (entry_in world u other).first + (entry_in world u other).count ≤ length held = up.inside other early in
               let within : column < (entry_in world u other).count = inside in
-              subst (IsNumberOf world places new_places u (name_in world u other column) (value_in world u other column)) (sym (of.front ((entry_in world u other).first + column) (omega arith))) (up.each other column early inside)
+              subst (IsNumberOf world places new_places u other (name_in world u other column) (value_in world u other column)) (sym (of.front ((entry_in world u other).first + column) (omega arith))) (up.each other column early inside)
           | inr late ↦
               let same : id ≡ other = omega arith in
-              let of_id : (j : ℕ) → j < (entry_in world u id).count → IsNumberOf world places new_places u (name_in world u id j) (value_in world u id j) (slice_index new ((entry_in world u id).first + j)) = λ j below_j. subst (λ (z : ℕ). IsNumberOf world places new_places u (name_in world u id j) (value_in world u id j) (slice_index new (z + j))) begins (of.each j below_j) in
-              subst (λ (z : ℕ). (j : ℕ) → j < (entry_in world u z).count → IsNumberOf world places new_places u (name_in world u z j) (value_in world u z j) (slice_index new ((entry_in world u z).first + j))) same of_id column inside
+              let of_id : (j : ℕ) → j < (entry_in world u id).count → IsNumberOf world places new_places u id (name_in world u id j) (value_in world u id j) (slice_index new ((entry_in world u id).first + j)) = λ j below_j. subst (λ (z : ℕ). IsNumberOf world places new_places u id (name_in world u id j) (value_in world u id j) (slice_index new (z + j))) begins (of.each j below_j) in
+              subst (λ (z : ℕ). (j : ℕ) → j < (entry_in world u z).count → IsNumberOf world places new_places u z (name_in world u z j) (value_in world u z j) (slice_index new ((entry_in world u z).first + j))) same of_id column inside
         ];
       }

@@ -33,15 +33,15 @@ module _ {file : List ℕ} {world : World} {tables : List NewTable} {places : Li
   -- ENTRIES
 
   -- the attributes of an entry mean what they meant
-  attributes_mean : (u id : ℕ) → u < length r.links.units → (olds news : List (ℕ × Meaning)) (ys : List (ℕ × Resolved)) → AllZip (IsMovedAttribute r.links places new_places u id) olds news → AllZip (MeansAttribute r u id) olds ys → AllZip (MeansAttribute s u id) news ys
-  attributes_mean u id inside [] [] ys moves means = means
-  attributes_mean u id inside [] (b ∷ news) ys moves means = absurd moves
-  attributes_mean u id inside (a ∷ olds) [] ys moves means = absurd moves
-  attributes_mean u id inside (a ∷ olds) (b ∷ news) [] moves means = absurd means
-  attributes_mean u id inside (a ∷ olds) (b ∷ news) (y ∷ ys) (move, moves) (mean, means) =
-      let follows : Resolves s u id a.0 (renewed move.number move.made a.1) y.1 = value_follows all u id a.0 a.1 move.number move.made y.1 inside move.numbered mean.value in
+  attributes_mean : (u id : ℕ) → u < length r.links.units → id < length (unit_at r.links u).forest.entries → (olds news : List (ℕ × Meaning)) (ys : List (ℕ × Resolved)) → AllZip (IsMovedAttribute r.links places new_places u id) olds news → AllZip (MeansAttribute r u id) olds ys → AllZip (MeansAttribute s u id) news ys
+  attributes_mean u id inside known [] [] ys moves means = means
+  attributes_mean u id inside known [] (b ∷ news) ys moves means = absurd moves
+  attributes_mean u id inside known (a ∷ olds) [] ys moves means = absurd moves
+  attributes_mean u id inside known (a ∷ olds) (b ∷ news) [] moves means = absurd means
+  attributes_mean u id inside known (a ∷ olds) (b ∷ news) (y ∷ ys) (move, moves) (mean, means) =
+      let follows : Resolves s u id a.0 (renewed move.number move.made a.1) y.1 = value_follows all u id a.0 a.1 move.number move.made y.1 inside known move.numbered mean.value in
       let by_value : Resolves s u id a.0 b.1 y.1 = subst (λ (z : Meaning). Resolves s u id a.0 z y.1) (sym move.value) follows in
-      (record { name = mean.name ∙ sym move.name; value = subst (λ (z : ℕ). Resolves s u id z b.1 y.1) (sym move.name) by_value }, attributes_mean u id inside olds news ys moves means)
+      (record { name = mean.name ∙ sym move.name; value = subst (λ (z : ℕ). Resolves s u id z b.1 y.1) (sym move.name) by_value }, attributes_mean u id inside known olds news ys moves means)
 
   -- so an entry means what it meant
   entry_means : (u id : ℕ) → u < length r.links.units → id < length (unit_at r.links u).forest.entries → (e : EntryMeaning) → MeansEntry r u id (says r.links u (entry_of (unit_at r.links u) id)) e → MeansEntry s u id (says s.links u (entry_of (unit_at s.links u) id)) e
@@ -52,7 +52,7 @@ module _ {file : List ℕ} {world : World} {tables : List NewTable} {places : Li
         depth = means.depth ∙ sym entry.depth;
         tag = means.tag ∙ sym declared.tag;
         children = means.children ∙ sym declared.children;
-        attributes = attributes_mean u id inside (says r.links u (entry_of (unit_at r.links u) id)).attributes (says s.links u (entry_of (unit_at s.links u) id)).attributes e.attributes (attributes_moved all u id inside known) means.attributes;
+        attributes = attributes_mean u id inside known (says r.links u (entry_of (unit_at r.links u) id)).attributes (says s.links u (entry_of (unit_at s.links u) id)).attributes e.attributes (attributes_moved all u id inside known) means.attributes;
       }
 
   -- UNITS

@@ -24,6 +24,7 @@ pub mod DebugSizes
 pub mod FewRows
 pub mod Final
 pub mod Following
+pub mod FoundPairs
 pub mod FrozenLists
 pub mod HeadsStay
 pub mod HeldExpressions
@@ -49,17 +50,20 @@ pub mod MovedLinks
 pub mod MovedLists
 pub mod MovedPlaces
 pub mod MovedValues
+pub mod MovedViews
 pub mod NamedOperations
 pub mod NewBodies
 pub mod NewExpressions
 pub mod OffsetSizes
 pub mod OpNumbers
+pub mod PairCounts
 pub mod PickedLists
 pub mod Placement
 pub mod PlannedLists
 pub mod Renumbers
 pub mod Rewritten
 pub mod RootsStay
+pub mod RunsAnew
 pub mod SectionSizes
 pub mod SectionsAnew
 pub mod ShortestBytes
@@ -77,6 +81,8 @@ pub mod UseLaws
 pub mod UsedDeclarations
 pub mod ValidImages
 pub mod ValuesStay
+pub mod ViewRuns
+pub mod ViewsRead
 pub mod WideExpressions
 pub mod WorldFacts
 pub mod Writables

@@ -1,7 +1,8 @@
 -- What the link of a value tells of what it means, and the new number that follows.
-use Rattle.std.proofs.Common.{◌≡◌, ◌<◌, ◌+◌, inl, inr, ℕ, List, [], ◌∷◌, length, slice_index, get_or, ◌∙◌, sym, ap, refl, subst, arith}
-use Rattle.std.specs.Prelude.{◌⊎◌, Some}
+use Rattle.std.proofs.Common.{◌≡◌, ◌<◌, ◌+◌, ◌^◌, inl, inr, ℕ, List, [], ◌∷◌, length, slice_index, get_or, ◌∙◌, sym, ap, refl, subst, arith}
+use Rattle.std.specs.Prelude.{◌⊎◌, Some, slice_index_or}
 use Rattle.std.proofs.lemmas.List.{get_or_read, get_or-map, length-map}
+use Rattle.std.proofs.lemmas.List.Elements.{All-get_or}
 use Rattle.form_codec.specs.Forms.Meaning.{InUnit, InSection, SectionPlace}
 use Rattle.entry_arena.specs.declared.entry.Target.{Target}
 use Rattle.entry_read.specs.Units.{HeadAndForest}
@@ -12,20 +13,22 @@ use Rattle.list_model.specs.Contributions.{offsets_at}
 use Rattle.list_write.specs.Written.{part_at, moved_at}
 use Rattle.unit_write.specs.declared.places.Places.{Places}
 use Rattle.value_links.specs.declared.link.Link.{Link}
-use Rattle.value_links.specs.declared.link.Link.TheVariants.{Place, Lines, List as AtList, Base, Kept as KeptPlace}
+use Rattle.value_links.specs.declared.link.Link.TheVariants.{Place, Lines, List as AtList, Base, Views as AtViews, Kept as KeptPlace}
 use Rattle.value_links.specs.Attributes.{OffsetClass, offset_class}
 use Rattle.value_links.specs.Attributes.OffsetClass.{LinePtr, RngList, LocList, RngListsPtr, LocListsPtr, AddrPtr, StrOffsetsPtr, MacPtr, Views, NoOffset}
-use Rattle.value_links.specs.Reading.{Linkable, Reading, ProgramRead, of_kind, lists_of, unit_at, list_at}
+use Rattle.value_links.specs.declared.views.ViewRead.{ViewRead as HeldViews}
+use Rattle.value_links.specs.Reading.{Linkable, Reading, ProgramRead, ViewRead, of_kind, lists_of, unit_at, list_at, view_at}
 use Rattle.value_links.specs.Linked.{Linked, IsTargetAt, IsLocalTarget, IsSectionTarget, OffsetLinks, Links}
-use Rattle.value_links.specs.Linked.Linked.{Program, ListAt, BaseOf, Kept}
+use Rattle.value_links.specs.Linked.Linked.{Program, ListAt, BaseOf, ViewsAt, Kept}
 use Rattle.value_links.specs.Links.{IsLinkOf, IsLinkFound}
 use Rattle.value_links.specs.World.{World, contributions_held, lists_held, Holds}
 use Rattle.rewriter.specs.declared.new_places.ListPlaces.{ListPlaces}
+use Rattle.rewriter.specs.declared.new_places.MovedViews.{MovedViews}
 use Rattle.rewriter.specs.declared.new_places.NewPlaces.{NewPlaces}
 use Rattle.rewriter.specs.inside.Placed.{PlacesAnew, places_anew, places_at, unit_in}
-use Rattle.rewriter.specs.inside.NewPlaces.{moved_lists, IsMovedTo, IsNewOffset, IsOffsetAnew}
+use Rattle.rewriter.specs.inside.NewPlaces.{moved_lists, IsMovedTo, moved_views_at, AreViewsMoved, IsNewOffset, IsOffsetAnew}
 use Rattle.rewriter.specs.inside.Numbers.{MovesTo}
-use Rattle.rewriter.specs.inside.Held.{HavePlaces, AllHavePlaces, AreListPlaces}
+use Rattle.rewriter.specs.inside.Held.{HavePlaces, AllHavePlaces, AreListPlaces, AreViewPlaces}
 use Rattle.rewriter.proofs.Standing.{held_unit, held_count}
 
 -- what is read of a list of units, and of their places
@@ -92,13 +95,14 @@ section_moved file world r places u n new holds inside m =
 
 -- SECTION OFFSETS
 
--- a section offset names a program, a list or a contribution of lists, or is kept
+-- a section offset names a program, a list, a contribution of lists or view pairs, or is kept
 abbrev OffsetParts : Linkable → ℕ → Linked → Type 0
 OffsetParts r n linked =
     ((p : ℕ) × (p < length r.programs) × (linked ≡ Program p))
     ⊎ (((kind : ListKind) × (linked ≡ ListAt kind n))
     ⊎ (((kind : ListKind) × (p : ℕ) × (p < length (of_kind r kind).parts) × (linked ≡ BaseOf kind p))
-    ⊎ (linked ≡ Kept n)))
+    ⊎ (((list : ℕ) × (linked ≡ ViewsAt list n))
+    ⊎ (linked ≡ Kept n))))
 
 offset_parts : (r : Linkable) (u id n : ℕ) (class : OffsetClass) (linked : Linked) → OffsetLinks r u id class n linked → OffsetParts r n linked
 offset_parts r u id n LinePtr linked (p, is, e) = inl (p, is.0, e)
@@ -106,10 +110,10 @@ offset_parts r u id n RngList linked (is, e) = inr (inl (Ranges, e))
 offset_parts r u id n LocList linked (is, e) = inr (inl (Locations, e))
 offset_parts r u id n RngListsPtr linked (p, is, e) = inr (inr (inl (Ranges, p, is.0, e)))
 offset_parts r u id n LocListsPtr linked (p, is, e) = inr (inr (inl (Locations, p, is.0, e)))
-offset_parts r u id n AddrPtr linked (is, e) = inr (inr (inr e))
-offset_parts r u id n StrOffsetsPtr linked links = inr (inr (inr links))
-offset_parts r u id n MacPtr linked links = inr (inr (inr links))
-offset_parts r u id n Views linked links = absurd links
+offset_parts r u id n AddrPtr linked (is, e) = inr (inr (inr (inr e)))
+offset_parts r u id n StrOffsetsPtr linked links = inr (inr (inr (inr links)))
+offset_parts r u id n MacPtr linked links = inr (inr (inr (inr links)))
+offset_parts r u id n Views linked (list, first, together, e) = inr (inr (inr (inl (list, e))))
 offset_parts r u id n NoOffset linked links = absurd links
 
 -- the same, with the link that tells it
@@ -118,7 +122,8 @@ OffsetFound r n link linked =
     ((p : ℕ) × (p < length r.programs) × (linked ≡ Program p) × (link ≡ Lines p))
     ⊎ (((kind : ListKind) × (linked ≡ ListAt kind n) × (link ≡ AtList kind n))
     ⊎ (((kind : ListKind) × (p : ℕ) × (p < length (of_kind r kind).parts) × (linked ≡ BaseOf kind p) × (link ≡ Base kind p))
-    ⊎ ((linked ≡ Kept n) × (link ≡ KeptPlace n))))
+    ⊎ (((list : ℕ) × (linked ≡ ViewsAt list n) × (link ≡ AtViews list n))
+    ⊎ ((linked ≡ Kept n) × (link ≡ KeptPlace n)))))
 
 offset_found : (r : Linkable) (u id name n : ℕ) (link : Link) (found : IsLinkFound r u id name (SectionPlace n) (Some link)) → OffsetFound r n link found.0
 offset_found r u id name n link (linked, links, tells) =
@@ -126,16 +131,18 @@ offset_found r u id name n link (linked, links, tells) =
       | inl (p, inside, is) ↦ inl (p, inside, is, subst (λ (z : Linked). IsLinkOf z link) is tells)
       | inr (inl (kind, is)) ↦ inr (inl (kind, is, subst (λ (z : Linked). IsLinkOf z link) is tells))
       | inr (inr (inl (kind, p, inside, is))) ↦ inr (inr (inl (kind, p, inside, is, subst (λ (z : Linked). IsLinkOf z link) is tells)))
-      | inr (inr (inr is)) ↦ inr (inr (inr (is, subst (λ (z : Linked). IsLinkOf z link) is tells)))
+      | inr (inr (inr (inl (list, is)))) ↦ inr (inr (inr (inl (list, is, subst (λ (z : Linked). IsLinkOf z link) is tells))))
+      | inr (inr (inr (inr is))) ↦ inr (inr (inr (inr (is, subst (λ (z : Linked). IsLinkOf z link) is tells))))
     ]
 
-pub offset_link : (r : Linkable) (u id name n : ℕ) (link : Link) → IsLinkFound r u id name (SectionPlace n) (Some link) → ((p : ℕ) → link ≡ Lines p → ⊥) → ((kind : ListKind) (m : ℕ) → link ≡ AtList kind m → ⊥) → ((kind : ListKind) (p : ℕ) → link ≡ Base kind p → ⊥) → ((m : ℕ) → link ≡ KeptPlace m → ⊥) → ⊥
-offset_link r u id name n link found no_lines no_list no_base no_place =
+pub offset_link : (r : Linkable) (u id name n : ℕ) (link : Link) → IsLinkFound r u id name (SectionPlace n) (Some link) → ((p : ℕ) → link ≡ Lines p → ⊥) → ((kind : ListKind) (m : ℕ) → link ≡ AtList kind m → ⊥) → ((kind : ListKind) (p : ℕ) → link ≡ Base kind p → ⊥) → ((list m : ℕ) → link ≡ AtViews list m → ⊥) → ((m : ℕ) → link ≡ KeptPlace m → ⊥) → ⊥
+offset_link r u id name n link found no_lines no_list no_base no_views no_place =
     elim (offset_found r u id name n link found) [
       | inl (p, inside, is, lines) ↦ no_lines p lines
       | inr (inl (kind, is, list)) ↦ no_list kind n list
       | inr (inr (inl (kind, p, inside, is, base))) ↦ no_base kind p base
-      | inr (inr (inr (is, kept))) ↦ no_place n kept
+      | inr (inr (inr (inl (list, is, views)))) ↦ no_views list n views
+      | inr (inr (inr (inr (is, kept)))) ↦ no_place n kept
     ]
 
 -- what each link tells
@@ -145,7 +152,8 @@ lines_tell r u id name n p found =
       | inl (q, inside, is, lines) ↦ (let same : q ≡ p = cc in (subst (λ (z : ℕ). z < length r.programs) same inside, is ∙ ap (λ (z : ℕ). Program z) same))
       | inr (inl (k, is, list)) ↦ absurd (cc)
       | inr (inr (inl (k, q, inside, is, base))) ↦ absurd (cc)
-      | inr (inr (inr (is, kept))) ↦ absurd (cc)
+      | inr (inr (inr (inl (l, is, views)))) ↦ absurd (cc)
+      | inr (inr (inr (inr (is, kept)))) ↦ absurd (cc)
     ]
 
 list_tells : (r : Linkable) (u id name n m : ℕ) (kind : ListKind) (found : IsLinkFound r u id name (SectionPlace n) (Some (AtList kind m))) → found.0 ≡ ListAt kind n
@@ -154,7 +162,8 @@ list_tells r u id name n m kind found =
       | inl (q, inside, is, lines) ↦ absurd (cc)
       | inr (inl (k, is, list)) ↦ (let same : k ≡ kind = cc in is ∙ ap (λ (z : ListKind). ListAt z n) same)
       | inr (inr (inl (k, q, inside, is, base))) ↦ absurd (cc)
-      | inr (inr (inr (is, kept))) ↦ absurd (cc)
+      | inr (inr (inr (inl (l, is, views)))) ↦ absurd (cc)
+      | inr (inr (inr (inr (is, kept)))) ↦ absurd (cc)
     ]
 
 base_tells : (r : Linkable) (u id name n p : ℕ) (kind : ListKind) (found : IsLinkFound r u id name (SectionPlace n) (Some (Base kind p))) → (p < length (of_kind r kind).parts) × (found.0 ≡ BaseOf kind p)
@@ -167,7 +176,8 @@ base_tells r u id name n p kind found =
           let same : q ≡ p = cc in
           let own : q < length (of_kind r kind).parts = subst (λ (z : ListKind). q < length (of_kind r z).parts) of inside in
           (subst (λ (z : ℕ). z < length (of_kind r kind).parts) same own, is ∙ ap (λ (z : ListKind). BaseOf z q) of ∙ ap (λ (z : ℕ). BaseOf kind z) same)
-      | inr (inr (inr (is, kept))) ↦ absurd (cc)
+      | inr (inr (inr (inl (l, is, views)))) ↦ absurd (cc)
+      | inr (inr (inr (inr (is, kept)))) ↦ absurd (cc)
     ]
 
 kept_tells : (r : Linkable) (u id name n m : ℕ) (found : IsLinkFound r u id name (SectionPlace n) (Some (KeptPlace m))) → found.0 ≡ Kept n
@@ -176,7 +186,21 @@ kept_tells r u id name n m found =
       | inl (q, inside, is, lines) ↦ absurd (cc)
       | inr (inl (k, is, list)) ↦ absurd (cc)
       | inr (inr (inl (k, q, inside, is, base))) ↦ absurd (cc)
-      | inr (inr (inr (is, kept))) ↦ is
+      | inr (inr (inr (inl (l, is, views)))) ↦ absurd (cc)
+      | inr (inr (inr (inr (is, kept)))) ↦ is
+    ]
+
+views_tell : (r : Linkable) (u id name n list m : ℕ) (found : IsLinkFound r u id name (SectionPlace n) (Some (AtViews list m))) → found.0 ≡ ViewsAt list m
+views_tell r u id name n list m found =
+    elim (offset_found r u id name n (AtViews list m) found) [
+      | inl (q, inside, is, lines) ↦ absurd (cc)
+      | inr (inl (k, is, at)) ↦ absurd (cc)
+      | inr (inr (inl (k, q, inside, is, base))) ↦ absurd (cc)
+      | inr (inr (inr (inl (l, is, views)))) ↦
+          let same : l ≡ list = cc in
+          let place : n ≡ m = cc in
+          is ∙ ap (λ (z : ℕ). ViewsAt z n) same ∙ ap (λ (z : ℕ). ViewsAt list z) place
+      | inr (inr (inr (inr (is, kept)))) ↦ absurd (cc)
     ]
 
 pub lines_inside : (r : Linkable) (u id name n p : ℕ) → IsLinkFound r u id name (SectionPlace n) (Some (Lines p)) → p < length r.programs
@@ -187,6 +211,9 @@ base_inside r u id name n p kind found = (base_tells r u id name n p kind found)
 
 pub list_links : (r : Linkable) (u id name n m : ℕ) (kind : ListKind) → IsLinkFound r u id name (SectionPlace n) (Some (AtList kind m)) → Links r u id name (SectionPlace n) (ListAt kind n)
 list_links r u id name n m kind found = subst (λ (z : Linked). Links r u id name (SectionPlace n) z) (list_tells r u id name n m kind found) found.1
+
+pub views_link : (r : Linkable) (u id name n list m : ℕ) → IsLinkFound r u id name (SectionPlace n) (Some (AtViews list m)) → Links r u id name (SectionPlace n) (ViewsAt list m)
+views_link r u id name n list m found = subst (λ (z : Linked). Links r u id name (SectionPlace n) z) (views_tell r u id name n list m found) found.1
 
 pub held_programs : (file : List ℕ) (world : World) (r : Reading) → Holds file world r → length world.programs ≡ length r.links.programs
 held_programs file world r holds = ap length holds.programs ∙ length-map r.links.programs (λ (p : ProgramRead). p.head)
@@ -199,6 +226,10 @@ pub some_of : {X : Type 0} (xs : List X) (k : ℕ) → k < length xs → X
 some_of [] k inside = absurd (omega arith)
 some_of (x ∷ xs) k inside = x
 
+-- view pairs that are held, as they are read
+abbrev pub view_read : HeldViews → ViewRead
+view_read run = record { list = run.list; at = run.at; pairs = run.pairs.items }
+
 -- a list that is read began where it was moved from
 pub held_list : (file : List ℕ) (world : World) (r : Reading) (kind : ListKind) (places : ListPlaces) (k : ℕ) → Holds file world r → AreListPlaces world kind places → k < length (lists_of r kind) → (k < length places.lists.items) × ((moved_at places.lists.items k).old ≡ (list_at (lists_of r kind) k).at)
 held_list file world r kind places k holds are inside =
@@ -207,6 +238,31 @@ held_list file world r kind places k holds are inside =
     let held : k < length (lists_held world kind) = omega arith in
     let some = some_of (lists_held world kind) k held in
     (omega arith, are.from k some held ∙ ((holds.lists kind).each k some inside).at)
+
+-- view pairs that are read have a new place
+pub held_run : (file : List ℕ) (world : World) (r : Reading) (moved : List MovedViews) (k list at : ℕ) → Holds file world r → AreViewPlaces world moved → k < length r.views → (view_at r.views k).list ≡ list → (view_at r.views k).at ≡ at → (new : ℕ) × AreViewsMoved moved list at new
+held_run file world r moved k list at holds are inside with here =
+    let none : ViewRead = record { list = 0; at = 0; pairs = [] } in
+    let count : length r.views ≡ length world.views = ap length holds.views ∙ length-map world.views view_read in
+    let held : k < length world.views = subst (λ (z : ℕ). k < z) count inside in
+    let some = some_of world.views k held in
+    let is : view_at r.views k ≡ view_read (slice_index_or world.views k some) = ap (λ (z : List ViewRead). slice_index_or z k none) holds.views ∙ get_or-map view_read world.views k some none held in
+    let size : length moved ≡ length world.views = are.count in
+    let (lists, places) = are.each k some held in (
+      (moved_views_at moved k).new,
+      record {
+        number = k;
+        inside = omega arith;
+        with = lists ∙ sym (ap (λ (z : ViewRead). z.list) is) ∙ with;
+        from = places ∙ sym (ap (λ (z : ViewRead). z.at) is) ∙ here;
+        to = refl;
+      },
+    )
+
+-- it fits 32 bits
+pub run_fits : (world : World) (moved : List MovedViews) (list at new : ℕ) → AreViewPlaces world moved → AreViewsMoved moved list at new → new < 2 ^ 32
+run_fits world moved list at new are is =
+    subst (λ (z : ℕ). z < 2 ^ 32) is.to (All-get_or (λ (views : MovedViews). views.new < 2 ^ 32) moved is.number (record { list = 0; old = 0; new = 0 }) is.inside are.fit)
 
 -- a contribution that a section offset names is at its new place
 pub part_there : (file : List ℕ) (world : World) (r : Reading) (kind : ListKind) (places : ListPlaces) (u id name n p : ℕ) → Holds file world r → AreListPlaces world kind places → IsLinkFound r.links u id name (SectionPlace n) (Some (Base kind p)) → p < length places.parts.items
@@ -231,6 +287,9 @@ new_list r u id name n m kind places new moved found = new_offset r u id name n 
 
 pub new_base : (r : Linkable) (u id name n p : ℕ) (kind : ListKind) (places : NewPlaces) (new : ℕ) → p < length (moved_lists places kind).parts.items → new ≡ offsets_at (part_at (moved_lists places kind).parts.items p).at → IsLinkFound r u id name (SectionPlace n) (Some (Base kind p)) → IsOffsetAnew r places u id name n new
 new_base r u id name n p kind places new inside here found = new_offset r u id name n (Base kind p) places new (BaseOf kind p) found (base_tells r u id name n p kind found).1 (inside, here)
+
+pub new_views : (r : Linkable) (u id name n list m : ℕ) (places : NewPlaces) (new : ℕ) → AreViewsMoved places.views.items list m new → IsLinkFound r u id name (SectionPlace n) (Some (AtViews list m)) → IsOffsetAnew r places u id name n new
+new_views r u id name n list m places new moved found = new_offset r u id name n (AtViews list m) places new (ViewsAt list m) found (views_tell r u id name n list m found) moved
 
 pub new_kept : (r : Linkable) (u id name n m : ℕ) (places : NewPlaces) → IsLinkFound r u id name (SectionPlace n) (Some (KeptPlace m)) → IsOffsetAnew r places u id name n n
 new_kept r u id name n m places found = new_offset r u id name n (KeptPlace m) places n (Kept n) found (kept_tells r u id name n m found) refl

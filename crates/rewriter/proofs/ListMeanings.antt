@@ -1,17 +1,19 @@
 -- The lists of a file that is written anew are read, and mean what the old ones mean.
-use Rattle.std.proofs.Common.{◌≡◌, ◌<◌, ◌∙◌, ℕ, List, [], length, get_or, sym, ap, subst, refl, arith}
-use Rattle.std.specs.Prelude.{Option, Some, None}
+use Rattle.std.proofs.Common.{◌≡◌, ◌<◌, ◌∙◌, ℕ, List, [], length, get_or, sym, ap, subst, refl}
+use Rattle.std.specs.Prelude.{Option, Some, None, slice_index}
 use Rattle.std.specs.List.{AllZip, Contains}
 use Rattle.std.proofs.lemmas.List.{get_or_default}
+use Rattle.std.proofs.lemmas.List.Elements.{Contains-get_or}
 use Rattle.form_codec.specs.Forms.{Meaning}
 use Rattle.list_model.specs.declared.entry.ListKind.{ListKind}
 use Rattle.list_model.specs.Entries.{Entry, AreSaid}
 use Rattle.unit_write.specs.declared.places.Places.{Places}
 use Rattle.unit_write.specs.Values.{renewed}
-use Rattle.value_links.specs.Reading.{ListRead, Reading, of_kind, lists_of}
+use Rattle.loc_lists.specs.declared.views.ViewPair.{ViewPair}
+use Rattle.value_links.specs.Reading.{ListRead, ViewRead, Reading, of_kind, lists_of, unit_at, view_at}
 use Rattle.value_links.specs.ListPlaces.{SlotNames}
 use Rattle.value_links.specs.Linked.{Linked, IsLinked}
-use Rattle.value_links.specs.Linked.Linked.{Itself, Operates, Refers, Program, ListAt, SlotAt, BaseOf, Kept}
+use Rattle.value_links.specs.Linked.Linked.{Itself, Operates, Refers, Program, ListAt, SlotAt, BaseOf, ViewsAt, Kept}
 use Rattle.value_links.specs.Operations.{LinksExpression}
 use Rattle.value_links.specs.Lists.{IsNamedIn, IsOwner, AreLookedUp, AreListsOf, owner_unit, expressions_at}
 use Rattle.value_links.specs.Resolved.{Content, ListMeaning, MeansContent, MeansList, Resolved, ResolvesLink, Resolves}
@@ -24,10 +26,14 @@ use Rattle.rewriter.specs.declared.new_places.NewPlaces.{NewPlaces}
 use Rattle.rewriter.specs.inside.Numbers.{IsNewValue}
 use Rattle.rewriter.specs.inside.Follows.{AreReadAnew}
 use Rattle.rewriter.proofs.MovedLists.{IsLinkMoved, old_at, new_at, new_inside, old_inside, old_once, moved_from, slot_stays, slot_inside, slot_named}
+use Rattle.rewriter.proofs.MovedViews.{new_run, run_moves}
 use Rattle.rewriter.proofs.MovedLinks.{link_follows}
 use Rattle.rewriter.proofs.ListNames.{value_links, was_named, name_stays, name_came, owner_stays}
 use Rattle.rewriter.proofs.FrozenLists.{old_list, new_list, anew, gives_stay, frozen_entries, frozen_stays, was_frozen, new_gives}
 use Rattle.rewriter.proofs.ListExpressionsAnew.{expressions_mean, expressions_read, expressions_plain}
+
+abbrev no_run : ViewRead
+no_run = record { list = 0; at = 0; pairs = [] }
 
 abbrev no_list : ListRead
 no_list = record { at = 0; part = 0; raws = [] }
@@ -162,6 +168,16 @@ module _ {file : List ℕ} {world : World} {tables : List NewTable} {places : Li
   same_link : (linked now : Linked) (v : Resolved) → now ≡ linked → ResolvesLink s linked v → ResolvesLink s now v
   same_link linked now v e means = subst (λ (z : Linked). ResolvesLink s z v) (sym e) means
 
+  -- view pairs of the file are among the new ones
+  old_run_at : (run : ViewRead) → Contains r.views run → (k : ℕ) × (k < length r.views) × (run ≡ view_at r.views k)
+  old_run_at run (k, inside, is) = (k, inside, sym (get_or_default r.views k no_run run inside ∙ is))
+
+  new_among : (k : ℕ) (pairs : List ViewPair) → k < length r.views → pairs ≡ (view_at r.views k).pairs → Contains s.views (record { list = (new_run all k).list; at = (new_run all k).at; pairs = pairs })
+  new_among k pairs inside same =
+      let here : Contains s.views (new_run all k) = Contains-get_or s.views (slice_index all.views.numbers k) no_run (all.views.inside k inside) in
+      let own : (new_run all k).pairs ≡ pairs = (all.views.each k inside).pairs ∙ sym same in
+      subst (λ (z : List ViewPair). Contains s.views (record { list = (new_run all k).list; at = (new_run all k).at; pairs = z })) own here
+
   -- what a value refers to means what it meant
   link_means : (linked now : Linked) (v : Resolved) → IsLinkMoved new_places linked now → ResolvesLink r linked v → ResolvesLink s now v
   link_means (ListAt kind n) now v (m, moves, e) (meaning, means, is) =
@@ -176,9 +192,14 @@ module _ {file : List ℕ} {world : World} {tables : List NewTable} {places : Li
   link_means (Refers unit target) now v e means = same_link (Refers unit target) now v e means
   link_means (Program p) now v e means = same_link (Program p) now v e means
   link_means (BaseOf kind p) now v e means = same_link (BaseOf kind p) now v e means
+  link_means (ViewsAt list n) now v moves (pairs, among, is) =
+      let run : ViewRead = record { list = list; at = n; pairs = pairs } in
+      let (k, inside, same) = old_run_at run among in
+      let moved = subst (λ (z : ViewRead). IsLinkMoved new_places (ViewsAt z.list z.at) now) same moves in
+      same_link (ViewsAt (new_run all k).list (new_run all k).at) now v (run_moves all k now inside moved) (pairs, new_among k pairs inside (ap (λ (z : ViewRead). z.pairs) same), is)
   link_means (Kept n) now v e means = same_link (Kept n) now v e means
 
-  pub value_follows : (u id name : ℕ) (meaning : Meaning) (new : ℕ) (made : List ℕ) (v : Resolved) → u < length r.links.units → IsNewValue r.links places new_places u id name meaning new made → Resolves r u id name meaning v → Resolves s u id name (renewed new made meaning) v
-  value_follows u id name meaning new made v inside is means =
-      let (now, moves, links) = link_follows all u id name meaning new made means.linked inside is means.links in
+  pub value_follows : (u id name : ℕ) (meaning : Meaning) (new : ℕ) (made : List ℕ) (v : Resolved) → u < length r.links.units → id < length (unit_at r.links u).forest.entries → IsNewValue r.links places new_places u id name meaning new made → Resolves r u id name meaning v → Resolves s u id name (renewed new made meaning) v
+  value_follows u id name meaning new made v inside known is means =
+      let (now, moves, links) = link_follows all u id name meaning new made means.linked inside known is means.links in
       record { linked = now; links = links; resolves = link_means means.linked now v moves means.resolves }

@@ -1,15 +1,15 @@
 -- What names a list of a file names it in the file that is written anew.
-use Rattle.std.proofs.Common.{◌≡◌, ◌<◌, ◌∙◌, inl, inr, ℕ, List, length, sym, ap, subst, refl}
+use Rattle.std.proofs.Common.{◌≡◌, ◌<◌, ◌∙◌, inl, inr, ℕ, List, length, sym, ap, subst}
 use Rattle.std.specs.Prelude.{Option, Some, None, slice_index_or}
 use Rattle.form_codec.specs.Forms.{Meaning}
 use Rattle.list_model.specs.declared.context.Context.{Context}
 use Rattle.list_model.specs.declared.entry.ListKind.{ListKind}
 use Rattle.unit_write.specs.declared.places.Places.{Places}
 use Rattle.unit_write.specs.Values.{renewed}
-use Rattle.value_links.specs.Reading.{Reading, lists_of, no_context, context_at}
+use Rattle.value_links.specs.Reading.{Reading, lists_of, no_context, context_at, unit_at, view_at}
 use Rattle.value_links.specs.Linked.{Linked, Links, IsLinked}
-use Rattle.value_links.specs.Linked.Linked.{Itself, Operates, Refers, Program, ListAt, SlotAt, BaseOf, Kept}
-use Rattle.value_links.specs.Lists.{LinkNames, IsNamedIn, IsNamedBySlot, IsNamed, IsUnowned, IsOwner, IsOfTwoUnits, IsShared}
+use Rattle.value_links.specs.Linked.Linked.{Itself, Operates, Refers, Program, ListAt, SlotAt, BaseOf, ViewsAt, Kept}
+use Rattle.value_links.specs.Lists.{LinkNames, IsNamedIn, IsNamedBySlot, IsNamed, IsUnowned, IsOwner, IsOfTwoUnits, IsShared, AreViewsNamed}
 use Rattle.value_links.specs.World.{World}
 use Rattle.rewriter.specs.declared.tables.NewTable.{NewTable}
 use Rattle.rewriter.specs.declared.new_places.NewPlaces.{NewPlaces}
@@ -17,7 +17,9 @@ use Rattle.rewriter.specs.inside.NewPlaces.{moved_lists, IsMovedTo}
 use Rattle.rewriter.specs.inside.Follows.{AreReadAnew}
 use Rattle.rewriter.proofs.ValuesStay.{value_went, value_came}
 use Rattle.rewriter.proofs.MovedLists.{IsLinkMoved, old_at, new_at, new_once, moved_from, slot_stays, slot_came}
-use Rattle.rewriter.proofs.MovedLinks.{link_follows, link_came}
+use Rattle.rewriter.proofs.MovedEntries.{entries_count}
+use Rattle.rewriter.proofs.MovedViews.{new_run, run_moves}
+use Rattle.rewriter.proofs.MovedLinks.{link_follows, link_came, views_came}
 
 module _ {file : List ℕ} {world : World} {tables : List NewTable} {places : List Places} {new_places : NewPlaces} {info abbrevs : List ℕ} {r s : Reading} (all : AreReadAnew file world tables places new_places info abbrevs r s) where
   -- VALUES
@@ -29,8 +31,32 @@ module _ {file : List ℕ} {world : World} {tables : List NewTable} {places : Li
   pub value_links : (u number : ℕ) (linked : Linked) → u < length r.links.units → IsLinked r.links u number linked → (now : Linked) × IsLinkMoved new_places linked now × IsLinked s.links u number now
   value_links u number linked inside is =
       let (new, place, stands, moves) = value_went all u is.id number is.name is.meaning is.place inside is.stands in
-      let (now, follows, links) = link_follows all u is.id is.name is.meaning moves.held moves.made linked inside moves.numbered is.links in
+      let (now, follows, links) = link_follows all u is.id is.name is.meaning moves.held moves.made linked inside is.stands.known moves.numbered is.links in
       (now, follows, record { id = is.id; name = is.name; meaning = new; place = place; stands = stands; links = subst (λ (z : Meaning). Links s.links u is.id is.name z now) (sym moves.value) links })
+
+  -- VIEW PAIRS
+
+  -- a value that named view pairs names them
+  pub view_value_stays : (u number k : ℕ) → u < length r.links.units → k < length r.views → IsLinked r.links u number (ViewsAt (view_at r.views k).list (view_at r.views k).at) → IsLinked s.links u number (ViewsAt (new_run all k).list (new_run all k).at)
+  view_value_stays u number k inside known is =
+      let (now, moves, links) = value_links u number (ViewsAt (view_at r.views k).list (view_at r.views k).at) inside is in
+      subst (IsLinked s.links u number) (run_moves all k now known moves) links
+
+  -- something names them
+  pub views_named_stay : (k : ℕ) → k < length r.views → AreViewsNamed s.links (new_run all k).list (new_run all k).at
+  views_named_stay k known =
+      let (u, number, inside, is) = (all.read.views.each k known).named in
+      (u, number, subst (λ (z : ℕ). u < z) (sym all.units.count) inside, view_value_stays u number k inside known is)
+
+  -- and nothing names others
+  pub views_named_came : (list at : ℕ) → AreViewsNamed s.links list at → (k : ℕ) × (k < length r.views) × (list ≡ (new_run all k).list) × (at ≡ (new_run all k).at)
+  views_named_came list at (u, number, now, l) =
+      let inside : u < length r.links.units = unit_inside u now in
+      let known : l.id < length (unit_at r.links u).forest.entries = subst (λ (z : ℕ). l.id < z) (sym (entries_count all u inside)) l.stands.known in
+      let (old, was, stands, moves) = value_came all u l.id number l.name l.meaning l.place inside l.stands in
+      let links : Links s.links u l.id l.name (renewed moves.held moves.made old) (ViewsAt list at) = subst (λ (z : Meaning). Links s.links u l.id l.name z (ViewsAt list at)) moves.value l.links in
+      let (k, named) = views_came all u l.id l.name old moves.held moves.made list at inside known moves.numbered links in
+      (k, named.inside, named.with, named.here)
 
   -- contexts are kept
   pub same_context : (u : ℕ) → context_at s.links u ≡ context_at r.links u
@@ -49,6 +75,7 @@ module _ {file : List ℕ} {world : World} {tables : List NewTable} {places : Li
   names_follow k (Refers unit target) now inside e names = absurd names
   names_follow k (Program p) now inside e names = absurd names
   names_follow k (BaseOf of p) now inside e names = absurd names
+  names_follow k (ViewsAt list n) now inside e names = absurd names
   names_follow k (Kept n) now inside e names = absurd names
 
   -- LISTS

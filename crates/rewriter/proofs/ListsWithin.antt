@@ -18,10 +18,11 @@ use Rattle.list_model.specs.Contributions.{part_end, bytes_from}
 use Rattle.list_model.specs.Entries.{code_of, Entry}
 use Rattle.list_model.specs.Reading.{AreReadFrom}
 use Rattle.range_lists.specs.Ranges.{IsRead as IsRangeRead}
+use Rattle.loc_lists.specs.Views.{view_limit}
 use Rattle.loc_lists.specs.Locations.{IsRead as IsLocationRead, IsExpressionSpan, is_item, items_among, bytes_in, expressions_of}
 use Rattle.unit_write.specs.declared.places.Places.{Places}
 use Rattle.value_links.specs.Reading.{ListRead, Reading, of_kind, lists_of, part_at}
-use Rattle.value_links.specs.Lists.{IsListOf, expressions_in, expressions_at, owner_unit}
+use Rattle.value_links.specs.Lists.{IsListOf, expressions_in, expressions_at, owner_unit, pair_total}
 use Rattle.value_links.specs.ListFaults.{list_total, entry_total, expression_bytes}
 use Rattle.value_links.specs.Laws.{AreListsWithin}
 use Rattle.value_links.specs.World.{World}
@@ -33,6 +34,7 @@ use Rattle.rewriter.proofs.Zips.{zip_thrice, sum_twice, sum_thrice}
 use Rattle.rewriter.proofs.MovedExpressions.{made_thrice}
 use Rattle.rewriter.proofs.FrozenLists.{old_list, new_list, anew}
 use Rattle.rewriter.proofs.ListExpressionsAnew.{expressions_wide}
+use Rattle.rewriter.proofs.ViewsRead.{pairs_few}
 
 -- THE BYTES OF EXPRESSIONS
 
@@ -148,8 +150,8 @@ module _ {file : List ℕ} {world : World} {tables : List NewTable} {places : Li
   entries_twice kind = sum_twice no_list (λ (list : ListRead). length list.raws) (lists_of r kind) (lists_of s kind) (all.lists kind).count (λ k inside. (anew all kind k inside).few)
 
   -- so all keep the wide limits
-  pub lists_within : entry_total r.range_lists + entry_total r.location_lists ≤ 2 ^ 24 → list_total expression_bytes r.range_lists + list_total expression_bytes r.location_lists ≤ 2 ^ 27 → AreListsWithin s Wide
-  lists_within few short =
+  pub lists_within : entry_total r.range_lists + entry_total r.location_lists ≤ 2 ^ 24 → list_total expression_bytes r.range_lists + list_total expression_bytes r.location_lists ≤ 2 ^ 27 → pair_total r.views ≤ view_limit → AreListsWithin s Wide
+  lists_within few short few_views =
       let ranges : entry_total s.range_lists ≤ 2 * entry_total r.range_lists = entries_twice Ranges in
       let locations : entry_total s.location_lists ≤ 2 * entry_total r.location_lists = entries_twice Locations in
       let range_bytes : list_total expression_bytes s.range_lists ≤ 3 * list_total expression_bytes r.range_lists = bytes_thrice Ranges in
@@ -158,4 +160,5 @@ module _ {file : List ℕ} {world : World} {tables : List NewTable} {places : Li
         entries = omega (arith, ranges, locations, few);
         bytes = omega (arith, range_bytes, location_bytes, short);
         expressions = expressions_wide all;
+        views = (let pairs = pairs_few all in omega (arith, pairs, few_views));
       }

@@ -26,10 +26,10 @@ use Rattle.entry_read.proofs.Declarations.{columns_inside, count_same, declared_
 use Rattle.entry_read.proofs.OwnerLaws.{values_belong}
 use Rattle.value_links.specs.Sections.{debug_info, debug_abbrev}
 use Rattle.list_model.specs.declared.entry.ListKind.{ListKind}
-use Rattle.value_links.specs.Reading.{UnitRead, ListRead, Reading, lists_of, no_unit, declarations, unit_at, list_at, IsUnitRead}
+use Rattle.value_links.specs.Reading.{UnitRead, ListRead, ViewRead, Reading, lists_of, no_unit, declarations, unit_at, list_at, view_at, IsUnitRead}
 use Rattle.value_links.specs.Whole.{IsReading}
 use Rattle.value_links.specs.Linked.{Linked, Links}
-use Rattle.value_links.specs.Linked.Linked.{ListAt}
+use Rattle.value_links.specs.Linked.Linked.{ListAt, ViewsAt}
 use Rattle.value_links.specs.Resolved.{Resolved, ResolvesLink, Resolves}
 use Rattle.value_links.specs.Debug.{EntryMeaning, UnitMeaning, described, MeansAttribute, MeansEntry, MeansType, MeansUnit}
 use Rattle.value_links.specs.World.{World, head_and_forest, IsWorldOf}
@@ -157,6 +157,12 @@ list_read r kind n v (meaning, means, e) =
     let (k, inside, is) = means.one in
     (k, inside, ap (λ (l : ListRead). l.at) (get_or_default (lists_of r kind) k (record { at = 0; part = 0; raws = [] }) means.list inside ∙ is) ∙ means.here)
 
+-- and so are view pairs
+views_read : (r : Reading) (list n : ℕ) (v : Resolved) → ResolvesLink r (ViewsAt list n) v → (k : ℕ) × (k < length r.views) × ((view_at r.views k).list ≡ list) × ((view_at r.views k).at ≡ n)
+views_read r list n v (pairs, (k, inside, is), e) =
+    let here : view_at r.views k ≡ record { list = list; at = n; pairs = pairs } = get_or_default r.views k (record { list = 0; at = 0; pairs = [] }) (record { list = list; at = n; pairs = pairs }) inside ∙ is in
+    (k, inside, ap (λ (z : ViewRead). z.list) here, ap (λ (z : ViewRead). z.at) here)
+
 -- a value means what that means to which it refers
 means_it : (file : List ℕ) (r : Reading) (u id name : ℕ) (meaning : Meaning) (v : Resolved) (linked : Linked) → IsReading file r → u < length r.links.units → Resolves r u id name meaning v → Links r.links u id name meaning linked → ResolvesLink r linked v
 means_it file r u id name meaning v linked read inside means links =
@@ -171,7 +177,7 @@ record EntryIn (world : World) (u id : ℕ) (h : HeadAndForest) (t : Listing) : 
   pub counted : (entry_at h.forest.entries id).count ≡ (decl_at t.decls (entry_at h.forest.entries id).decl).count
   pub columns : (decl_at t.decls (entry_at h.forest.entries id).decl).first + (entry_at h.forest.entries id).count ≤ length t.specs
   pub values : (entry_at h.forest.entries id).first + (entry_at h.forest.entries id).count ≤ length h.forest.values
-  pub means : (column : ℕ) → column < (entry_at h.forest.entries id).count → MeansSomething world u (spec_at t.specs ((decl_at t.decls (entry_at h.forest.entries id).decl).first + column)).name (value_at h.forest.values ((entry_at h.forest.entries id).first + column))
+  pub means : (column : ℕ) → column < (entry_at h.forest.entries id).count → MeansSomething world u id (spec_at t.specs ((decl_at t.decls (entry_at h.forest.entries id).decl).first + column)).name (value_at h.forest.values ((entry_at h.forest.entries id).first + column))
 
 module _ (world : World) (u : ℕ) (reach : Reach) (is : IsWorldOf world.image reach world) (known : u < length world.units) where
   inside_read : u < length is.r.links.units
@@ -201,7 +207,7 @@ module _ (world : World) (u : ℕ) (reach : Reach) (is : IsWorldOf world.image r
     values = (owners (debug_info world.image) (debug_abbrev world.image) (unit_at is.r.links u) unit_is).inside id inside;
     means = λ column below.
         let m = attribute_means (debug_info world.image) (debug_abbrev world.image) is.r u id column (slice_index_or is.debug.units u (record { unit_type = 0; signature = 0; type_entry = None; forest = [] })) unit_is means_unit inside below in
-        record { file = world.image; r = is.r; holds = is.holds; id = id; linked = m.1.linked; links = m.1.links; listed = λ kind n links. list_read is.r kind n m.0 (means_it world.image is.r u id _ _ m.0 (ListAt kind n) is.read inside_read m.1 links); fits = offset_fits (debug_info world.image) (debug_abbrev world.image) (unit_at is.r.links u) unit_is id inside column below };
+        record { file = world.image; r = is.r; holds = is.holds; linked = m.1.linked; links = m.1.links; listed = λ kind n links. list_read is.r kind n m.0 (means_it world.image is.r u id _ _ m.0 (ListAt kind n) is.read inside_read m.1 links); viewed = λ list n links. views_read is.r list n m.0 (means_it world.image is.r u id _ _ m.0 (ViewsAt list n) is.read inside_read m.1 links); fits = offset_fits (debug_info world.image) (debug_abbrev world.image) (unit_at is.r.links u) unit_is id inside column below };
   }
 
   pub unit_means : UnitMeans world u

@@ -1,4 +1,4 @@
--- What a value refers to, the new value refers to, where a list is at its new place.
+-- What a value refers to, the new value refers to, where a list and view pairs are at their new places.
 use Rattle.std.proofs.Common.{◌≡◌, ◌<◌, ◌+◌, ◌∙◌, ℕ, List, length, sym, ap, subst, refl}
 use Rattle.std.specs.Prelude.{slice_index}
 use Rattle.form_codec.specs.Forms.{Meaning}
@@ -13,7 +13,7 @@ use Rattle.value_links.specs.Attributes.OffsetClass.{LinePtr, RngList, LocList, 
 use Rattle.value_links.specs.Reading.{Linkable, Reading, of_kind, lists_of, unit_at, program_at}
 use Rattle.value_links.specs.ListPlaces.{IsListPlace, IsOffsetsAt}
 use Rattle.value_links.specs.Linked.{Linked, IsTargetAt, IsListAt, IsAddressesAt, OffsetLinks, IndexLinks, Links}
-use Rattle.value_links.specs.Linked.Linked.{Itself, Operates, Refers, Program, ListAt, SlotAt, BaseOf, Kept}
+use Rattle.value_links.specs.Linked.Linked.{Itself, Operates, Refers, Program, ListAt, SlotAt, BaseOf, ViewsAt, Kept}
 use Rattle.value_links.specs.Lists.{LinkNames}
 use Rattle.value_links.specs.World.{World}
 use Rattle.value_links.proofs.LinkedOnce.{linked_once}
@@ -29,6 +29,7 @@ use Rattle.rewriter.proofs.MovedEntries.{moved}
 use Rattle.rewriter.proofs.MovedExpressions.{expression_follows}
 use Rattle.rewriter.proofs.MovedBases.{offsets_move, base_stays, base_came}
 use Rattle.rewriter.proofs.MovedLists.{IsLinkMoved, old_at, new_at, moved_list, begins_anew, slot_came}
+use Rattle.rewriter.proofs.MovedViews.{NamedARun, views_follow, views_named}
 
 -- the class of the offsets that name lists of a kind
 abbrev list_class : ListKind → OffsetClass
@@ -78,24 +79,24 @@ module _ {file : List ℕ} {world : World} {tables : List NewTable} {places : Li
       let there = offsets_move all kind n new p here (subst (λ (z : Linked). IsNewOffset new_places z new) e is) in
       stays linked (BaseOf kind p) (λ (z : Linked). (p : ℕ) × IsOffsetsAt (of_kind s.links kind) new p × (z ≡ BaseOf kind p)) e refl (p, there, refl)
 
-  offset_follows : (u id n new : ℕ) (class : OffsetClass) (linked : Linked) → IsNewOffset new_places linked new → OffsetLinks r.links u id class n linked → Follows linked (OffsetLinks s.links u id class new)
-  offset_follows u id n new LinePtr linked is (p, (p_in, p_at), e) =
+  offset_follows : (u id n new : ℕ) (class : OffsetClass) (linked : Linked) → u < length r.links.units → id < length (unit_at r.links u).forest.entries → IsNewOffset new_places linked new → OffsetLinks r.links u id class n linked → Follows linked (OffsetLinks s.links u id class new)
+  offset_follows u id n new LinePtr linked inside known is (p, (p_in, p_at), e) =
       let here : IsNewOffset new_places (Program p) new = subst (λ (z : Linked). IsNewOffset new_places z new) e is in
       let place : (program_at s.links p).head.at ≡ new = all.programs.places p p_in ∙ sym here.1 in
       stays linked (Program p) (OffsetLinks s.links u id LinePtr new) e refl (p, (subst (λ (z : ℕ). p < z) (sym all.programs.count) p_in, place), refl)
-  offset_follows u id n new RngList linked is (at, e) = list_follows Ranges n new linked is e
-  offset_follows u id n new LocList linked is (at, e) = list_follows Locations n new linked is e
-  offset_follows u id n new RngListsPtr linked is (p, here, e) = part_follows Ranges n new p linked is here e
-  offset_follows u id n new LocListsPtr linked is (p, here, e) = part_follows Locations n new p linked is here e
-  offset_follows u id n new AddrPtr linked is ((table, has), e) =
+  offset_follows u id n new RngList linked inside known is (at, e) = list_follows Ranges n new linked is e
+  offset_follows u id n new LocList linked inside known is (at, e) = list_follows Locations n new linked is e
+  offset_follows u id n new RngListsPtr linked inside known is (p, here, e) = part_follows Ranges n new p linked is here e
+  offset_follows u id n new LocListsPtr linked inside known is (p, here, e) = part_follows Locations n new p linked is here e
+  offset_follows u id n new AddrPtr linked inside known is ((table, has), e) =
       let (now, moves, kept) = kept_follows n new linked is e in
       let same : new ≡ n = subst (λ (z : Linked). IsNewOffset new_places z new) e is in
       let there : IsAddressesAt s.links new = (table, subst (λ (z : List ℕ). HasBase z new table) (sym all.addresses) (subst (λ (z : ℕ). HasBase r.links.addresses z table) (sym same) has)) in
       (now, moves, (there, kept))
-  offset_follows u id n new StrOffsetsPtr linked is links = kept_follows n new linked is links
-  offset_follows u id n new MacPtr linked is links = kept_follows n new linked is links
-  offset_follows u id n new Views linked is links = absurd links
-  offset_follows u id n new NoOffset linked is links = absurd links
+  offset_follows u id n new StrOffsetsPtr linked inside known is links = kept_follows n new linked is links
+  offset_follows u id n new MacPtr linked inside known is links = kept_follows n new linked is links
+  offset_follows u id n new Views linked inside known is links = views_follow all u id n new linked inside known is links
+  offset_follows u id n new NoOffset linked inside known is links = absurd links
 
   -- an index counts the slots of the contribution that it counted
   index_stays : (kind : ListKind) (u i : ℕ) (linked : Linked) → u < length r.links.units → IndexLinks r.links u kind i linked → Follows linked (IndexLinks s.links u kind i)
@@ -110,27 +111,27 @@ module _ {file : List ℕ} {world : World} {tables : List NewTable} {places : Li
     from : Links r.links u id name meaning linked
     to : Follows linked (Links s.links u id name (renewed new made meaning))
 
-  both_link : (u id name : ℕ) (meaning : Meaning) (new : ℕ) (made : List ℕ) (linked : Linked) → u < length r.links.units → IsNewValue r.links places new_places u id name meaning new made → Links r.links u id name meaning linked → BothLink u id name meaning new made
-  both_link u id name (InUnit n) new made linked inside is links =
+  both_link : (u id name : ℕ) (meaning : Meaning) (new : ℕ) (made : List ℕ) (linked : Linked) → u < length r.links.units → id < length (unit_at r.links u).forest.entries → IsNewValue r.links places new_places u id name meaning new made → Links r.links u id name meaning linked → BothLink u id name meaning new made
+  both_link u id name (InUnit n) new made linked inside known is links =
       let t = target_at u ((unit_at r.links u).head.at + n) ((places_at places u).start + new) inside is in
       let begins : (places_at places u).start ≡ (unit_at s.links u).head.at = sym (moved all u inside).at in
       let to : IsTargetAt (unit_at s.links u).forest t.target ((unit_at s.links u).head.at + new) = subst (λ (z : ℕ). IsTargetAt (unit_at s.links u).forest t.target (z + new)) begins t.to in
       record { linked = Refers u t.target; from = (t.target, t.from, refl); to = (Refers u t.target, refl, (t.target, to, refl)) }
-  both_link u id name (InSection n) new made linked inside (unit, unit_in, is) links =
+  both_link u id name (InSection n) new made linked inside known (unit, unit_in, is) links =
       let t = target_at unit n new unit_in is in
       let also : unit < length s.links.units = subst (λ (z : ℕ). unit < z) (sym all.units.count) unit_in in
       record { linked = Refers unit t.target; from = (unit, t.target, (unit_in, t.from), refl); to = (Refers unit t.target, refl, (unit, t.target, (also, t.to), refl)) }
-  both_link u id name (SectionPlace n) new made linked inside (w, old, is) links = record { linked = w; from = old; to = offset_follows u id n new (offset_class name) w is old }
-  both_link u id name (LocationList i) new made linked inside is links = record { linked = linked; from = links; to = index_stays Locations u i linked inside links }
-  both_link u id name (RangeList i) new made linked inside is links = record { linked = linked; from = links; to = index_stays Ranges u i linked inside links }
-  both_link u id name (Expression bytes) new made linked inside is (operations, links, e) =
+  both_link u id name (SectionPlace n) new made linked inside known (w, old, is) links = record { linked = w; from = old; to = offset_follows u id n new (offset_class name) w inside known is old }
+  both_link u id name (LocationList i) new made linked inside known is links = record { linked = linked; from = links; to = index_stays Locations u i linked inside links }
+  both_link u id name (RangeList i) new made linked inside known is links = record { linked = linked; from = links; to = index_stays Ranges u i linked inside links }
+  both_link u id name (Expression bytes) new made linked inside known is (operations, links, e) =
       record { linked = Operates operations; from = (operations, links, refl); to = (Operates operations, refl, (operations, expression_follows all u bytes made operations is links, refl)) }
-  both_link u id name meaning new made linked inside is links = record { linked = Itself meaning; from = refl; to = (Itself meaning, refl, refl) }
+  both_link u id name meaning new made linked inside known is links = record { linked = Itself meaning; from = refl; to = (Itself meaning, refl, refl) }
 
-  -- so what the old value refers to, the new one does, but for the place of a list
-  pub link_follows : (u id name : ℕ) (meaning : Meaning) (new : ℕ) (made : List ℕ) (linked : Linked) → u < length r.links.units → IsNewValue r.links places new_places u id name meaning new made → Links r.links u id name meaning linked → (now : Linked) × IsLinkMoved new_places linked now × Links s.links u id name (renewed new made meaning) now
-  link_follows u id name meaning new made linked inside is links =
-      let both = both_link u id name meaning new made linked inside is links in
+  -- so what the old value refers to, the new one does, but for the places of a list and of view pairs
+  pub link_follows : (u id name : ℕ) (meaning : Meaning) (new : ℕ) (made : List ℕ) (linked : Linked) → u < length r.links.units → id < length (unit_at r.links u).forest.entries → IsNewValue r.links places new_places u id name meaning new made → Links r.links u id name meaning linked → (now : Linked) × IsLinkMoved new_places linked now × Links s.links u id name (renewed new made meaning) now
+  link_follows u id name meaning new made linked inside known is links =
+      let both = both_link u id name meaning new made linked inside known is links in
       let same : both.linked ≡ linked = linked_once file r.links u id name meaning both.linked linked all.read.links inside both.from links in
       subst (λ (z : Linked). Follows z (Links s.links u id name (renewed new made meaning))) same both.to
 
@@ -159,7 +160,7 @@ module _ {file : List ℕ} {world : World} {tables : List NewTable} {places : Li
   offset_names kind u id new at AddrPtr linked (here, e) names = absurd (names_none kind linked (Kept new) at e (λ none. none) names)
   offset_names kind u id new at StrOffsetsPtr linked e names = absurd (names_none kind linked (Kept new) at e (λ none. none) names)
   offset_names kind u id new at MacPtr linked e names = absurd (names_none kind linked (Kept new) at e (λ none. none) names)
-  offset_names kind u id new at Views linked links names = absurd links
+  offset_names kind u id new at Views linked (list, first, together, e) names = absurd (names_none kind linked (ViewsAt list new) at e (λ none. none) names)
   offset_names kind u id new at NoOffset linked links names = absurd links
 
   offset_came : (kind : ListKind) (u id name n new at : ℕ) (linked w : Linked) → OffsetLinks s.links u id (offset_class name) new linked → LinkNames s.links linked kind at → OffsetLinks r.links u id (offset_class name) n w → IsNewOffset new_places w new → NamedAList kind (Links r.links u id name (SectionPlace n)) at
@@ -194,3 +195,27 @@ module _ {file : List ℕ} {world : World} {tables : List NewTable} {places : Li
   link_came kind u id name (RangeList i) new made linked at inside is links names = index_came kind Ranges u i at linked inside links names
   link_came kind u id name (Expression bytes) new made linked at inside is (operations, links, e) names = absurd (names_none kind linked (Operates operations) at e (λ none. none) names)
   link_came kind u id name meaning new made linked at inside is links names = absurd (names_none kind linked (Itself meaning) at links (λ none. none) names)
+
+  -- VIEW PAIRS
+
+  -- what names view pairs by a section offset of a class
+  offset_viewed : (u id n new list at : ℕ) (class : OffsetClass) (w : Linked) → u < length r.links.units → id < length (unit_at r.links u).forest.entries → OffsetLinks s.links u id class new (ViewsAt list at) → OffsetLinks r.links u id class n w → IsNewOffset new_places w new → (k : ℕ) × NamedARun all (OffsetLinks r.links u id class n) list at k
+  offset_viewed u id n new list at LinePtr w inside known (p, here, e) old is = absurd (cc (e))
+  offset_viewed u id n new list at RngList w inside known (here, e) old is = absurd (cc (e))
+  offset_viewed u id n new list at LocList w inside known (here, e) old is = absurd (cc (e))
+  offset_viewed u id n new list at RngListsPtr w inside known (p, here, e) old is = absurd (cc (e))
+  offset_viewed u id n new list at LocListsPtr w inside known (p, here, e) old is = absurd (cc (e))
+  offset_viewed u id n new list at AddrPtr w inside known (here, e) old is = absurd (cc (e))
+  offset_viewed u id n new list at StrOffsetsPtr w inside known e old is = absurd (cc (e))
+  offset_viewed u id n new list at MacPtr w inside known e old is = absurd (cc (e))
+  offset_viewed u id n new list at Views w inside known links old is = views_named all u id n new list at w inside known links old is
+  offset_viewed u id n new list at NoOffset w inside known links old is = absurd links
+
+  pub views_came : (u id name : ℕ) (meaning : Meaning) (new : ℕ) (made : List ℕ) (list at : ℕ) → u < length r.links.units → id < length (unit_at r.links u).forest.entries → IsNewValue r.links places new_places u id name meaning new made → Links s.links u id name (renewed new made meaning) (ViewsAt list at) → (k : ℕ) × NamedARun all (Links r.links u id name meaning) list at k
+  views_came u id name (InUnit n) new made list at inside known is (target, here, e) = absurd (cc (e))
+  views_came u id name (InSection n) new made list at inside known is (unit, target, here, e) = absurd (cc (e))
+  views_came u id name (SectionPlace n) new made list at inside known (w, old, is) links = offset_viewed u id n new list at (offset_class name) w inside known links old is
+  views_came u id name (LocationList i) new made list at inside known is (p, base, counted, e) = absurd (cc (e))
+  views_came u id name (RangeList i) new made list at inside known is (p, base, counted, e) = absurd (cc (e))
+  views_came u id name (Expression bytes) new made list at inside known is (operations, links, e) = absurd (cc (e))
+  views_came u id name meaning new made list at inside known is e = absurd (cc (e))

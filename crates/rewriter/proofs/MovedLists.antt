@@ -3,15 +3,16 @@ use Rattle.std.proofs.Common.{◌≡◌, ◌<◌, ◌∙◌, inl, inr, ℕ, leng
 use Rattle.std.proofs.lemmas.Bool.{cases_lt}
 use Rattle.std.specs.Prelude.{List}
 use Rattle.list_model.specs.declared.entry.ListKind.{ListKind}
+use Rattle.list_model.specs.declared.entry.ListKind.TheVariants.{Locations}
 use Rattle.unit_write.specs.declared.places.Places.{Places}
 use Rattle.value_links.specs.Reading.{Reading, of_kind, lists_of, list_at, part_at}
 use Rattle.value_links.specs.ListPlaces.{IsListPlace, SlotNames}
 use Rattle.value_links.specs.Linked.{Linked}
-use Rattle.value_links.specs.Linked.Linked.{ListAt}
+use Rattle.value_links.specs.Linked.Linked.{ListAt, ViewsAt}
 use Rattle.value_links.specs.World.{World}
 use Rattle.rewriter.specs.declared.tables.NewTable.{NewTable}
 use Rattle.rewriter.specs.declared.new_places.NewPlaces.{NewPlaces}
-use Rattle.rewriter.specs.inside.NewPlaces.{moved_lists, IsMovedTo}
+use Rattle.rewriter.specs.inside.NewPlaces.{moved_lists, IsMovedTo, AreViewsMoved}
 use Rattle.rewriter.specs.inside.Follows.{AreReadAnew}
 
 -- of numbers that rise no two are the same
@@ -24,9 +25,10 @@ number_once at count rising j k j_in k_in same = elim (cases_lt j k) [
   ]
 ]
 
--- what a value refers to that referred to something: a list at its new place, or the same
+-- what a value refers to that referred to something: a list or view pairs at their new places, or the same
 abbrev pub IsLinkMoved : NewPlaces → Linked → Linked → Type 0
 IsLinkMoved places (ListAt kind n) new = (m : ℕ) × IsMovedTo (moved_lists places kind) n m × (new ≡ ListAt kind m)
+IsLinkMoved places (ViewsAt list n) new = (l : ℕ) × (m : ℕ) × IsMovedTo (moved_lists places Locations) list l × AreViewsMoved places.views.items list n m × (new ≡ ViewsAt l m)
 IsLinkMoved places linked new = new ≡ linked
 
 module _ {file : List ℕ} {world : World} {tables : List NewTable} {places : List Places} {new_places : NewPlaces} {info abbrevs : List ℕ} {r s : Reading} (all : AreReadAnew file world tables places new_places info abbrevs r s) (kind : ListKind) where

@@ -9,7 +9,7 @@ use Rattle.expr_ops.specs.declared.op.Op.{Op}
 use Rattle.expr_ops.specs.Drafts.{op_at}
 use Rattle.expr_ops.specs.Expressions.{IsExpression}
 use Rattle.expr_ops.specs.Names.{named_by}
-use Rattle.expr_ops.specs.Ops.{meant, all_meant}
+use Rattle.expr_ops.specs.Ops.{all_meant}
 use Rattle.expr_ops.proofs.Reaches.{narrow_wide}
 use Rattle.form_codec.specs.declared.value.Value.{Value}
 use Rattle.form_codec.specs.declared.value.Value.TheVariants as value
@@ -43,8 +43,8 @@ use Rattle.rewriter.proofs.Final.{NumbersIn, value_among, attribute_numbered, ty
 
 -- the operations of an expression that means something
 module _ (file : List ℕ) (world : World) (r : Reading) (u : ℕ) (holds : Holds file world r) where
-  means_named : (name : ℕ) (span : Span) (ops : List Op) → MeansSomething world u name (value.Expr span) → IsExpression Wide (all_meant (bytes_in (unit_at r.links u).forest.section span) ops) (bytes_in (unit_at r.links u).forest.section span) → (k : ℕ) → k < length ops → (target : OpTarget) × Names r.links u (op_at ops k).code (op_at ops k).a target
-  means_named name span ops m spelled k inside =
+  means_named : (id name : ℕ) (span : Span) (ops : List Op) → MeansSomething world u id name (value.Expr span) → IsExpression Wide (all_meant (bytes_in (unit_at r.links u).forest.section span) ops) (bytes_in (unit_at r.links u).forest.section span) → (k : ℕ) → k < length ops → (target : OpTarget) × Names r.links u (op_at ops k).code (op_at ops k).a target
+  means_named id name span ops m spelled k inside =
       let same : head_and_forest (unit_at m.r.links u) ≡ head_and_forest (unit_at r.links u) = sym (held_unit m.file world m.r u m.holds) ∙ held_unit file world r u holds in
       let there : IsExpression Wide (all_meant (bytes_in (unit_at m.r.links u).forest.section span) ops) (bytes_in (unit_at m.r.links u).forest.section span) = subst (λ (h : HeadAndForest). IsExpression Wide (all_meant (bytes_in h.forest.section span) ops) (bytes_in h.forest.section span)) (sym same) spelled in
       let named = operation_named m.r.links u (bytes_in (unit_at m.r.links u).forest.section span) ops there (m.links.0, m.links.1) k inside in
@@ -95,7 +95,7 @@ number_within n first count from to = (n - first, omega (arith, from), omega (ar
 
 -- an expression is the value of an attribute that means something
 module _ (world : World) (u : ℕ) (is : IsWorldOf world.image Narrow world) (known : u < length world.units) (number : ℕ) (span : Span) (stands : IsExprAt (unit_in world.units u).forest number span) where
-  expression_means : (name : ℕ) × MeansSomething world u name (value.Expr span)
+  expression_means : (id : ℕ) × (name : ℕ) × MeansSomething world u id name (value.Expr span)
   expression_means =
       let same : unit_in world.units u ≡ head_and_forest (unit_at is.r.links u) = held_unit world.image world is.r u is.holds in
       let read = unit_reads world.image world is.r u Narrow is is.holds known in
@@ -106,7 +106,7 @@ module _ (world : World) (u : ℕ) (is : IsWorldOf world.image Narrow world) (kn
       let last : number < (entry_in world u id).first + (entry_in world u id).count = subst (λ (h : HeadAndForest). number < (entry_at h.forest.entries id).first + (entry_at h.forest.entries id).count) (sym same) to in
       let (j, at, below) = number_within number (entry_in world u id).first (entry_in world u id).count first last in
       let value_is : value_in world u id j ≡ value.Expr span = ap (value_at (unit_in world.units u).forest.values) at ∙ stands.is in
-      (name_in world u id j, subst (MeansSomething world u (name_in world u id j)) value_is (((unit_means world u Narrow is known).entries id there).means j below))
+      (id, name_in world u id j, subst (MeansSomething world u id (name_in world u id j)) value_is (((unit_means world u Narrow is known).entries id there).means j below))
 
 module _ (file : List ℕ) (world : World) (r : Reading) (places : List Places) (u : ℕ) (own : HeadAndForest) (operations : HeldOps) (is : IsWorldOf world.image Narrow world) (holds : Holds file world r) (known : u < length world.units) (own_is : own ≡ unit_in world.units u) (operations_are : operations ≡ operations_at world.operations u) (numbers ends expressions : List ℕ) (numbered : AreOperationsNumbered world places u numbers) (written : AreWrittenPlain own.forest operations ends numbers expressions) where
   own_written : AreWrittenPlain (unit_in world.units u).forest (operations_at world.operations u) ends numbers expressions
@@ -120,7 +120,7 @@ module _ (file : List ℕ) (world : World) (r : Reading) (places : List Places) 
   -- each expression has its new bytes
   pub expressions_made : (number : ℕ) (span : Span) → IsExprAt (unit_in world.units u).forest number span → IsNewExpression r.links places u (bytes_in (unit_in world.units u).forest.section span) (made_of ends expressions number)
   expressions_made number span stands =
-      let means = expression_means world u is known number span stands in
+      let (id, name, means) = expression_means world u is known number span stands in
       let same : (unit_in world.units u).forest.section ≡ (unit_at r.links u).forest.section = ap (λ (h : HeadAndForest). h.forest.section) (held_unit file world r u holds) in
       let narrow : IsExpression Narrow (all_meant (bytes_in (unit_in world.units u).forest.section span) (ops_of (operations_at world.operations u) number)) (bytes_in (unit_in world.units u).forest.section span) = (is.operations.each u (unit_in [] 0) known).spelled number span stands in
       let wide : IsExpression Wide (all_meant (bytes_in (unit_in world.units u).forest.section span) (ops_of (operations_at world.operations u) number)) (bytes_in (unit_in world.units u).forest.section span) = narrow_wide _ _ narrow in
@@ -129,7 +129,7 @@ module _ (file : List ℕ) (world : World) (r : Reading) (places : List Places) 
         ops = ops_of (operations_at world.operations u) number;
         spelled = wide;
         numbers = for_value (operations_at world.operations u) numbers number;
-        numbered = references_of file world r places u holds numbers numbered number (means_named file world r u holds means.0 span (ops_of (operations_at world.operations u) number) means.1 read);
+        numbered = references_of file world r places u holds numbers numbered number (means_named file world r u holds id name span (ops_of (operations_at world.operations u) number) means read);
         written = own_written.each number span stands;
       }
 
@@ -154,7 +154,7 @@ module _ (file : List ℕ) (world : World) (r : Reading) (tables : List NewTable
   numbers_there : AreNumbered world places new_places u new.held.items → NumbersIn r places new_places u new.held.items (head_and_forest (unit_at r.links u)) (unit_at r.links u).table
   numbers_there held =
       let size : length world.units ≡ length r.links.units = held_count file world r holds in
-      let first : NumbersIn r places new_places u new.held.items (unit_in world.units u) (table_for world u) = λ id j a b. held.each id j a b file r id holds in
+      let first : NumbersIn r places new_places u new.held.items (unit_in world.units u) (table_for world u) = λ id j a b. held.each id j a b file r holds in
       subst (NumbersIn r places new_places u new.held.items (head_and_forest (unit_at r.links u))) (table_known file world r u holds (omega (arith, size, known))) (subst (λ (h : HeadAndForest). NumbersIn r places new_places u new.held.items h (table_for world u)) (held_unit file world r u holds) first)
 
   made_there : MadeIn r places u new.ends.items new.expressions.items (unit_in world.units u) → (id number name : ℕ) (bytes : List ℕ) (place : ℕ) → HasValueAt (unit_at r.links u) id number name (Expression bytes) place → IsNewExpression r.links places u bytes (made_of new.ends.items new.expressions.items number)

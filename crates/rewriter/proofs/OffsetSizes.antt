@@ -1,5 +1,5 @@
--- A section offset that was read fits 32 bits, and has the form of one.
-use Rattle.std.proofs.Common.{◌≡◌, ◌<◌, ◌^◌, ◌∙◌, ℕ, zero, suc, List, [], ◌∷◌, length, true, sym, ap, refl, subst, arith}
+-- A section offset that was read fits 32 bits.
+use Rattle.std.proofs.Common.{◌≡◌, ◌<◌, ◌^◌, ℕ, zero, suc, List, [], ◌∷◌, length, true, sym, subst, arith}
 use Rattle.std.specs.Prelude.{ℤ}
 use Rattle.spelled.specs.Spelled.{AreBytes}
 use Rattle.form_codec.specs.declared.form.Form.{Form}
@@ -8,10 +8,9 @@ use Rattle.form_codec.specs.declared.value.Value.{Value}
 use Rattle.form_codec.specs.declared.value.Value.TheVariants as value
 use Rattle.fixed_width.specs.Numbers.{number}
 use Rattle.fixed_width.proofs.Numbers.{number_small}
-use Rattle.form_codec.specs.Forms.{Meaning, SpellsShape, SpellsValue, shape_of, code_of}
+use Rattle.form_codec.specs.Forms.{SpellsShape, SpellsValue, shape_of}
 use Rattle.form_codec.specs.Forms.Meaning.{SectionPlace}
 use Rattle.form_codec.specs.Values.{meant_in}
-use Rattle.form_codec.proofs.Codes.{code_once}
 use Rattle.abbrev_tables.specs.declared.decl.Spec.{Spec}
 use Rattle.entry_arena.specs.Arena.{value_at}
 use Rattle.entry_arena.specs.Trees.{ValuesBetween}
@@ -44,27 +43,3 @@ offsets_fit section [] (v ∷ vs) from to j p below = absurd p
 offsets_fit section (c ∷ cs) [] from to j p below = absurd p
 offsets_fit section (c ∷ cs) (v ∷ vs) from to zero (next, s, placed, rest) below = offset_fits section v c.form c.constant _ s.spelled
 offsets_fit section (c ∷ cs) (v ∷ vs) from to (suc j) (next, s, placed, rest) below = offsets_fit section cs vs next to j rest (omega (arith, below))
-
--- THE FORM
-
-offset_form : (f : Form) (c : ℤ) (n : ℕ) (bytes : List ℕ) → shape_moves (shape_of f c) ≡ true → SpellsShape (shape_of f c) (SectionPlace n) bytes → f ≡ form.SecOffset
-offset_form form.Ref1 c n bytes e p = absurd (cc (p.1))
-offset_form form.Ref2 c n bytes e p = absurd (cc (p.1))
-offset_form form.Ref4 c n bytes e p = absurd (cc (p.1))
-offset_form form.Ref8 c n bytes e p = absurd (cc (p.1))
-offset_form form.RefUdata c n bytes e p = absurd (cc (p.2))
-offset_form form.RefAddr c n bytes e p = absurd (cc (p.1))
-offset_form form.SecOffset c n bytes e p = refl
-offset_form f c n bytes e p = absurd (cc (e))
-
-offset_meant : (c : ℤ) (m : Meaning) (bytes : List ℕ) → SpellsShape (shape_of form.SecOffset c) m bytes → (n : ℕ) × (m ≡ SectionPlace n)
-offset_meant c m bytes p = (number 4 bytes, p.1)
-
--- what DW_FORM_sec_offset spells, no other form does
-pub offset_form_once : (old new : ℕ) (c d : ℤ) (m : Meaning) (bytes others : List ℕ) → SpellsValue old c m bytes → SpellsValue new d m others → new ≡ code_of form.SecOffset → old ≡ code_of form.SecOffset
-offset_form_once old new c d m bytes others s t is =
-    let new_is : t.form ≡ form.SecOffset = code_once t.form form.SecOffset (t.known ∙ is) in
-    let meant : (n : ℕ) × (m ≡ SectionPlace n) = offset_meant d m others (subst (λ (f : Form). SpellsShape (shape_of f d) m others) new_is t.spelled) in
-    let spelled : SpellsShape (shape_of s.form c) (SectionPlace meant.0) bytes = subst (λ (z : Meaning). SpellsShape (shape_of s.form c) z bytes) meant.1 s.spelled in
-    let old_is : s.form ≡ form.SecOffset = offset_form s.form c meant.0 bytes (sym (shape_is (shape_of s.form c) (SectionPlace meant.0) bytes spelled)) spelled in
-    sym s.known ∙ ap code_of old_is

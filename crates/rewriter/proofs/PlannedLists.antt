@@ -36,7 +36,7 @@ use Rattle.list_least.specs.declared.plan.Plan.{Plan}
 use Rattle.list_least.specs.Laws.{ShortestLists, PlannedLeast, FrozenLeast}
 use Rattle.list_least.specs.Plans.{bounds_of, entries_bytes, ArePicks, IsPlanned, IsItemOf, item_at}
 use Rattle.list_least.specs.Shortest.{FitsOperand, FitOperands}
-use Rattle.list_write.specs.declared.named.NewExpressions.{NewExpressions}
+use Rattle.list_write.specs.declared.named.NamedList.{NamedList}
 use Rattle.list_write.specs.Written.{ToWrite, to_write}
 use Rattle.loc_lists.specs.Locations.{items_among, entries_of, AreItems}
 use Rattle.loc_lists.specs.Locations.{IsRead as IsLocationRead}
@@ -252,8 +252,8 @@ module _ (r : Reading) (kind : ListKind) (old : ListRead) (list : HeldList) (hel
         let least = planned kind r.links.addresses (context_at r.links owner) (map bounds_of items) potentials plan.size plan.picks.items is.entries some.0 small accepted is is.picked some.1 in
         sym least.1 ∙ shortest.size kind is.entries some.0 some.1
 
-    pub live_planned : (expressions : NewExpressions) → IsPlannedFor r kind old (to_write (with_plan list plan expressions))
-    live_planned expressions = record {
+    pub live_planned : (other : NamedList) → IsPlannedFor r kind old (to_write (with_plan list plan other))
+    live_planned other = record {
       part = held.part;
       at = held.at;
       entries = is.entries;
@@ -278,12 +278,12 @@ module _ (r : Reading) (kind : ListKind) (old : ListRead) (list : HeldList) (hel
 -- the same, by the bytes of .debug_addr and the context as they are given to the search
 pub planned_by : (r : Reading) (kind : ListKind) (old : ListRead) (list : HeldList) → HoldsList r.links kind old list → (items : List Item) → list.meaning ≡ Live items → OneSaying → OneWalk → ShortestLists → PlannedLeast →
     (addr : List ℕ) → AreBytes addr → addr ≡ r.links.addresses → (context : Context) (owner : ℕ) → list.owner ≡ Some owner → context ≡ context_at r.links owner → (plan : Plan) →
-    IsPlanned kind addr context (map bounds_of items) plan.picks.items plan.size → AcceptsList addr context (map bounds_of items) plan.potentials.items plan.size → length plan.picks.items ≤ 2 * length items → (expressions : NewExpressions) → IsPlannedFor r kind old (to_write (with_plan list plan expressions))
-planned_by r kind old list held items live saying walk shortest planned addr small addr_is context owner owner_is context_is plan is accepted few expressions =
+    IsPlanned kind addr context (map bounds_of items) plan.picks.items plan.size → AcceptsList addr context (map bounds_of items) plan.potentials.items plan.size → length plan.picks.items ≤ 2 * length items → (other : NamedList) → IsPlannedFor r kind old (to_write (with_plan list plan other))
+planned_by r kind old list held items live saying walk shortest planned addr small addr_is context owner owner_is context_is plan is accepted few other =
     live_planned r kind old list held items live saying walk shortest planned (subst (λ (z : List ℕ). AreBytes z) addr_is small) owner owner_is plan.potentials.items plan
     (subst (λ (z : Context). IsPlanned kind r.links.addresses z (map bounds_of items) plan.picks.items plan.size) context_is (subst (λ (z : List ℕ). IsPlanned kind z context (map bounds_of items) plan.picks.items plan.size) addr_is is))
     (subst (λ (z : Context). AcceptsList r.links.addresses z (map bounds_of items) plan.potentials.items plan.size) context_is (subst (λ (z : List ℕ). AcceptsList z context (map bounds_of items) plan.potentials.items plan.size) addr_is accepted))
-    few expressions
+    few other
 
 -- ---- a list that is frozen
 
@@ -328,8 +328,8 @@ module _ (r : Reading) (kind : ListKind) (old : ListRead) (list : HeldList) (hel
   said_held : AreSaid kind list.raw.items frozen.0
   said_held = subst (λ (z : List RawEntry). AreSaid kind z frozen.0) (sym held.raws) frozen.1
 
-  pub frozen_planned : ((entries : List Entry) → AreSaid kind list.raw.items entries → ArePicks kind plan.picks.items entries) → ((entries : List Entry) → AreSaid kind list.raw.items entries → plan.size ≡ entries_bytes entries + 1) → (expressions : NewExpressions) → IsPlannedFor r kind old (to_write (with_plan list plan expressions))
-  frozen_planned picked bytes expressions = record {
+  pub frozen_planned : ((entries : List Entry) → AreSaid kind list.raw.items entries → ArePicks kind plan.picks.items entries) → ((entries : List Entry) → AreSaid kind list.raw.items entries → plan.size ≡ entries_bytes entries + 1) → (other : NamedList) → IsPlannedFor r kind old (to_write (with_plan list plan other))
+  frozen_planned picked bytes other = record {
     part = held.part;
     at = held.at;
     entries = frozen.0;

@@ -13,6 +13,8 @@ use Rattle.list_model.specs.declared.entry.ListKind.TheVariants.{Ranges, Locatio
 use Rattle.value_links.specs.Sections.{debug_info, debug_abbrev, debug_addr, debug_aranges, debug_line, debug_lists}
 use Rattle.value_links.specs.Reading.{Linkable, Reading, of_kind, line_heads, unit_starts, AreProgramsIn, AreUnitsIn}
 use Rattle.value_links.specs.Whole.{AreContexts, ArePartsOf, IsReading}
+use Rattle.loc_lists.specs.Views.{view_limit}
+use Rattle.value_links.specs.Lists.{pair_total}
 use Rattle.value_links.specs.ListFaults.{list_total, entry_total, expression_bytes}
 use Rattle.value_links.specs.Debug.{Debug, set_meaning, parts_of, MeansDebug}
 use Rattle.value_links.specs.Faults.{IsValid}
@@ -33,6 +35,7 @@ use Rattle.rewriter.proofs.Following.{links_follow}
 use Rattle.rewriter.proofs.ListMeanings.{lists_stay, parts_follow, tidy_lists}
 use Rattle.rewriter.proofs.ListsWithin.{lists_within}
 use Rattle.rewriter.proofs.RootsStay.{roots_stay}
+use Rattle.rewriter.proofs.ViewsRead.{views_stay, tidy_views}
 use Rattle.rewriter.proofs.WideExpressions.{expressions_are_wide}
 use Rattle.rewriter.proofs.Tidied.{are_tidy}
 use Rattle.rewriter.proofs.LeastColumns.{least_columns, first_columns}
@@ -68,6 +71,7 @@ module _ (file written : List ℕ) (world : World) (r s : Reading) (new : NewSec
     units = anew.units;
     programs = record { count = anew.programs.count; places = anew.programs.places };
     lists = anew.lists;
+    views = anew.views;
     addresses = anew.addresses;
     contexts = anew.contexts;
   }
@@ -92,6 +96,7 @@ module _ (file written : List ℕ) (world : World) (r s : Reading) (new : NewSec
         };
         roots = roots_stay all_anew;
         lists = lists_stay all_anew;
+        views = views_stay all_anew;
         sets = subst (λ (z : List ℕ). SetsTile z (unit_starts s.links.units) s.sets) (sym (aranges_are file written new has)) anew.sets.tiled;
       }
 
@@ -125,9 +130,9 @@ module _ (file written : List ℕ) (world : World) (r s : Reading) (new : NewSec
   }
 
   -- and it is valid
-  pub valid_anew : MeaningFilesAreValid → (debug : Debug) → MeansDebug file r debug → entry_total r.range_lists + entry_total r.location_lists ≤ 2 ^ 24 → list_total expression_bytes r.range_lists + list_total expression_bytes r.location_lists ≤ 2 ^ 27 → IsValid written Wide
-  valid_anew law debug means few short =
-      law written Wide s debug units_in_order reads_anew (means_anew debug means) (expressions_are_wide file world anew.tables anew.places anew.new_places new.info.items new.abbrevs.items r s all_anew) (lists_within all_anew few short)
+  pub valid_anew : MeaningFilesAreValid → (debug : Debug) → MeansDebug file r debug → entry_total r.range_lists + entry_total r.location_lists ≤ 2 ^ 24 → list_total expression_bytes r.range_lists + list_total expression_bytes r.location_lists ≤ 2 ^ 27 → pair_total r.views ≤ view_limit → IsValid written Wide
+  valid_anew law debug means few short few_views =
+      law written Wide s debug units_in_order reads_anew (means_anew debug means) (expressions_are_wide file world anew.tables anew.places anew.new_places new.info.items new.abbrevs.items r s all_anew) (lists_within all_anew few short few_views)
 
   -- both are read, so that what holds of what is read of them holds of both
   of_both : (Holds : Linkable → Linkable → Type 0) → Holds r.links s.links → OfBoth Holds file written
@@ -154,7 +159,7 @@ module _ (file written : List ℕ) (world : World) (r s : Reading) (new : NewSec
   -- the sections hold the tables, the units and the lists, and nothing else
   pub tidy_anew : IsTidy file written
   tidy_anew =
-      let tidy : AreTidy new.abbrevs.items r s = are_tidy all_anew (λ kind. tidy_lists all_anew kind (anew.filled kind)) in
+      let tidy : AreTidy new.abbrevs.items r s = are_tidy all_anew (λ kind. tidy_lists all_anew kind (anew.filled kind)) (tidy_views all_anew) in
       (r, s, read, reads_anew, subst (λ (z : List ℕ). AreTidy z r s) (sym (abbrevs_are file written new has)) tidy)
 
 -- the sections of a valid file are written anew, and the file is assembled of them
@@ -164,7 +169,7 @@ rewritten file image world new written law known few short is anew least order h
     let has : HasSections file new written = subst (λ (z : List ℕ). HasSections z new written) is has_image in
     record {
       same = same_anew file written world known.r s new known.read known.holds all has known.debug known.means;
-      still_valid = valid_anew file written world known.r s new known.read known.holds all has law known.debug known.means few short;
+      still_valid = valid_anew file written world known.r s new known.read known.holds all has law known.debug known.means few short known.few_views;
       least = subst (λ (z : List ℕ). LeastLines (debug_line file) z) (sym (lines_are file written new has)) least;
       order = subst (λ (z : List ℕ). OrderedLines (debug_line file) z) (sym (lines_are file written new has)) order;
       lists = lists_anew file written world known.r s new known.read known.holds all has;

@@ -24,18 +24,19 @@ use Rattle.unit_write.specs.declared.places.Places.{Places}
 use Rattle.unit_write.specs.Sizes.{NumbersHaveSizes, ExpressionsHaveSizes, ShortestHaveSizes}
 use Rattle.unit_write.proofs.UnitLaws.{placed_order}
 use Rattle.value_links.specs.Sections.{body_named, body_or_none, debug_info, debug_abbrev, debug_line, debug_aranges, info_name, abbrev_name, line_name, rnglists_name, loclists_name, aranges_name}
+use Rattle.list_write.specs.declared.image.Moved.{Moved}
+use Rattle.list_write.specs.Written.{moved_at}
 use Rattle.list_model.specs.declared.entry.ListKind.{ListKind}
 use Rattle.list_model.specs.declared.entry.ListKind.TheVariants.{Ranges, Locations}
 use Rattle.loc_lists.specs.Laws.{LocationsWritten}
 use Rattle.range_lists.specs.Laws.{RangesWritten}
-use Rattle.value_links.specs.Reading.{ProgramRead, UnitRead, ListSection, ListRead, Reading, of_kind, lists_of, no_program, no_unit, line_heads, unit_heads, unit_starts}
+use Rattle.value_links.specs.Reading.{ProgramRead, UnitRead, ListSection, Reading, of_kind, lists_of, view_at, no_program, no_unit, line_heads, unit_heads, unit_starts}
 use Rattle.value_links.specs.Whole.{IsReading}
 use Rattle.value_links.specs.TidyLists.{IsFilled}
 use Rattle.value_links.specs.Faults.{IsValid}
 use Rattle.value_links.specs.World.{World, head_and_forest, Holds, IsWorldOf}
 use Rattle.value_links.proofs.SectionLaws.{sections_are_found}
 use Rattle.rewriter.specs.declared.tables.NewTable.{NewTable}
-use Rattle.rewriter.specs.declared.new_places.ListPlaces.{ListPlaces}
 use Rattle.rewriter.specs.declared.new_places.NewPlaces.{NewPlaces}
 use Rattle.rewriter.specs.declared.sections.NewSections.{NewSections}
 use Rattle.rewriter.specs.inside.Tables.{TablesStand, table_anew, AreTablesWritten}
@@ -44,14 +45,16 @@ use Rattle.rewriter.specs.inside.Units.{AreUnitsWritten}
 use Rattle.rewriter.specs.inside.Bodies.{NewBytes, new_bytes}
 use Rattle.rewriter.specs.inside.Sections.{IsFor, AreFor}
 use Rattle.rewriter.specs.inside.Anew.{AreProgramsAnew, new_lists, AreAnew}
-use Rattle.rewriter.specs.inside.NewPlaces.{moved_lists}
-use Rattle.rewriter.specs.inside.Held.{AreListPlaces, AreNewPlaces}
+use Rattle.rewriter.specs.inside.NewPlaces.{moved_lists, moved_views_at, AreMovedViews}
+use Rattle.rewriter.specs.inside.Held.{AreListPlaces, AreViewPlaces, AreNewPlaces}
 use Rattle.rewriter.specs.inside.Lists.{AreListsWritten}
 use Rattle.rewriter.specs.inside.ListsAnew.{AreListsAnew}
+use Rattle.rewriter.specs.inside.ViewsAnew.{AreViewsAnew}
 use Rattle.rewriter.proofs.DebugSizes.{debug_short}
 use Rattle.rewriter.proofs.FewRows.{AreProgramsFew, programs_few, few_rows, programs_read}
-use Rattle.rewriter.proofs.ListsAnew.{lists_anew}
-use Rattle.rewriter.proofs.ListsRead.{lists_for}
+use Rattle.rewriter.proofs.ListsAnew.{AreReadBack, lists_anew}
+use Rattle.rewriter.proofs.ListsRead.{lists_for, moved_from_read}
+use Rattle.rewriter.proofs.ViewRuns.{pairs_count}
 use Rattle.rewriter.proofs.ChosenColumns.{chosen_columns_are_writable}
 use Rattle.rewriter.proofs.UsedDeclarations.{unit_is}
 
@@ -113,11 +116,17 @@ abbrev pub list_bytes : List ℕ → List ℕ → ListKind → List ℕ
 list_bytes ranges locations Ranges = ranges
 list_bytes ranges locations Locations = locations
 
+-- the new places of the view pairs of lists of a kind
+abbrev list_views : List Moved → List Moved → ListKind → List Moved
+list_views of_ranges of_locations Ranges = of_ranges
+list_views of_ranges of_locations Locations = of_locations
+
 -- What the steps of the writer give, for one reading of the file.
-pub record AreParts (file : List ℕ) (world : World) (r : Reading) (tables : List NewTable) (places : List Places) (new_places : NewPlaces) (info abbrevs lines ranges locations aranges : List ℕ) : Type 0 where
+pub record AreParts (file : List ℕ) (world : World) (r : Reading) (tables : List NewTable) (places : List Places) (new_places : NewPlaces) (info abbrevs lines ranges locations aranges : List ℕ) (range_views location_views : List Moved) : Type 0 where
   pub holds : Holds file world r
   pub stand : StandAnew (debug_line file) world.programs lines new_places.programs.items
-  pub lists : (kind : ListKind) → AreListsWritten r places kind (list_bytes ranges locations kind) (moved_lists new_places kind).parts.items (moved_lists new_places kind).lists.items
+  pub lists : (kind : ListKind) → AreListsWritten r places kind (list_bytes ranges locations kind) (moved_lists new_places kind).parts.items (moved_lists new_places kind).lists.items (list_views range_views location_views kind)
+  pub views : AreMovedViews world.views location_views new_places.views.items
   pub written : AreTablesWritten world abbrevs tables
   pub count : length places ≡ length world.units
   pub units : (units : List UnitRead) × AreUnitsWritten world r.links tables places new_places info abbrevs units
@@ -125,14 +134,14 @@ pub record AreParts (file : List ℕ) (world : World) (r : Reading) (tables : Li
   pub others : (k : ℕ) → IsOutside world.sets k → slice_index aranges k ≡ slice_index (debug_aranges file) k
   pub size : length aranges ≡ length (debug_aranges file)
 
-pub parts_of : {file : List ℕ} {world : World} {r : Reading} {tables : List NewTable} {places : List Places} {new_places : NewPlaces} {info abbrevs lines ranges locations aranges : List ℕ} → Holds file world r → StandAnew (debug_line file) world.programs lines new_places.programs.items → AreListsWritten r places Ranges ranges new_places.ranges.parts.items new_places.ranges.lists.items → AreListsWritten r places Locations locations new_places.locations.parts.items new_places.locations.lists.items → AreTablesWritten world abbrevs tables → length places ≡ length world.units → ((units : List UnitRead) × AreUnitsWritten world r.links tables places new_places info abbrevs units) → SetsTile aranges (starts_of places) world.sets → ((k : ℕ) → IsOutside world.sets k → slice_index aranges k ≡ slice_index (debug_aranges file) k) → length aranges ≡ length (debug_aranges file) → AreParts file world r tables places new_places info abbrevs lines ranges locations aranges
-parts_of {file} {world} {r} {tables} {places} {new_places} {info} {abbrevs} {lines} {ranges} {locations} holds stand of_ranges of_locations written count units tiled others size = record { holds = holds; stand = stand; lists = both; written = written; count = count; units = units; tiled = tiled; others = others; size = size }
+pub parts_of : {file : List ℕ} {world : World} {r : Reading} {tables : List NewTable} {places : List Places} {new_places : NewPlaces} {info abbrevs lines ranges locations aranges : List ℕ} {range_views location_views : List Moved} → Holds file world r → StandAnew (debug_line file) world.programs lines new_places.programs.items → AreListsWritten r places Ranges ranges new_places.ranges.parts.items new_places.ranges.lists.items range_views → AreListsWritten r places Locations locations new_places.locations.parts.items new_places.locations.lists.items location_views → AreMovedViews world.views location_views new_places.views.items → AreTablesWritten world abbrevs tables → length places ≡ length world.units → ((units : List UnitRead) × AreUnitsWritten world r.links tables places new_places info abbrevs units) → SetsTile aranges (starts_of places) world.sets → ((k : ℕ) → IsOutside world.sets k → slice_index aranges k ≡ slice_index (debug_aranges file) k) → length aranges ≡ length (debug_aranges file) → AreParts file world r tables places new_places info abbrevs lines ranges locations aranges range_views location_views
+parts_of {file} {world} {r} {tables} {places} {new_places} {info} {abbrevs} {lines} {ranges} {locations} {aranges} {range_views} {location_views} holds stand of_ranges of_locations views written count units tiled others size = record { holds = holds; stand = stand; lists = both; views = views; written = written; count = count; units = units; tiled = tiled; others = others; size = size }
   where
-    both : (kind : ListKind) → AreListsWritten r places kind (list_bytes ranges locations kind) (moved_lists new_places kind).parts.items (moved_lists new_places kind).lists.items
+    both : (kind : ListKind) → AreListsWritten r places kind (list_bytes ranges locations kind) (moved_lists new_places kind).parts.items (moved_lists new_places kind).lists.items (list_views range_views location_views kind)
     both Ranges = of_ranges
     both Locations = of_locations
 
-module _ {file : List ℕ} {world : World} {r : Reading} {tables : List NewTable} {places : List Places} {new_places : NewPlaces} {info abbrevs lines ranges locations aranges : List ℕ} (parts : AreParts file world r tables places new_places info abbrevs lines ranges locations aranges) where
+module _ {file : List ℕ} {world : World} {r : Reading} {tables : List NewTable} {places : List Places} {new_places : NewPlaces} {info abbrevs lines ranges locations aranges : List ℕ} {range_views location_views : List Moved} (parts : AreParts file world r tables places new_places info abbrevs lines ranges locations aranges range_views location_views) where
   units_count : length world.units ≡ length r.links.units
   units_count = ap (λ (z : List HeadAndForest). length z) parts.holds.units ∙ length-map r.links.units head_and_forest
 
@@ -190,14 +199,8 @@ module _ {file : List ℕ} {world : World} {r : Reading} {tables : List NewTable
 
   -- the lists are read again
   module _ (read : IsReading file r) (ranges_law : RangesWritten) (locations_law : LocationsWritten) where
-    abbrev Anew : ListKind → Type 0
-    Anew kind =
-        (lists : List ListRead)
-        × ((places_are : ListPlaces) → places_are.parts.items ≡ (moved_lists new_places kind).parts.items → places_are.lists.items ≡ (moved_lists new_places kind).lists.items → AreListsAnew r places kind (new_section kind) lists places_are)
-        × ((s : Reading) → of_kind s.links kind ≡ new_section kind → lists_of s kind ≡ lists → (p : ℕ) → p < length (moved_lists new_places kind).parts.items → IsFilled kind s p)
-
-    read_again : (kind : ListKind) → Anew kind
-    read_again kind = lists_anew ranges_law locations_law file r read places kind (list_bytes ranges locations kind) (moved_lists new_places kind).parts.items (moved_lists new_places kind).lists.items (parts.lists kind)
+    read_again : (kind : ListKind) → AreReadBack r places kind (new_section kind) (moved_lists new_places kind).lists.items (list_views range_views location_views kind)
+    read_again kind = lists_anew ranges_law locations_law file r read places kind (list_bytes ranges locations kind) (moved_lists new_places kind).parts.items (moved_lists new_places kind).lists.items (list_views range_views location_views kind) (parts.lists kind)
 
     abbrev new_reading : Reading
     new_reading = record {
@@ -209,18 +212,41 @@ module _ {file : List ℕ} {world : World} {r : Reading} {tables : List NewTable
         ranges = new_section Ranges;
         locations = new_section Locations;
       };
-      range_lists = (read_again Ranges).0;
-      location_lists = (read_again Locations).0;
+      range_lists = (read_again Ranges).lists;
+      location_lists = (read_again Locations).lists;
+      views = (read_again Locations).made;
       sets = r.sets;
     }
 
     lists_are : (kind : ListKind) → AreListsAnew r places kind (of_kind new_reading.links kind) (lists_of new_reading kind) (moved_lists new_places kind)
-    lists_are Ranges = (read_again Ranges).1 new_places.ranges refl refl
-    lists_are Locations = (read_again Locations).1 new_places.locations refl refl
+    lists_are Ranges = (read_again Ranges).anew new_places.ranges refl refl
+    lists_are Locations = (read_again Locations).anew new_places.locations refl refl
+
+    -- a run is moved from where it is read
+    run_moved : (k : ℕ) → k < length r.views → ((moved_views_at new_places.views.items k).list ≡ (view_at r.views k).list) × ((moved_views_at new_places.views.items k).old ≡ (view_at r.views k).at) × ((moved_views_at new_places.views.items k).new ≡ (moved_at location_views k).new)
+    run_moved = moved_from_read read (parts.lists Locations) world parts.holds new_places.views.items parts.views
+
+    views_are : AreViewsAnew r new_reading new_places.views.items
+    views_are =
+        let kept = (read_again Locations).kept in
+        record {
+          count = parts.views.count ∙ sym (pairs_count parts.holds Locations);
+          with = λ k inside. (run_moved k inside).0;
+          from = λ k inside. (run_moved k inside).1;
+          numbers = kept.numbers;
+          numbered = kept.numbered;
+          inside = kept.inside;
+          to = λ k inside. (run_moved k inside).2 ∙ kept.to k inside;
+          order = kept.order;
+          all = kept.all;
+          each = λ k inside. (let one = kept.each k inside in record { list = one.list; inside = one.inside; from = one.from; to = one.to; pairs = one.pairs });
+          rising = kept.rising;
+          read = λ n inside. (let one = kept.read n inside in record { k = one.k; inside = one.inside; with = one.with; begins = one.begins; stands = one.stands });
+        }
 
     lists_filled : (kind : ListKind) (p : ℕ) → p < length (of_kind new_reading.links kind).parts → IsFilled kind new_reading p
-    lists_filled Ranges = (read_again Ranges).2 new_reading refl refl
-    lists_filled Locations = (read_again Locations).2 new_reading refl refl
+    lists_filled Ranges = (read_again Ranges).filled new_reading refl refl tt
+    lists_filled Locations = (read_again Locations).filled new_reading refl refl refl
 
     sections_are : (new : NewSections) → new.ranges.items ≡ ranges → new.locations.items ≡ locations → (kind : ListKind) → (of_kind new_reading.links kind).section ≡ new_lists new kind
     sections_are new n o Ranges = sym n
@@ -241,6 +267,7 @@ module _ {file : List ℕ} {world : World} {r : Reading} {tables : List NewTable
         programs = subst (λ (z : List ℕ). AreProgramsAnew (debug_line file) r.links new_reading.links z new_places) (sym l) programs_anew;
         section = sections_are new n o;
         lists = lists_are;
+        views = views_are;
         filled = lists_filled;
         addresses = refl;
         contexts = refl;
@@ -254,7 +281,7 @@ module _ {file : List ℕ} {world : World} {r : Reading} {tables : List NewTable
       },
     )
 
-module _ {file : List ℕ} {world : World} {r : Reading} {tables : List NewTable} {places : List Places} {new_places : NewPlaces} {info abbrevs lines ranges locations aranges : List ℕ} (parts : AreParts file world r tables places new_places info abbrevs lines ranges locations aranges) (read : IsReading file r) (valid : IsValid file Narrow) where
+module _ {file : List ℕ} {world : World} {r : Reading} {tables : List NewTable} {places : List Places} {new_places : NewPlaces} {info abbrevs lines ranges locations aranges : List ℕ} {range_views location_views : List Moved} (parts : AreParts file world r tables places new_places info abbrevs lines ranges locations aranges range_views location_views) (read : IsReading file r) (valid : IsValid file Narrow) where
   -- A section that the file lacks has no new bytes.
   pub lines_for : IsFor file line_name lines
   lines_for none =
@@ -329,8 +356,8 @@ heads_below section (head ∷ heads) a e follow =
     let inside = b.inside in
     All-cons (λ (h : Head). h.at < length section) head heads (omega (arith, inside)) (heads_below section heads (a + head.len) e follow.2)
 
-pub places_are_new : (section : List ℕ) (world : World) (bytes : List ℕ) (new_places : NewPlaces) → StandAnew section world.programs bytes new_places.programs.items → length bytes < 2 ^ 32 → AreListPlaces world Ranges new_places.ranges → AreListPlaces world Locations new_places.locations → AreNewPlaces world new_places
-places_are_new section world bytes new_places stand short of_ranges of_locations =
+pub places_are_new : (section : List ℕ) (world : World) (bytes : List ℕ) (new_places : NewPlaces) → StandAnew section world.programs bytes new_places.programs.items → length bytes < 2 ^ 32 → AreListPlaces world Ranges new_places.ranges → AreListPlaces world Locations new_places.locations → AreViewPlaces world new_places.views.items → AreNewPlaces world new_places
+places_are_new section world bytes new_places stand short of_ranges of_locations views =
     let size : length (map (λ (h : Head). h.at) stand.written) ≡ length stand.written = length-map stand.written (λ (h : Head). h.at) in
     let below = heads_below bytes stand.written 0 (length bytes) stand.read.tiled in
     let none : Head = no_program.head in
@@ -339,6 +366,7 @@ places_are_new section world bytes new_places stand short of_ranges of_locations
       programs = ap (λ (z : List ℕ). length z) stand.places ∙ size ∙ stand.count;
       programs_fit = subst (λ (z : List ℕ). All (λ start. start < 2 ^ 32) z) (sym stand.places) (All-map (λ start. start < 2 ^ 32) (λ (h : Head). h.at) stand.written each);
       lists = both;
+      views = views;
     }
   where
     both : (kind : ListKind) → AreListPlaces world kind (moved_lists new_places kind)

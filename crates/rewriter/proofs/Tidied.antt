@@ -17,7 +17,7 @@ use Rattle.value_links.specs.Reading.{Reading, no_unit}
 use Rattle.value_links.specs.World.{World, table_at}
 use Rattle.value_links.specs.Uses.{AreUses}
 use Rattle.list_model.specs.declared.entry.ListKind.{ListKind}
-use Rattle.value_links.specs.TidyLists.{AreTidyLists}
+use Rattle.value_links.specs.TidyLists.{AreTidyLists, AreTidyViews}
 use Rattle.value_links.specs.Tidy.{TablesTile, names_of, IsRenewed, IsTidyTable, AreTidyTables, IsTidyUnit, AreTidy}
 use Rattle.rewriter.specs.declared.tables.NewTable.{NewTable}
 use Rattle.rewriter.specs.declared.new_places.NewPlaces.{NewPlaces}
@@ -124,5 +124,5 @@ module _ {file : List ℕ} {world : World} {tables : List NewTable} {places : Li
       let moved = all.units.each u (subst (λ (n : ℕ). u < n) all.units.count inside) in
       record { short = moved.short; ends = moved.ends_short; filled = moved.filled })
 
-  pub are_tidy : ((kind : ListKind) → AreTidyLists kind r s) → AreTidy abbrevs r s
-  are_tidy lists = record { tables = tidy_tables; units = tidy_units; expressions = expressions_are_tidy file world tables places new_places info abbrevs r s all; lists = lists }
+  pub are_tidy : ((kind : ListKind) → AreTidyLists kind r s) → AreTidyViews r s → AreTidy abbrevs r s
+  are_tidy lists views = record { tables = tidy_tables; units = tidy_units; expressions = expressions_are_tidy file world tables places new_places info abbrevs r s all; lists = lists; views = views }

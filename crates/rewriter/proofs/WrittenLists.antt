@@ -19,11 +19,9 @@ use Rattle.list_model.specs.declared.item.Meaning.TheVariants.{Live, Dead}
 use Rattle.list_model.specs.Contributions.{HoldsList, IsContribution}
 use Rattle.list_model.proofs.Tiling.{each_part, part_inside}
 use Rattle.loc_lists.specs.Locations.{is_item, items_among, bytes_in}
-use Rattle.list_least.specs.declared.plan.Plan.{Plan}
 use Rattle.list_write.specs.declared.image.Moved.{Moved}
 use Rattle.list_write.specs.declared.named.NamedList.{NamedList}
-use Rattle.list_write.specs.declared.named.NewExpressions.{NewExpressions}
-use Rattle.list_write.specs.Written.{ToWrite, pieces, AreEnds, to_write, behind_size, full_size, HasExpressions, IsToWrite, CanBeWritten, AreWritten}
+use Rattle.list_write.specs.Written.{ToWrite, pieces, AreEnds, to_write, all_runs, run_size, own_size, full_size, behind_size, HasExpressions, IsToWrite, CanBeWritten, AreWritten}
 use Rattle.list_write.specs.Written.{part_at as old_part_at, list_at as written_at}
 use Rattle.unit_write.specs.declared.places.Places.{Places}
 use Rattle.value_links.specs.declared.lists.ListRead.{ListRead as HeldList}
@@ -33,7 +31,8 @@ use Rattle.value_links.specs.Lists.{IsOwner, IsFrozen, item_count, expressions_a
 use Rattle.value_links.specs.ListFaults.{list_total, entry_total, expression_bytes}
 use Rattle.value_links.specs.World.{World, contributions_held, lists_held, HoldsMeaning, Holds, IsWorldOf, HoldsList as IsHeld}
 use Rattle.rewriter.specs.inside.Numbers.{IsNewExpression}
-use Rattle.rewriter.specs.inside.Plans.{with_plan, IsPlanOf, AreExpressionsFor, IsPlannedAs, ArePlannedTo}
+use Rattle.rewriter.specs.inside.Plans.{with_plan, IsPlanOf, AreExpressionsFor, IsPlannedAs, ArePlannedTo, AreViewsUpTo}
+use Rattle.rewriter.specs.inside.Runs.{views_held}
 use Rattle.rewriter.specs.inside.Lists.{IsPlannedFor, AreNewExpressions, AreListsWritten}
 use Rattle.rewriter.proofs.ApartLaws.{items_said}
 use Rattle.rewriter.proofs.DebugSizes.{debug_short}
@@ -41,20 +40,21 @@ use Rattle.rewriter.proofs.ListPieces.{pieces_most, behind_most}
 use Rattle.rewriter.proofs.ListTotals.{few_entries, few_expression_bytes}
 use Rattle.rewriter.proofs.PickedLists.{each_more, counted_more}
 use Rattle.rewriter.proofs.PlannedLists.{items_counted, planned_most}
+use Rattle.rewriter.proofs.ViewRuns.{runs_are, runs_own, sizes_apart, runs_few}
 
 -- ---- the lists with their plans and expressions
 
 -- one more list has a plan and expressions
-pub planned_more : (world : World) (places : List Places) (kind : ListKind) (n : ℕ) (lists new : List NamedList) (list : HeldList) (plan : Plan) (expressions : NewExpressions) → ArePlannedTo world places kind n lists → n < length (lists_held world kind) → list ≡ get_or (lists_held world kind) n list → IsPlanOf world kind list plan → AreExpressionsFor world places kind list expressions → new ≡ lists ++ with_plan list plan expressions ∷ [] → ArePlannedTo world places kind (n + 1) new
-planned_more world places kind n lists new list plan expressions old inside is planned made pushed = subst (λ (z : List NamedList). ArePlannedTo world places kind (n + 1) z) (sym pushed) (record {
-  count = counted_more n lists (with_plan list plan expressions) old.count;
-  each = λ k d e less. each_more (λ (i : ℕ) (x : NamedList). (b : HeldList) → IsPlannedAs world places kind (get_or (lists_held world kind) i b) x) n lists (with_plan list plan expressions) old.count (λ i x before b. old.each i b x before) last k e less d;
+pub planned_more : (world : World) (places : List Places) (kind : ListKind) (n : ℕ) (lists new : List NamedList) (list : HeldList) (one : NamedList) → ArePlannedTo world places kind n lists → n < length (lists_held world kind) → list ≡ get_or (lists_held world kind) n list → one ≡ with_plan list one.plan one → IsPlanOf world kind list one.plan → AreExpressionsFor world places kind list one.expressions → new ≡ lists ++ one ∷ [] → ArePlannedTo world places kind (n + 1) new
+planned_more world places kind n lists new list one old inside is named planned made pushed = subst (λ (z : List NamedList). ArePlannedTo world places kind (n + 1) z) (sym pushed) (record {
+  count = counted_more n lists one old.count;
+  each = λ k d e less. each_more (λ (i : ℕ) (x : NamedList). (b : HeldList) → IsPlannedAs world places kind (get_or (lists_held world kind) i b) x) n lists one old.count (λ i x before b. old.each i b x before) last k e less d;
 })
   where
-    last : (b : HeldList) → IsPlannedAs world places kind (get_or (lists_held world kind) n b) (with_plan list plan expressions)
+    last : (b : HeldList) → IsPlannedAs world places kind (get_or (lists_held world kind) n b) one
     last b =
         let same : list ≡ get_or (lists_held world kind) n b = is ∙ get_or_default (lists_held world kind) n list b inside in
-        subst (λ (z : HeldList). IsPlannedAs world places kind z (with_plan list plan expressions)) same (record { is = refl; plan = planned; expressions = made })
+        subst (λ (z : HeldList). IsPlannedAs world places kind z one) same (record { is = named; plan = planned; expressions = made })
 
 at_mapped : {X Y : Type 0} (f : X → Y) (xs : List X) (k : ℕ) (y : Y) → k < length xs → (x : X) × (get_or (map f xs) k y ≡ f x) × ((e : X) → get_or xs k e ≡ x)
 at_mapped f [] k y less = absurd (omega arith)
@@ -162,8 +162,8 @@ module _ (world : World) (places : List Places) (kind : ListKind) (named : List 
         let (list, one, at) = found_at k within in
         let old : ListRead = list_at olds k in
         let held : IsHeld r.links kind old list = subst (λ (z : HeldList). IsHeld r.links kind old z) (at.held list) ((holds.lists kind).each k list inside) in
-        let plan = at.planned_as.plan r old one.expressions holds held in
-        let same : written_at writes k ≡ to_write (with_plan list one.plan one.expressions) = at.writes_at ∙ ap to_write at.planned_as.is in
+        let plan = at.planned_as.plan r old one holds held in
+        let same : written_at writes k ≡ to_write (with_plan list one.plan one) = at.writes_at ∙ ap to_write at.planned_as.is in
         let made = at.planned_as.expressions.are r old holds held in
         let expressions_are : (written_at writes k).expressions ≡ pieces 0 one.expressions.ends.items one.expressions.bytes.items = ap (λ (z : ToWrite). z.expressions) at.writes_at in (
           list,
@@ -185,20 +185,22 @@ module _ (world : World) (places : List Places) (kind : ListKind) (named : List 
     count_is = length-map named to_write ∙ planned.count ∙ (holds.lists kind).count
 
     -- what is written for the file
-    pub lists_written : (section : List ℕ) → section ≡ debug_lists world.image kind → (parts : List Contribution) → parts ≡ contributions_held world kind → (bytes : List ℕ) (new_parts : List Contribution) (moved : List Moved) → AreWritten kind section parts writes bytes new_parts moved → AreListsWritten r places kind bytes new_parts moved
-    lists_written section section_is parts parts_are bytes new_parts moved written = record {
+    pub lists_written : AreViewsUpTo (lists_held world kind) (views_held world kind) named (length (views_held world kind)) → (section : List ℕ) → section ≡ debug_lists world.image kind → (parts : List Contribution) → parts ≡ contributions_held world kind → (bytes : List ℕ) (new_parts : List Contribution) (moved views : List Moved) → AreWritten kind section parts writes bytes new_parts moved views → AreListsWritten r places kind bytes new_parts moved views
+    lists_written viewed section section_is parts parts_are bytes new_parts moved views written = record {
       lists = writes;
       count = count_is;
       each = plan_at;
       expressions = λ k inside. (for_list k inside).2.made;
+      runs = runs_are holds kind named viewed;
+      own = runs_own holds kind named viewed planned.count;
       written =
-          subst (λ (z : List Contribution). AreWritten kind (of_kind r.links kind).section z writes bytes new_parts moved) (parts_are ∙ holds.contributions kind)
-          (subst (λ (z : List ℕ). AreWritten kind z parts writes bytes new_parts moved) (section_is ∙ sym (holds.sections kind)) written);
+          subst (λ (z : List Contribution). AreWritten kind (of_kind r.links kind).section z writes bytes new_parts moved views) (parts_are ∙ holds.contributions kind)
+          (subst (λ (z : List ℕ). AreWritten kind z parts writes bytes new_parts moved views) (section_is ∙ sym (holds.sections kind)) written);
     }
 
   -- ---- the room that the lists need
 
-  module _ (is : IsWorldOf world.image Narrow world) where
+  module _ (is : IsWorldOf world.image Narrow world) (viewed : AreViewsUpTo (lists_held world kind) (views_held world kind) named (length (views_held world kind))) where
     abbrev own_lists : List ListRead
     own_lists = lists_of is.r kind
 
@@ -243,7 +245,7 @@ module _ (world : World) (places : List Places) (kind : ListKind) (named : List 
     total_few : (k : ℕ) → k < length own_lists → expression_bytes (list_at own_lists k).raws ≤ 2 ^ 27
     total_few k inside = omega (arith, get_or-le-sum_by (λ (list : ListRead). expression_bytes list.raws) own_lists k (list_at [] 0) inside, few_expression_bytes world is kind)
 
-    size_most : (k : ℕ) → k < length writes → full_size (written_at writes k) ≤ most_of (list_at own_lists k)
+    size_most : (k : ℕ) → k < length writes → own_size (written_at writes k) ≤ most_of (list_at own_lists k)
     size_most k inside =
         let within : k < length own_lists = omega (arith, own_count, inside) in
         let (list, one, found) = for_list is.r is.holds k within in
@@ -257,21 +259,23 @@ module _ (world : World) (places : List Places) (kind : ListKind) (named : List 
         let behind : sum_by behind_size expressions ≤ 10 * length expressions + sum_by length expressions = behind_most expressions (omega (arith, lengths, few, total)) in
         omega (arith, bare, lengths, count, few, behind)
 
-    sizes_fit : sum_by full_size writes ≤ 52 * entry_total own_lists + length own_lists + 3 * list_total expression_bytes own_lists
+    sizes_fit : sum_by own_size writes ≤ 52 * entry_total own_lists + length own_lists + 3 * list_total expression_bytes own_lists
     sizes_fit = omega (arith, sum_two writes own_lists own_count size_most, sum_most own_lists)
       where
-        sum_two : (xs : List ToWrite) (ys : List ListRead) → length xs ≡ length ys → ((k : ℕ) → k < length xs → full_size (written_at xs k) ≤ most_of (list_at ys k)) → sum_by full_size xs ≤ sum_by most_of ys
+        sum_two : (xs : List ToWrite) (ys : List ListRead) → length xs ≡ length ys → ((k : ℕ) → k < length xs → own_size (written_at xs k) ≤ most_of (list_at ys k)) → sum_by own_size xs ≤ sum_by most_of ys
         sum_two [] ys count each = omega arith
         sum_two (x ∷ xs) [] count each = absurd (omega arith)
         sum_two (x ∷ xs) (y ∷ ys) count each =
-            omega (arith, sum_by-cons full_size x xs, sum_by-cons most_of y ys, each 0 (omega arith), sum_two xs ys (omega arith) (λ k less. each (suc k) (omega arith)))
+            omega (arith, sum_by-cons own_size x xs, sum_by-cons most_of y ys, each 0 (omega arith), sum_two xs ys (omega arith) (λ k less. each (suc k) (omega arith)))
 
         sum_most : (ys : List ListRead) → sum_by most_of ys ≡ 52 * entry_total ys + length ys + 3 * list_total expression_bytes ys
         sum_most [] = refl
         sum_most (y ∷ ys) = omega (arith, sum_by-cons most_of y ys, sum_by-cons (λ (list : ListRead). length list.raws) y ys, sum_by-cons (λ (list : ListRead). expression_bytes list.raws) y ys, sum_most ys)
 
     room_is : length own_section.section + sum_by full_size writes < least_reserved
-    room_is = omega (arith, sizes_fit, few_lists, section_short, few_entries world is kind, few_expression_bytes world is kind)
+    room_is =
+        let views_few : sum_by run_size (all_runs writes) ≤ 20 * 2 ^ 24 = runs_few is.read kind writes (runs_are is.holds kind named viewed) is.few_views in
+        omega (arith, sizes_apart writes, views_few, sizes_fit, few_lists, section_short, few_entries world is kind, few_expression_bytes world is kind)
 
     to_write_at : (k : ℕ) → k < length writes → IsToWrite kind own_section.parts (written_at writes k)
     to_write_at k inside =

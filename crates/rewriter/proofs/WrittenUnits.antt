@@ -23,7 +23,6 @@ use Rattle.unit_write.specs.Moved.{IsMovedEntry, IsMovedEnd, AreMovedValues, IsW
 use Rattle.unit_write.specs.NewExpressions.{lens_of}
 use Rattle.value_links.specs.Reading.{UnitRead, Reading, no_unit, unit_heads, unit_among, unit_at, counts_of, AreWithin, declarations, IsUnitRead, AreUnitsIn}
 use Rattle.value_links.specs.Laws.{IsBuilt}
-use Rattle.value_links.specs.Sections.{debug_info}
 use Rattle.value_links.specs.World.{World, head_and_forest, table_at, Holds, IsWorldOf}
 use Rattle.rewriter.specs.declared.tables.NewTable.{NewTable}
 use Rattle.rewriter.specs.declared.new_places.NewPlaces.{NewPlaces}
@@ -38,9 +37,6 @@ use Rattle.rewriter.proofs.Standing.{held_count, held_unit}
 use Rattle.rewriter.proofs.Final.{table_known, unit_once}
 use Rattle.rewriter.proofs.BuiltTables.{built_anew}
 use Rattle.rewriter.proofs.BuiltUnits.{unit_built}
-use Rattle.rewriter.proofs.ColumnSpelled.{column_spelled}
-use Rattle.rewriter.proofs.WorldFacts.{of_table}
-use Rattle.rewriter.proofs.ColumnLaws.{AreAllSpelled}
 use Rattle.rewriter.proofs.Behind.{placed_with}
 use Rattle.rewriter.proofs.Written.{one_place, table_coded}
 
@@ -146,15 +142,11 @@ module _ (world : World) (reach : Reach) (tables : List NewTable) (places : List
         let below : (places_at places u).start ≤ length (take (places_at places u).end info) = omega arith in
         omega (arith, at, len, size, below)
 
-    spelled_there : AreAllSpelled world.units (table_at world.tables (slice_index world.table_of u))
-    spelled_there number j inside below =
-        column_spelled world.units (table_at world.tables (slice_index world.table_of u)) (debug_info world.image) world.table_of (slice_index world.table_of u) (of_table world reach is (slice_index world.table_of u) (is.holds.tables.inside u valid_known)) number j below
-
     built_there : All IsBuilt (declarations_of anew.listing)
     built_there =
         let old : All IsBuilt (declarations (unit_at is.r.links u)) = unit_built declarations_stand world.image reach is.r is.valid is.read u valid_known in
         let same : table_for world u ≡ (unit_at is.r.links u).table = table_known world.image world is.r u is.holds valid_known in
-        built_anew world.units abbrevs (table_at world.tables (slice_index world.table_of u)) (new_table_at tables (slice_index world.table_of u)) anew spelled_there (subst (λ (t : Listing). All IsBuilt (declarations_of t)) (sym same) old)
+        built_anew world.units abbrevs (table_at world.tables (slice_index world.table_of u)) (new_table_at tables (slice_index world.table_of u)) anew (subst (λ (t : Listing). All IsBuilt (declarations_of t)) (sym same) old)
 
     values_there : AreMovedValues (unit_at r.links u).forest (new_values behind.numbers) info (listed_to (read_in info).forest 0)
     values_there =

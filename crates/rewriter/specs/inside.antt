@@ -14,6 +14,9 @@ pub mod Numbers
 pub mod Placed
 pub mod Plans
 pub mod Rewritten
+pub mod Runs
 pub mod Sections
 pub mod Tables
 pub mod Units
+pub mod ViewsAnew
+pub mod ViewsKept

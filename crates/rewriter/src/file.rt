@@ -36,8 +36,9 @@ fn write_anew(alloc: Global, world: &World<'_>) -> Result<Vec<u8>, NoMemory>
 ///
 /// Each line number program is the shortest that gives its rows (DWARF 5 section 6.2). Each range list and location list that something
 /// names is the shortest that gives its ranges or locations in the context of its unit or, where it is frozen, the shortest with its own
-/// entries, expressions left out; but for headers and offsets nothing else stands in .debug_rnglists and .debug_loclists (sections 2.6.2, 2.17.3,
-/// 7.25, 7.28 and 7.29). Each abbreviation table that units name is
+/// entries, expressions left out. The view pairs of a location list, which are an extension of GNU's, stand directly before it, each number in
+/// its fewest bytes. But for headers and offsets nothing else stands in .debug_rnglists and .debug_loclists (sections 2.6.2, 2.17.3, 7.25, 7.28
+/// and 7.29). Each abbreviation table that units name is
 /// written once, without unused declarations, with the codes that take the fewest bytes (DWARF 5 section 7.5.3).
 ///
 /// A column is what one attribute of a declaration has in all entries of the declaration, over all units that name its table. Each

@@ -8,7 +8,8 @@ ghost use Rattle.value_links.specs.Sections.{debug_addr, debug_lists};
 ghost use Rattle.value_links.specs.Reading.{Reading};
 ghost use Rattle.value_links.specs.World.{World as AnyWorld, IsWorldOf, Holds, lists_held};
 ghost use Rattle.rewriter.specs.inside.Held.{AllHavePlaces};
-ghost use Rattle.rewriter.specs.inside.Plans.{AreMapsFor, IsPlanOf, ArePlannedTo};
+ghost use Rattle.rewriter.specs.inside.Plans.{AreMapsFor, IsPlanOf, ArePlannedTo, AreViewsUpTo};
+ghost use Rattle.rewriter.specs.inside.Runs.{views_held, AreRunsWith};
 ghost use Rattle.rewriter.specs.inside.Lists.{AreListsWritten};
 
 use crate::list_expressions::new_expressions;
@@ -16,10 +17,11 @@ use crate::table_maps::TableMaps;
 use dw_base::NoMemory;
 use list_least::{Plan, least_in, shortest_lists};
 use list_model::{Item, ListKind, Meaning, entries_say};
-use list_write::{ListImage, NamedList, kept_plan, write_lists};
+use list_write::{ListImage, NamedList, ViewRun, kept_plan, write_lists};
+use loc_lists::ViewPair;
 use std::alloc::Global;
 use unit_write::{Places, bytes_are_small};
-use value_links::{ListRead, World};
+use value_links::{ListRead, ViewRead, World};
 
 // The plan of a list that isn't frozen: the shortest entries that give its items in the context of its owner.
 fn live_plan(
@@ -84,7 +86,40 @@ fn plan_of(
     }
 }
 
-// The lists of a kind that something names, each with its plan and the new expressions of its items.
+// The view pairs that go with lists of a kind. Ranges have none.
+fn views_for<'a>(world: &'a World<'_>, kind: ListKind) -> &'a [ViewRead]
+    ensures { result.now ≡ views_held world.now kind }
+{
+    match kind {
+        ListKind::Ranges => &[],
+        ListKind::Locations => world.views(),
+    }
+}
+
+// A run of view pairs as it is to be written: as it was.
+fn same_run(alloc: Global, run: &ViewRead) -> Result<ViewRun, NoMemory>
+    ensures { IfOk result (λ new. (new.at ≡ run.now.at) × (new.pairs.items ≡ run.now.pairs.items)) }
+{
+    let mut pairs: Vec<ViewPair> = Vec::new(alloc);
+    pairs.extend_from_slice(&run.pairs)?;
+    Ok(ViewRun { at: run.at, pairs })
+}
+
+// The first of these runs that go with the list at a place.
+fn runs_with(alloc: Global, views: &[ViewRead], list: u64) -> Result<Vec<ViewRun>, NoMemory>
+    ensures { IfOk result (λ runs. AreRunsWith views.now list runs.items) }
+{
+    let mut runs: Vec<ViewRun> = Vec::new(alloc);
+    for run in views {
+        if run.list != list {
+            return Ok(runs);
+        }
+        runs.push(same_run(alloc, run)?)?;
+    }
+    Ok(runs)
+}
+
+// The lists of a kind that something names, each with its plan, the new expressions of its items, and the view pairs that go with it.
 fn planned_lists(
     alloc: Global,
     world: &World<'_>,
@@ -95,19 +130,25 @@ fn planned_lists(
     requires world { IsWorldOf world.now.image Narrow world.now }
     requires maps { AreMapsFor world.now (debug_addr world.now.image) maps.now }
     requires placed { AllHavePlaces world.now places.now.items }
-    ensures { IfOk result (λ lists. ArePlannedTo world.now places.now.items kind (length (lists_held world.now kind)) lists.items) }
+    ensures planned { IfOk result (λ lists. ArePlannedTo world.now places.now.items kind (length (lists_held world.now kind)) lists.items) }
+    ensures viewed { IfOk result (λ lists. AreViewsUpTo (lists_held world.now kind) (views_held world.now kind) lists.items (length (views_held world.now kind))) }
 {
     let addr = world.section(b".debug_addr");
     let section = section_of(world, kind);
+    let views = views_for(world, kind);
+    let mut next = 0;
     let mut lists: Vec<NamedList> = Vec::new(alloc);
     for list in world.lists(kind) {
         let plan = plan_of(alloc, world, maps, addr, kind, list)?;
         let expressions = new_expressions(alloc, world, places, kind, list, section)?;
+        let runs = runs_with(alloc, &views[next..], list.at)?;
+        next += runs.len();
         lists.push(NamedList {
             part: list.part,
             at: list.at,
             plan,
             expressions,
+            views: runs,
         })?;
     }
     Ok(lists)
@@ -125,7 +166,7 @@ fn section_of<'a>(world: &'a World<'_>, kind: ListKind) -> &'a [u8]
 
 /// The body of .debug_rnglists or .debug_loclists with the lists that something names written anew (DWARF 5 sections 2.6.2, 2.17.3,
 /// 7.7.3, 7.25, 7.28 and 7.29), each in its contribution and in the fewest bytes, with its expressions, in which each reference counts
-/// to the new place of what it names. `places` are those of the units. The only error is want of memory.
+/// to the new place of what it names. Before it stand its view pairs. `places` are those of the units. The only error is want of memory.
 pub fn write_kind(
     alloc: Global,
     world: &World<'_>,
@@ -136,7 +177,7 @@ pub fn write_kind(
     requires world { IsWorldOf world.now.image Narrow world.now }
     requires maps { AreMapsFor world.now (debug_addr world.now.image) maps.now }
     requires placed { AllHavePlaces world.now places.now.items }
-    ensures written { IfOk result (λ image. (r : Reading) → Holds world.now.image world.now r → AreListsWritten r places.now.items kind image.bytes.items image.parts.items image.lists.items) }
+    ensures written { IfOk result (λ image. (r : Reading) → Holds world.now.image world.now r → AreListsWritten r places.now.items kind image.bytes.items image.parts.items image.lists.items image.views.items) }
     ensures fits { IfOk result (λ image. length image.bytes.items < least_reserved) }
 {
     let lists = planned_lists(alloc, world, maps, places, kind)?;

@@ -10,13 +10,13 @@ ghost use Rattle.value_links.specs.Linked.{IsTargetAt};
 ghost use Rattle.value_links.specs.World.{IsWorldOf, Holds};
 ghost use Rattle.value_links.specs.inside.Checks.{IsNoExpr};
 ghost use Rattle.rewriter.specs.declared.new_places.NewPlaces.{NewPlaces as AnyPlaces};
-ghost use Rattle.rewriter.specs.inside.NewPlaces.{moved_lists};
+ghost use Rattle.rewriter.specs.inside.NewPlaces.{moved_lists, ViewsRise, AreViewsMoved};
 ghost use Rattle.rewriter.specs.inside.Tables.{AreTablesWritten};
-ghost use Rattle.rewriter.specs.inside.Placed.{places_anew, places_at, ArePlacesOf};
+ghost use Rattle.rewriter.specs.inside.Placed.{unit_in, places_anew, places_at, ArePlacesOf};
 ghost use Rattle.rewriter.specs.inside.Numbers.{MovesTo, AreNewNumbers};
 ghost use Rattle.rewriter.specs.inside.Held.{HavePlaces, AllHavePlaces, AreNewPlaces, MeansSomething, IsLinkFor, IsNumberOf, EntryMeans, entry_in, name_in, value_in, AreNumbersOf, UnitMeans, AreNumbered, IsEntryPlaced, IsCounted, IsReferenceOf, AreOperationsNumbered, HasType, IsTypeMoved};
 
-use crate::new_places::{ListPlaces, NewPlaces};
+use crate::new_places::{ListPlaces, MovedViews, NewPlaces};
 use crate::tables::NewTable;
 use dw_base::NoMemory;
 use dw_base::constants::DW_UT_TYPE;
@@ -90,13 +90,14 @@ fn place_in(unit: &Unit<'_>, offset: u64) -> u64
 }
 
 // What a value that is no expression refers to, where it means something.
-fn link_of(world: &World<'_>, unit: u32, name: u64, value: &Value) -> Link
+fn link_of(world: &World<'_>, unit: u32, id: u32, name: u64, value: &Value) -> Link
     requires unit { unit < length world.now.units }
+    requires id { id < length (unit_in world.now.units unit).forest.entries }
     requires plain { IsNoExpr value.now }
-    requires means { MeansSomething world.now unit name value.now }
-    ensures { IsLinkFor world.now unit name value.now result }
+    requires means { MeansSomething world.now unit id name value.now }
+    ensures { IsLinkFor world.now unit id name value.now result }
 {
-    match world.resolve(unit, name, value) {
+    match world.resolve(unit, id, name, value) {
         Some(link) => link,
         // A valid file has only values that mean something.
         None => unreachable!(),
@@ -104,14 +105,22 @@ fn link_of(world: &World<'_>, unit: u32, name: u64, value: &Value) -> Link
 }
 
 // The new number of a reference that counts from the first byte of its unit.
-fn local_number(world: &World<'_>, places: &Vec<Places>, unit: u32, name: u64, old: u64) -> u64
+fn local_number(
+    world: &World<'_>,
+    places: &Vec<Places>,
+    unit: u32,
+    id: u32,
+    name: u64,
+    old: u64,
+) -> u64
+    requires id { id < length (unit_in world.now.units unit).forest.entries }
     requires unit { unit < length world.now.units }
     requires placed { AllHavePlaces world.now places.now.items }
-    requires means { MeansSomething world.now unit name (Value.LocalRef old) }
-    ensures number { (new_places : AnyPlaces) → IsNumberOf world.now places.now.items new_places unit name (Value.LocalRef old) result }
+    requires means { MeansSomething world.now unit id name (Value.LocalRef old) }
+    ensures number { (new_places : AnyPlaces) → IsNumberOf world.now places.now.items new_places unit id name (Value.LocalRef old) result }
     ensures fits { result < 2 ^ 32 }
 {
-    match link_of(world, unit, name, &Value::LocalRef(old)) {
+    match link_of(world, unit, id, name, &Value::LocalRef(old)) {
         Link::Place(_, target) => {
             let own = &world.units()[unit as usize];
             let new = &places[unit as usize];
@@ -123,14 +132,22 @@ fn local_number(world: &World<'_>, places: &Vec<Places>, unit: u32, name: u64, o
 }
 
 // The new number of a reference that counts from the first byte of .debug_info.
-fn section_number(world: &World<'_>, places: &Vec<Places>, unit: u32, name: u64, old: u64) -> u64
+fn section_number(
+    world: &World<'_>,
+    places: &Vec<Places>,
+    unit: u32,
+    id: u32,
+    name: u64,
+    old: u64,
+) -> u64
+    requires id { id < length (unit_in world.now.units unit).forest.entries }
     requires unit { unit < length world.now.units }
     requires placed { AllHavePlaces world.now places.now.items }
-    requires means { MeansSomething world.now unit name (Value.SectionRef old) }
-    ensures number { (new_places : AnyPlaces) → IsNumberOf world.now places.now.items new_places unit name (Value.SectionRef old) result }
+    requires means { MeansSomething world.now unit id name (Value.SectionRef old) }
+    ensures number { (new_places : AnyPlaces) → IsNumberOf world.now places.now.items new_places unit id name (Value.SectionRef old) result }
     ensures fits { result < 2 ^ 32 }
 {
-    match link_of(world, unit, name, &Value::SectionRef(old)) {
+    match link_of(world, unit, id, name, &Value::SectionRef(old)) {
         Link::Place(other, target) => {
             let there = &world.units()[other as usize];
             new_place(there, &places[other as usize], target, old)
@@ -163,20 +180,42 @@ fn places_of(new_places: &NewPlaces, kind: ListKind) -> &ListPlaces
     }
 }
 
-// The new number of a section offset: the place of a line number program, a list or a contribution, else the old number.
-fn offset_number(world: &World<'_>, new_places: &NewPlaces, unit: u32, name: u64, old: u64) -> u64
+// The new place of view pairs that began at a place, and went with the list at another.
+fn views_place(moved: &[MovedViews], list: u64, old: u64) -> u64
+    requires rising { ViewsRise moved.now }
+    requires stands { (new : ℕ) × AreViewsMoved moved.now list old new }
+    ensures { AreViewsMoved moved.now list old result }
+{
+    match moved.binary_search_by_key(&(list, old), |views| (views.list, views.old)) {
+        Ok(run) => moved[run].new,
+        // Some began there.
+        Err(_) => unreachable!(),
+    }
+}
+
+// The new number of a section offset: the place of a line number program, a list, a contribution or view pairs, else the old number.
+fn offset_number(
+    world: &World<'_>,
+    new_places: &NewPlaces,
+    unit: u32,
+    id: u32,
+    name: u64,
+    old: u64,
+) -> u64
+    requires id { id < length (unit_in world.now.units unit).forest.entries }
     requires unit { unit < length world.now.units }
     requires new_places { AreNewPlaces world.now new_places.now }
-    requires means { MeansSomething world.now unit name (Value.Offset old) }
-    ensures number { (places : List Places) → IsNumberOf world.now places new_places.now unit name (Value.Offset old) result }
+    requires means { MeansSomething world.now unit id name (Value.Offset old) }
+    ensures number { (places : List Places) → IsNumberOf world.now places new_places.now unit id name (Value.Offset old) result }
     ensures fits { result < 2 ^ 32 }
 {
-    match link_of(world, unit, name, &Value::Offset(old)) {
+    match link_of(world, unit, id, name, &Value::Offset(old)) {
         Link::Lines(program) => new_places.programs[program as usize],
         Link::List(kind, _) => list_place(&places_of(new_places, kind).lists, old),
         Link::Base(kind, part) => places_of(new_places, kind).parts[part as usize].at + HEADER_SIZE,
+        Link::Views(list, place) => views_place(&new_places.views, list, place),
         Link::Kept(_) => old,
-        // A section offset names a program, a list or a contribution of lists, or is kept.
+        // A section offset names a program, a list, a contribution of lists or view pairs, or is kept.
         _ => unreachable!(),
     }
 }
@@ -187,20 +226,22 @@ fn new_number(
     places: &Vec<Places>,
     new_places: &NewPlaces,
     unit: u32,
+    id: u32,
     name: u64,
     value: Value,
 ) -> u64
+    requires id { id < length (unit_in world.now.units unit).forest.entries }
     requires unit { unit < length world.now.units }
     requires placed { AllHavePlaces world.now places.now.items }
     requires new_places { AreNewPlaces world.now new_places.now }
-    requires means { MeansSomething world.now unit name value }
-    ensures number { IsNumberOf world.now places.now.items new_places.now unit name value result }
+    requires means { MeansSomething world.now unit id name value }
+    ensures number { IsNumberOf world.now places.now.items new_places.now unit id name value result }
     ensures fits { result < 2 ^ 32 }
 {
     match value {
-        Value::LocalRef(old) => local_number(world, places, unit, name, old),
-        Value::SectionRef(old) => section_number(world, places, unit, name, old),
-        Value::Offset(old) => offset_number(world, new_places, unit, name, old),
+        Value::LocalRef(old) => local_number(world, places, unit, id, name, old),
+        Value::SectionRef(old) => section_number(world, places, unit, id, name, old),
+        Value::Offset(old) => offset_number(world, new_places, unit, id, name, old),
         _ => 0,
     }
 }
@@ -245,7 +286,7 @@ fn push_numbers(
     for column in 0..count {
         let name = name_of(world, unit, id, column);
         let value = value_of(world, unit, id, column);
-        let number = new_number(world, places, new_places, unit, name, value);
+        let number = new_number(world, places, new_places, unit, id, name, value);
         held.push(number)?;
     }
     Ok(())

@@ -11,7 +11,7 @@ ghost use Rattle.rewriter.specs.inside.Anew.{AreAnew};
 
 use crate::anew::{write_aranges, write_lines};
 use crate::lists::write_kind;
-use crate::new_places::{ListPlaces, NewPlaces};
+use crate::new_places::{ListPlaces, NewPlaces, moved_views};
 use crate::places::place_units;
 use crate::table_maps::TableMaps;
 use crate::tables::write_tables;
@@ -74,6 +74,7 @@ pub fn write_sections(alloc: Global, world: &World<'_>) -> Result<NewSections, N
             parts: locations.parts,
             lists: locations.lists,
         },
+        views: moved_views(alloc, world.views(), &locations.views)?,
     };
     let info = write_units(alloc, world, &tables, &places, &new_places)?;
     let aranges = write_aranges(alloc, world, &places)?;

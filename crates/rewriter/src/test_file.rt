@@ -148,9 +148,13 @@ pub fn new_places_of(alloc: Global, world: &World<'_>) -> Result<NewPlaces, NoMe
     if world.programs().len() != 2 {
         return Err(NoMemory);
     }
+    if !world.views().is_empty() {
+        return Err(NoMemory);
+    }
     Ok(NewPlaces {
         programs: vec![in alloc; 0u64, 43]?,
         ranges: no_lists(alloc, world, ListKind::Ranges)?,
         locations: no_lists(alloc, world, ListKind::Locations)?,
+        views: Vec::new(alloc),
     })
 }

@@ -52,18 +52,75 @@ const CLANG_ADDRESSES: [u8; 24] = [
     0x14, 0, 0, 0, 5, 0, 8, 0, 0, 0x10, 0x40, 0, 0, 0, 0, 0, 0, 0x20, 0x40, 0, 0, 0, 0, 0,
 ];
 
-// The sections stand from 64 on: .debug_info at 64, and .debug_abbrev at 64 + 101. The declaration of the parameter, which has the
-// DW_AT_GNU_locviews, is at 43 there.
-#[test]
-fn view_numbers_are_refused(rt: HostRuntime) -> Result<(), Fail> {
+// The DW_AT_high_pc of the root and of the function, 16, has one byte in place of 8. So the unit is 14 bytes shorter (0x53 for 0x61),
+// and the base type stands at 0x4f, where DW_AT_type (twice) and DW_AT_sibling name it. The list stands at 16, and the view pairs, (0, 1)
+// and (1, 0), directly before it, at 12.
+const LEAST_GCC_INFO_WITH_LISTS: [u8; 87] = [
+    0x53, 0, 0, 0, 5, 0, 1, 8, 0, 0, 0, 0, // the header
+    1, 0, 0, 0, 0, 0x1d, 0, 0, 0, 0, 4, 0, 0, 0, 0, 0x10, 0x40, 0, 0, 0, 0, 0, 0x10, 0, 0, 0, 0, // the root at 0x0c
+    2, 0x66, 0, 1, 0x4f, 0, 0, 0, 0, 0x10, 0x40, 0, 0, 0, 0, 0, 0x10, 1, 0x9c, 0x4f, 0, 0, 0, // the function at 0x27
+    3, 0x78, 0, 1, 0x4f, 0, 0, 0, 0x10, 0, 0, 0, 0x0c, 0, 0, 0, 0, // the parameter at 0x3e
+    4, 4, 5, 0x69, 0x6e, 0x74, 0, 0, // the base type at 0x4f
+];
+
+// The two DW_AT_high_pc (0x12) are data1 (0x0b) in place of data8 (7).
+const LEAST_GCC_ABBREVS_WITH_LISTS: [u8; 71] = [
+    1, 0x11, 1, 0x25, 0x0e, 0x13, 0x0b, 3, 0x1f, 0x1b, 0x1f, 0x11, 1, 0x12, 0x0b, 0x10, 0x17, 0, 0,
+    2, 0x2e, 1, 0x3f, 0x19, 3, 8, 0x3a, 0x21, 1, 0x3b, 0x0b, 0x49, 0x13, 0x11, 1, 0x12, 0x0b, 0x40,
+    0x18, 1, 0x13, 0, 0, 3, 5, 0, 3, 8, 0x3b, 0x0b, 0x49, 0x13, 2, 0x17, 0xb7, 0x42, 0x17, 0, 0, 4,
+    0x24, 0, 0x0b, 0x0b, 0x3e, 0x0b, 3, 8, 0, 0, 0,
+];
+
+// The same with the view pairs behind their list, which stands at 12: they stand at 26, and their first number has a byte too many.
+const GCC_PAIRS_BEHIND: [u8; 31] = [
+    0x1b, 0, 0, 0, 5, 0, 8, 0, 0, 0, 0, 0, 4, 0, 4, 1, 0x55, 4, 4, 0x10, 4, 0xa3, 1, 0x55, 0x9f, 0,
+    0x80, 0, 1, 1, 0,
+];
+
+// The unit of gcc whose parameter has its DW_AT_location, at 0x54, and its DW_AT_GNU_locviews, at 0x58, at these places.
+fn gcc_info(list: u8, pairs: u8) -> [u8; 101] {
+    let mut info = GCC_INFO;
+    info[0x54] = list;
+    info[0x58] = pairs;
+    info
+}
+
+// The answer to the file of gcc with this unit and these location lists.
+fn gcc_answer<'a>(alloc: Global, info: &'a [u8], locations: &'a [u8]) -> Result<Answer, Fail> {
     let sections: [(&str, &[u8]); 4] = [
-        (".debug_info", &GCC_INFO),
+        (".debug_info", info),
         (".debug_abbrev", &GCC_ABBREVS),
         (".debug_line", &SAMPLE),
+        (".debug_loclists", locations),
+    ];
+    shrunk(alloc, &sections)
+}
+
+#[test]
+fn view_pairs_stand_before_their_list(rt: HostRuntime) -> Result<(), Fail> {
+    let new: [(&str, &[u8]); 4] = [
+        (".debug_info", &LEAST_GCC_INFO_WITH_LISTS),
+        (".debug_abbrev", &LEAST_GCC_ABBREVS_WITH_LISTS),
+        (".debug_line", &LEAST_SAMPLE),
         (".debug_loclists", &GCC_LOCATIONS),
     ];
-    let answer = shrunk(rt.alloc(), &sections)?;
-    is_unwritten(&rt, &answer, 3, "refused Unbuilt at 208\n");
+    let answer = gcc_answer(rt.alloc(), &GCC_INFO, &GCC_LOCATIONS)?;
+    is_written(&rt, rt.alloc(), &answer, &new)?;
+    let behind = gcc_info(12, 26);
+    let answer = gcc_answer(rt.alloc(), &behind, &GCC_PAIRS_BEHIND)?;
+    is_written(&rt, rt.alloc(), &answer, &new)
+}
+
+// The sections stand from 64 on: .debug_info at 64, .debug_abbrev at 64 + 101, .debug_line at 165 + 71, and .debug_loclists, which has 30
+// bytes, at 236 + 76. Of the two pairs that are to stand at 28 one number is there; and none can stand behind the section.
+#[test]
+fn view_pairs_that_are_refused(rt: HostRuntime) -> Result<(), Fail> {
+    let cut = gcc_info(16, 28);
+    let answer = gcc_answer(rt.alloc(), &cut, &GCC_LOCATIONS)?;
+    is_unwritten(&rt, &answer, 3, "refused Short at 342\n");
+    let outside = gcc_info(16, 30);
+    let answer = gcc_answer(rt.alloc(), &outside, &GCC_LOCATIONS)?;
+    is_unwritten(&rt, &answer, 3, "refused Pointer at 152\n");
     Ok(())
 }
 

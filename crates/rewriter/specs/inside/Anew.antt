@@ -16,6 +16,7 @@ use Rattle.rewriter.specs.declared.sections.NewSections.{NewSections}
 use Rattle.rewriter.specs.inside.Tables.{AreTablesWritten}
 use Rattle.rewriter.specs.inside.Units.{AreUnitsWritten}
 use Rattle.rewriter.specs.inside.ListsAnew.{AreListsAnew}
+use Rattle.rewriter.specs.inside.ViewsAnew.{AreViewsAnew}
 use Rattle.rewriter.specs.inside.NewPlaces.{moved_lists}
 
 -- The programs of the new section begin at their new places, give few rows, and mean what the old ones mean, one by one.
@@ -47,6 +48,7 @@ pub record AreAnew (file : List ℕ) (world : World) (r s : Reading) (new : NewS
   pub programs : AreProgramsAnew (debug_line file) r.links s.links new.lines.items new_places
   pub section : (kind : ListKind) → (of_kind s.links kind).section ≡ new_lists new kind
   pub lists : (kind : ListKind) → AreListsAnew r places kind (of_kind s.links kind) (lists_of s kind) (moved_lists new_places kind)
+  pub views : AreViewsAnew r s new_places.views.items
   pub filled : (kind : ListKind) (p : ℕ) → p < length (of_kind s.links kind).parts → IsFilled kind s p
   pub addresses : s.links.addresses ≡ r.links.addresses
   pub contexts : s.links.contexts ≡ r.links.contexts

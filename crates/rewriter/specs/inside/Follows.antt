@@ -14,6 +14,7 @@ use Rattle.rewriter.specs.inside.Tables.{AreTablesWritten}
 use Rattle.rewriter.specs.inside.Units.{AreUnitsWritten}
 use Rattle.list_model.specs.declared.entry.ListKind.{ListKind}
 use Rattle.rewriter.specs.inside.ListsAnew.{AreListsAnew}
+use Rattle.rewriter.specs.inside.ViewsAnew.{AreViewsAnew}
 use Rattle.rewriter.specs.inside.NewPlaces.{moved_lists}
 
 -- there are as many line number programs, and they begin at their new places
@@ -29,6 +30,7 @@ pub record AreReadAnew (file : List ℕ) (world : World) (tables : List NewTable
   pub units : AreUnitsWritten world r.links tables places new_places info abbrevs s.links.units
   pub programs : AreProgramsMoved r.links s.links new_places
   pub lists : (kind : ListKind) → AreListsAnew r places kind (of_kind s.links kind) (lists_of s kind) (moved_lists new_places kind)
+  pub views : AreViewsAnew r s new_places.views.items
   pub addresses : s.links.addresses ≡ r.links.addresses
   pub contexts : s.links.contexts ≡ r.links.contexts
 

@@ -26,17 +26,19 @@ use Rattle.list_model.specs.Contributions.{offsets_at}
 use Rattle.list_write.specs.declared.image.Moved.{Moved}
 use Rattle.list_write.specs.Written.{moved_at}
 use Rattle.value_links.specs.declared.lists.ListRead.{ListRead as HeldList}
-use Rattle.value_links.specs.Reading.{Reading, lists_of, unit_at, list_at}
+use Rattle.value_links.specs.declared.views.ViewRead.{ViewRead as HeldViews}
+use Rattle.value_links.specs.Reading.{Reading, lists_of, unit_at, list_at, view_at}
 use Rattle.value_links.specs.declared.link.Link.{Link}
 use Rattle.value_links.specs.Linked.{Linked, Links}
-use Rattle.value_links.specs.Linked.Linked.{ListAt}
+use Rattle.value_links.specs.Linked.Linked.{ListAt, ViewsAt}
 use Rattle.value_links.specs.Links.{IsLinkFound}
 use Rattle.value_links.specs.Operations.{OpTarget, Names}
 use Rattle.value_links.specs.World.{World, contributions_held, lists_held, table_at, operations_at, Holds}
 use Rattle.rewriter.specs.declared.tables.NewTable.{NewTable}
 use Rattle.rewriter.specs.declared.new_places.ListPlaces.{ListPlaces}
+use Rattle.rewriter.specs.declared.new_places.MovedViews.{MovedViews}
 use Rattle.rewriter.specs.declared.new_places.NewPlaces.{NewPlaces}
-use Rattle.rewriter.specs.inside.NewPlaces.{moved_lists}
+use Rattle.rewriter.specs.inside.NewPlaces.{moved_lists, moved_views_at, ViewsRise}
 use Rattle.rewriter.specs.inside.Tables.{new_table_at}
 use Rattle.rewriter.specs.inside.Placed.{PlacesAnew, places_anew, places_at, unit_in, IsPlacedBy, PlacesFollow}
 use Rattle.rewriter.specs.inside.Numbers.{MovesEntry, IsNewNumber, IsNewReference, AreNewNumbers}
@@ -75,37 +77,46 @@ pub record AreListPlaces (world : World) (kind : ListKind) (places : ListPlaces)
   pub rising : (j k : ℕ) → j < k → k < length places.lists.items → (moved_at places.lists.items j).old < (moved_at places.lists.items k).old
   pub lists_fit : All (λ (list : Moved). list.new < 2 ^ 32) places.lists.items
 
--- each line number program has a new place, which fits 32 bits, and so have the contributions and the lists
+-- the view pairs that are held have new places, which fit 32 bits
+pub record AreViewPlaces (world : World) (moved : List MovedViews) : Type 0 where
+  pub count : length moved ≡ length world.views
+  pub each : (k : ℕ) (d : HeldViews) → k < length world.views → ((moved_views_at moved k).list ≡ (slice_index_or world.views k d).list) × ((moved_views_at moved k).old ≡ (slice_index_or world.views k d).at)
+  pub rising : ViewsRise moved
+  pub fit : All (λ (views : MovedViews). views.new < 2 ^ 32) moved
+
+-- each line number program has a new place, which fits 32 bits, and so have the contributions, the lists and the view pairs
 pub record AreNewPlaces (world : World) (new_places : NewPlaces) : Type 0 where
   pub programs : length new_places.programs.items ≡ length world.programs
   pub programs_fit : All (λ (start : ℕ). start < 2 ^ 32) new_places.programs.items
   pub lists : (kind : ListKind) → AreListPlaces world kind (moved_lists new_places kind)
+  pub views : AreViewPlaces world new_places.views.items
 
 -- a section offset has the 4 bytes of the 32-bit format (DWARF 5 section 7.4)
 abbrev pub FitsOffset : Value → Type 0
 FitsOffset (value.Offset n) = n < 2 ^ 32
 FitsOffset other = Unit {0}
 
--- Something that is read of the file says what the value of an attribute refers to. A list to which it refers is read.
-pub record MeansSomething (world : World) (u name : ℕ) (v : Value) : Type 0 where
+-- Something that is read of the file says what the value of an attribute of an entry refers to. A list to which it refers is read, and so
+-- are view pairs.
+pub record MeansSomething (world : World) (u id name : ℕ) (v : Value) : Type 0 where
   pub file : List ℕ
   pub r : Reading
   pub holds : Holds file world r
-  pub id : ℕ
   pub linked : Linked
   pub links : Links r.links u id name (meant_in (unit_at r.links u).forest.section v) linked
   pub listed : (kind : ListKind) (n : ℕ) → Links r.links u id name (meant_in (unit_at r.links u).forest.section v) (ListAt kind n) → (k : ℕ) × (k < length (lists_of r kind)) × ((list_at (lists_of r kind) k).at ≡ n)
+  pub viewed : (list n : ℕ) → Links r.links u id name (meant_in (unit_at r.links u).forest.section v) (ViewsAt list n) → (k : ℕ) × (k < length r.views) × ((view_at r.views k).list ≡ list) × ((view_at r.views k).at ≡ n)
   pub fits : FitsOffset v
 
--- such a value has this link, whichever entry of the unit it is of
-abbrev pub IsLinkFor : World → ℕ → ℕ → Value → Link → Type 0
-IsLinkFor world u name v link =
-    (file : List ℕ) (r : Reading) (id : ℕ) → Holds file world r → IsLinkFound r.links u id name (meant_in (unit_at r.links u).forest.section v) (Some link)
+-- such a value has this link
+abbrev pub IsLinkFor : World → ℕ → ℕ → ℕ → Value → Link → Type 0
+IsLinkFor world u id name v link =
+    (file : List ℕ) (r : Reading) → Holds file world r → IsLinkFound r.links u id name (meant_in (unit_at r.links u).forest.section v) (Some link)
 
 -- and this new number
-abbrev pub IsNumberOf : World → List Places → NewPlaces → ℕ → ℕ → Value → ℕ → Type 0
-IsNumberOf world places new_places u name v new =
-    (file : List ℕ) (r : Reading) (id : ℕ) → Holds file world r → IsNewNumber r.links places new_places u id name (meant_in (unit_at r.links u).forest.section v) new
+abbrev pub IsNumberOf : World → List Places → NewPlaces → ℕ → ℕ → ℕ → Value → ℕ → Type 0
+IsNumberOf world places new_places u id name v new =
+    (file : List ℕ) (r : Reading) → Holds file world r → IsNewNumber r.links places new_places u id name (meant_in (unit_at r.links u).forest.section v) new
 
 -- the table of a unit, an entry, the name of one of its attributes, and its value
 abbrev pub table_for : World → ℕ → Listing
@@ -130,14 +141,14 @@ pub record EntryMeans (world : World) (u id : ℕ) : Type 0 where
   pub counted : (entry_in world u id).count ≡ (decl_at (table_for world u).decls (entry_in world u id).decl).count
   pub columns : (decl_at (table_for world u).decls (entry_in world u id).decl).first + (entry_in world u id).count ≤ length (table_for world u).specs
   pub values : (entry_in world u id).first + (entry_in world u id).count ≤ length (unit_in world.units u).forest.values
-  pub means : (column : ℕ) → column < (entry_in world u id).count → MeansSomething world u (name_in world u id column) (value_in world u id column)
+  pub means : (column : ℕ) → column < (entry_in world u id).count → MeansSomething world u id (name_in world u id column) (value_in world u id column)
 
 -- Numbers for the first columns of an entry follow others.
 pub record AreNumbersUpTo (world : World) (places : List Places) (new_places : NewPlaces) (u id : ℕ) (old new : List ℕ) (count : ℕ) : Type 0 where
   pub size : length new ≡ length old + count
   pub front : (k : ℕ) → k < length old → slice_index new k ≡ slice_index old k
   pub fit : (k : ℕ) → length old ≤ k → k < length new → slice_index new k < 2 ^ 32
-  pub each : (column : ℕ) → column < count → IsNumberOf world places new_places u (name_in world u id column) (value_in world u id column) (slice_index new (length old + column))
+  pub each : (column : ℕ) → column < count → IsNumberOf world places new_places u id (name_in world u id column) (value_in world u id column) (slice_index new (length old + column))
 
 abbrev pub AreNumbersOf : World → List Places → NewPlaces → ℕ → ℕ → List ℕ → List ℕ → Type 0
 AreNumbersOf world places new_places u id old new = AreNumbersUpTo world places new_places u id old new (entry_in world u id).count
@@ -186,7 +197,7 @@ pub record AreNumberedUpTo (world : World) (places : List Places) (new_places : 
   pub size : (count < length (unit_in world.units u).forest.entries → length held ≡ (entry_in world u count).first) × (count ≡ length (unit_in world.units u).forest.entries → length held ≡ length (unit_in world.units u).forest.values)
   pub fit : (k : ℕ) → k < length held → slice_index held k < 2 ^ 32
   pub inside : (id : ℕ) → id < count → (entry_in world u id).first + (entry_in world u id).count ≤ length held
-  pub each : (id column : ℕ) → id < count → column < (entry_in world u id).count → IsNumberOf world places new_places u (name_in world u id column) (value_in world u id column) (slice_index held ((entry_in world u id).first + column))
+  pub each : (id column : ℕ) → id < count → column < (entry_in world u id).count → IsNumberOf world places new_places u id (name_in world u id column) (value_in world u id column) (slice_index held ((entry_in world u id).first + column))
 
 abbrev pub AreNumbered : World → List Places → NewPlaces → ℕ → List ℕ → Type 0
 AreNumbered world places new_places u held = AreNumberedUpTo world places new_places u held (length (unit_in world.units u).forest.entries)

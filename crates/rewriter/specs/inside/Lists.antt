@@ -1,5 +1,5 @@
 -- The lists of a kind of a file written anew.
-use Rattle.std.specs.Prelude.{◌≡◌, ◌≤◌, ◌<◌, ◌+◌, ◌*◌, ℕ, List, length, Option, Some}
+use Rattle.std.specs.Prelude.{◌≡◌, ◌≤◌, ◌<◌, ◌+◌, ◌*◌, ℕ, List, length, map, Option, Some}
 use Rattle.std.specs.List.{AllZip}
 use Rattle.unit_write.specs.declared.places.Places.{Places}
 use Rattle.list_model.specs.declared.contribution.Contribution.{Contribution}
@@ -9,12 +9,13 @@ use Rattle.list_model.specs.Items.{Bounds, Give}
 use Rattle.list_least.specs.Plans.{entries_bytes, ArePicks}
 use Rattle.list_least.specs.Shortest.{ShortestList}
 use Rattle.list_write.specs.declared.image.Moved.{Moved}
-use Rattle.list_write.specs.Written.{ToWrite, AreWritten}
+use Rattle.list_write.specs.Written.{ToWrite, all_runs, runs_before, AreWritten}
 use Rattle.list_write.specs.Written.{list_at as written_at}
-use Rattle.value_links.specs.Reading.{ListRead, Linkable, Reading, of_kind, lists_of, list_at, context_at}
+use Rattle.value_links.specs.Reading.{ListRead, Linkable, Reading, of_kind, lists_of, list_at, view_at, context_at}
 use Rattle.value_links.specs.Lists.{IsOwner, IsFrozen, owner_unit, expressions_at}
 use Rattle.value_links.specs.Classes.{AreLeastBytes}
 use Rattle.rewriter.specs.inside.Numbers.{IsNewExpression}
+use Rattle.rewriter.specs.inside.Runs.{views_among, run_for}
 
 -- The entries of a list that isn't frozen give what the old ones give in the context of its owner, and those of a frozen one are its
 -- own.
@@ -40,11 +41,13 @@ pub record AreNewExpressions (r : Linkable) (places : List Places) (kind : ListK
   pub owned : IsOwner r kind list.at owner
   pub each : AllZip (IsNewExpression r places (owner_unit r owner)) (expressions_at r kind list) made
 
--- The section holds the lists that something names, each as it is planned with its expressions, and nothing else. `places` are those of
--- all units.
-pub record AreListsWritten (r : Reading) (places : List Places) (kind : ListKind) (section : List ℕ) (parts : List Contribution) (moved : List Moved) : Type 0 where
+-- The section holds the lists that something names, each as it is planned with its expressions and its view pairs, and nothing else.
+-- `places` are those of all units.
+pub record AreListsWritten (r : Reading) (places : List Places) (kind : ListKind) (section : List ℕ) (parts : List Contribution) (moved views : List Moved) : Type 0 where
   pub lists : List ToWrite
   pub count : length lists ≡ length (lists_of r kind)
   pub each : (k : ℕ) → k < length (lists_of r kind) → IsPlannedFor r kind (list_at (lists_of r kind) k) (written_at lists k)
   pub expressions : (k : ℕ) → k < length (lists_of r kind) → AreNewExpressions r.links places kind (list_at (lists_of r kind) k) (written_at lists k).expressions
-  pub written : AreWritten kind (of_kind r.links kind).section (of_kind r.links kind).parts lists section parts moved
+  pub runs : all_runs lists ≡ map run_for (views_among kind r.views)
+  pub own : (k i : ℕ) → k < length (lists_of r kind) → i < length (written_at lists k).views → (view_at (views_among kind r.views) (runs_before lists k + i)).list ≡ (list_at (lists_of r kind) k).at
+  pub written : AreWritten kind (of_kind r.links kind).section (of_kind r.links kind).parts lists section parts moved views

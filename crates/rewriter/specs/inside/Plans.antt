@@ -1,5 +1,5 @@
 -- The plans of the lists of a file, their new expressions, and the maps of the address tables that the plans need.
-use Rattle.std.specs.Prelude.{◌≡◌, ◌≤◌, ◌<◌, ◌*◌, ℕ, List, length, slice_index_or, Some, None}
+use Rattle.std.specs.Prelude.{◌≡◌, ◌≤◌, ◌<◌, ◌+◌, ◌*◌, ℕ, List, length, map, take, slice_index_or, Some, None}
 use Rattle.std.specs.List.{All, Contains}
 use Rattle.list_model.specs.declared.context.Context.{Context}
 use Rattle.list_model.specs.declared.entry.ListKind.{ListKind}
@@ -8,15 +8,17 @@ use Rattle.list_least.specs.declared.plan.Plan.{Plan}
 use Rattle.list_least.specs.Maps.{pair_at, IsMapOf}
 use Rattle.list_write.specs.declared.named.NamedList.{NamedList}
 use Rattle.list_write.specs.declared.named.NewExpressions.{NewExpressions}
-use Rattle.list_write.specs.Written.{AreEnds, pieces, to_write}
+use Rattle.list_write.specs.Written.{AreEnds, pieces, to_write, all_runs, runs_before, list_at}
 use Rattle.unit_write.specs.declared.places.Places.{Places}
 use Rattle.value_links.specs.declared.lists.ListRead.{ListRead as HeldList}
+use Rattle.value_links.specs.declared.views.ViewRead.{ViewRead as HeldViews}
 use Rattle.value_links.specs.Reading.{ListRead, Reading, no_context}
 use Rattle.value_links.specs.ListFaults.{expression_bytes}
 use Rattle.value_links.specs.World.{World, lists_held, Holds, HoldsList}
 use Rattle.rewriter.specs.declared.table_maps.TableMap.{TableMap}
 use Rattle.rewriter.specs.declared.table_maps.TableMaps.{TableMaps}
 use Rattle.rewriter.specs.inside.Lists.{IsPlannedFor, AreNewExpressions}
+use Rattle.rewriter.specs.inside.Runs.{run_held}
 
 -- TABLES
 
@@ -67,14 +69,14 @@ IsContextIn world context = (u : ℕ) × (u < length world.units) × (context �
 
 -- PLANS
 
--- a list with its plan and the expressions of its items
-abbrev pub with_plan : HeldList → Plan → NewExpressions → NamedList
-with_plan list plan expressions = record { part = list.part; at = list.at; plan = plan; expressions = expressions }
+-- a list with its plan; the expressions of its items and its view pairs are those of another
+abbrev pub with_plan : HeldList → Plan → NamedList → NamedList
+with_plan list plan other = record { part = list.part; at = list.at; plan = plan; expressions = other.expressions; views = other.views }
 
 -- A list of a kind that is held is to be written by a plan, whatever reading holds it.
 abbrev pub IsPlanOf : World → ListKind → HeldList → Plan → Type 0
 IsPlanOf world kind list plan =
-    (r : Reading) (old : ListRead) (expressions : NewExpressions) → Holds world.image world r → HoldsList r.links kind old list → IsPlannedFor r kind old (to_write (with_plan list plan expressions))
+    (r : Reading) (old : ListRead) (other : NamedList) → Holds world.image world r → HoldsList r.links kind old list → IsPlannedFor r kind old (to_write (with_plan list plan other))
 
 -- Its items are to have these expressions, which stand one after the other and have at most three times the bytes of the old ones.
 pub record AreExpressionsFor (world : World) (places : List Places) (kind : ListKind) (list : HeldList) (new : NewExpressions) : Type 0 where
@@ -84,11 +86,18 @@ pub record AreExpressionsFor (world : World) (places : List Places) (kind : List
 
 -- this is a list with such a plan and such expressions
 pub record IsPlannedAs (world : World) (places : List Places) (kind : ListKind) (list : HeldList) (named : NamedList) : Type 0 where
-  pub is : named ≡ with_plan list named.plan named.expressions
+  pub is : named ≡ with_plan list named.plan named
   pub plan : IsPlanOf world kind list named.plan
   pub expressions : AreExpressionsFor world places kind list named.expressions
 
--- the first lists, each with a plan and expressions
+-- The view pairs of the first lists are the first of all; those of each go with it, and those that are left with lists behind.
+pub record AreViewsUpTo (lists : List HeldList) (views : List HeldViews) (named : List NamedList) (next : ℕ) : Type 0 where
+  pub inside : next ≤ length views
+  pub are : all_runs (map to_write named) ≡ map run_held (take next views)
+  pub own : (k i : ℕ) (d : HeldList) (e : HeldViews) → k < length named → i < length (list_at (map to_write named) k).views → (slice_index_or views (runs_before (map to_write named) k + i) e).list ≡ (slice_index_or lists k d).at
+  pub later : (k m : ℕ) (d : HeldList) (e : HeldViews) → k < length named → next ≤ m → m < length views → (slice_index_or lists k d).at < (slice_index_or views m e).list
+
+-- the first lists, each with a plan, expressions and view pairs
 pub record ArePlannedTo (world : World) (places : List Places) (kind : ListKind) (n : ℕ) (named : List NamedList) : Type 0 where
   pub count : length named ≡ n
   pub each : (k : ℕ) (d : HeldList) (e : NamedList) → k < n → IsPlannedAs world places kind (slice_index_or (lists_held world kind) k d) (slice_index_or named k e)

@@ -1,5 +1,4 @@
-use Rattle.std.proofs.Common.{◌∙◌, take, true, false, sym}
-use Rattle.expr_ops.specs.Drafts.{has_reference}
+use Rattle.std.proofs.Common.{◌∙◌, take, sym}
 use Rattle.rewriter.specs.inside.ListNumbers.{owner_in}
 use Rattle.rewriter.proofs.ListReferences.{no_references, reference_more, reference_none, references_narrow}
 use Rattle.rewriter.proofs.list_expressions.new_references.Goals as goal

@@ -29,5 +29,5 @@ returns c =
     (λ (plan : Plan). (entries : List Entry) → AreSaid c.args.kind list.raw.items entries → ArePicks c.args.kind plan.picks.items entries)
     (λ (plan : Plan). (entries : List Entry) → AreSaid c.args.kind list.raw.items entries → plan.size ≡ entries_bytes entries + 1)
     (λ (plan : Plan). (world : World) → IsPlanOf world c.args.kind list plan)
-    (λ plan picked bytes world r old expressions holds held. frozen_planned r c.args.kind old list held c.requires.meaning c.entries_say.ensures.said c.shortest_lists.ensures.frozen plan picked bytes expressions)
+    (λ plan picked bytes world r old other holds held. frozen_planned r c.args.kind old list held c.requires.meaning c.entries_say.ensures.said c.shortest_lists.ensures.frozen plan picked bytes other)
     c.kept_plan.ensures.picked c.kept_plan.ensures.bytes

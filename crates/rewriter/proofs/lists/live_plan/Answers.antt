@@ -54,8 +54,8 @@ returns c =
     (λ (plan : Plan). AcceptsList addr context (map bounds_of items) plan.potentials.items plan.size)
     (λ (plan : Plan). length plan.picks.items ≤ 2 * length items)
     (IsPlanOf world kind c.args.list.now)
-    (λ plan is accepted few r old expressions holds held.
+    (λ plan is accepted few r old other holds held.
     let addr_is : addr ≡ r.links.addresses = c.requires.addr ∙ sym holds.addresses in
     let context_is : context ≡ context_at r.links c.in-Some.owner = c.context-context.ensures world.image r holds in
-    planned_by r kind old c.args.list.now held items c.requires.items c.entries_say.ensures.said c.entries_say.ensures.walk c.shortest_lists.ensures.shortest c.shortest_lists.ensures.planned addr c.bytes_are_small.ensures.small addr_is context c.in-Some.owner c.in-Some.is context_is plan is accepted few expressions)
+    planned_by r kind old c.args.list.now held items c.requires.items c.entries_say.ensures.said c.entries_say.ensures.walk c.shortest_lists.ensures.shortest c.shortest_lists.ensures.planned addr c.bytes_are_small.ensures.small addr_is context c.in-Some.owner c.in-Some.is context_is plan is accepted few other)
     c.least_in.ensures.planned c.least_in.ensures.accepted c.least_in.ensures.few

@@ -18,8 +18,8 @@ name_of-name-requires-clause-column c =
 
 pub loop-column-preserved : goal.loop-column-preserved
 loop-column-preserved c =
-    let named = subst (λ (n : ℕ). IsNumberOf c.args.world.now c.args.places.now.items c.args.new_places.now c.args.unit n c.value_of-value.result c.new_number-number.result) c.name_of-name.ensures c.new_number-number.ensures.number in
-    let is = subst (λ (v : Value). IsNumberOf c.args.world.now c.args.places.now.items c.args.new_places.now c.args.unit (name_in c.args.world.now c.args.unit c.args.id c.loop-column.column) v c.new_number-number.result) c.value_of-value.ensures named in
+    let named = subst (λ (n : ℕ). IsNumberOf c.args.world.now c.args.places.now.items c.args.new_places.now c.args.unit c.args.id n c.value_of-value.result c.new_number-number.result) c.name_of-name.ensures c.new_number-number.ensures.number in
+    let is = subst (λ (v : Value). IsNumberOf c.args.world.now c.args.places.now.items c.args.new_places.now c.args.unit c.args.id (name_in c.args.world.now c.args.unit c.args.id c.loop-column.column) v c.new_number-number.result) c.value_of-value.ensures named in
     subst (λ (z : List ℕ). AreNumbersUpTo c.args.world.now c.args.places.now.items c.args.new_places.now c.args.unit c.args.id c.args.held.now.items z (c.loop-column.column + 1)) (sym c.in_ok-push.ensures.items) (numbers_more c.args.world.now c.args.places.now.items c.args.new_places.now c.args.unit c.args.id c.args.held.now.items c.loop-column.held.items c.loop-column.column c.new_number-number.result c.loop-column.invariant c.new_number-number.ensures.fits is)
 
 pub returns : goal.returns

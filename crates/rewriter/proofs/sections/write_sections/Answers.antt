@@ -1,6 +1,6 @@
-use Rattle.std.proofs.Common.{refl, arith}
+use Rattle.std.proofs.Common.{◌∙◌, length, sym, ap, refl, arith}
 use Rattle.rewriter.proofs.Arranged.{all_placed}
-use Rattle.rewriter.proofs.ListsRead.{list_places}
+use Rattle.rewriter.proofs.ListsRead.{list_places, views_held_count, view_places}
 use Rattle.rewriter.proofs.SectionsAnew.{parts_of, are_anew, are_for, writable, places_are_new, places_fit}
 use Rattle.rewriter.proofs.sections.write_sections.Goals as goal
 
@@ -16,6 +16,11 @@ pub write_kind-requires-2-clause-placed : goal.write_kind-requires-2-clause-plac
 write_kind-requires-2-clause-placed c =
     all_placed c.args.world.now c.in_ok-tables.tables.tables.items c.in_ok-places.places.items c.in_ok-places.ensures.placed.0 c.in_ok-places.ensures.placed.1
 
+pub moved_views-requires : goal.moved_views-requires
+moved_views-requires c =
+    let w = c.requires.world in
+    views_held_count w.read (c.in_ok-locations.ensures.written w.r w.holds) c.args.world.now w.holds ∙ sym (ap length c.views.ensures)
+
 pub write_units-requires-clause-narrow : goal.write_units-requires-clause-narrow
 write_units-requires-clause-narrow c = let fits = c.in_ok-tables.ensures.fits in omega (arith, fits)
 
@@ -30,6 +35,7 @@ write_units-requires-clause-new_places c =
     places_are_new _ c.args.world.now c.in_ok-lines.lines.bytes.items _ c.in_ok-lines.ensures.stand (omega (arith, fits))
     (list_places w.read (c.in_ok-ranges.ensures.written w.r w.holds) c.args.world.now w.holds _ refl refl)
     (list_places w.read (c.in_ok-locations.ensures.written w.r w.holds) c.args.world.now w.holds _ refl refl)
+    (view_places w.read (c.in_ok-locations.ensures.written w.r w.holds) c.args.world.now w.holds _ (rw c.views.ensures at c.in_ok-moved_views.ensures))
 
 pub write_aranges-requires-clause-fit : goal.write_aranges-requires-clause-fit
 write_aranges-requires-clause-fit c =
@@ -38,13 +44,13 @@ write_aranges-requires-clause-fit c =
 pub returns-clause-anew : goal.returns-clause-anew
 returns-clause-anew c =
     λ r read holds.
-    let parts = parts_of holds c.in_ok-lines.ensures.stand (c.in_ok-ranges.ensures.written r holds) (c.in_ok-locations.ensures.written r holds) c.in_ok-tables.ensures.written c.in_ok-places.ensures.placed.1.count (c.in_ok-info.ensures.written c.args.world.now.image r holds) c.in_ok-aranges.ensures.tiled c.in_ok-aranges.ensures.others c.in_ok-aranges.ensures.size in
+    let parts = parts_of holds c.in_ok-lines.ensures.stand (c.in_ok-ranges.ensures.written r holds) (c.in_ok-locations.ensures.written r holds) (rw c.views.ensures at c.in_ok-moved_views.ensures) c.in_ok-tables.ensures.written c.in_ok-places.ensures.placed.1.count (c.in_ok-info.ensures.written c.args.world.now.image r holds) c.in_ok-aranges.ensures.tiled c.in_ok-aranges.ensures.others c.in_ok-aranges.ensures.size in
     are_anew parts read c.ranges_written.ensures c.locations_written.ensures _ refl refl refl refl refl refl
 
 pub returns-clause-sections : goal.returns-clause-sections
 returns-clause-sections c =
     let w = c.requires.world in
-    let parts = parts_of w.holds c.in_ok-lines.ensures.stand (c.in_ok-ranges.ensures.written w.r w.holds) (c.in_ok-locations.ensures.written w.r w.holds) c.in_ok-tables.ensures.written c.in_ok-places.ensures.placed.1.count (c.in_ok-info.ensures.written c.args.world.now.image w.r w.holds) c.in_ok-aranges.ensures.tiled c.in_ok-aranges.ensures.others c.in_ok-aranges.ensures.size in
+    let parts = parts_of w.holds c.in_ok-lines.ensures.stand (c.in_ok-ranges.ensures.written w.r w.holds) (c.in_ok-locations.ensures.written w.r w.holds) (rw c.views.ensures at c.in_ok-moved_views.ensures) c.in_ok-tables.ensures.written c.in_ok-places.ensures.placed.1.count (c.in_ok-info.ensures.written c.args.world.now.image w.r w.holds) c.in_ok-aranges.ensures.tiled c.in_ok-aranges.ensures.others c.in_ok-aranges.ensures.size in
     let info = c.in_ok-info.ensures.fits in
     let ranges = c.in_ok-ranges.ensures.fits in
     let locations = c.in_ok-locations.ensures.fits in
