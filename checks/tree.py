@@ -1,0 +1,941 @@
+#!/usr/bin/env python3
+"""Runs mikadocherry-tree on trees of files that are made here, and tests what becomes of each file, what is kept of it,
+and what happens where something fails, changes meanwhile or is killed.
+
+  checks/tree.py                       with the built program, crates/shrink_app/out/shrink_app
+  checks/tree.py --program PROGRAM     with another one
+  checks/tree.py --stand-in            with a script in its place that knows the answers, where none is built
+
+What the program has to write is known without it, as in checks/edge.py. Where it has to wait, fail or die, a script
+stands in its place always. Each test prints one line. The last line is `N passed, M failed`, and the exit status is 1
+where one failed.
+"""
+import argparse
+import collections
+import contextlib
+import hashlib
+import os
+import pty
+import random
+import shutil
+import signal
+import stat
+import struct
+import subprocess
+import sys
+import tempfile
+import time
+
+sys.dont_write_bytecode = True
+TOP = os.path.dirname(os.path.dirname(os.path.abspath(__file__)))
+sys.path.insert(0, os.path.join(TOP, "bench"))
+sys.path.insert(0, os.path.join(TOP, "checks"))
+from edge import ALONE, Failure, Skipped, difference, pair_of_units
+from elf_files import elf_file
+
+SCRIPT = os.path.join(TOP, "mikadocherry-tree")
+# A run has to end in this time.
+SECONDS = 60
+TESTS = []
+
+# The front of each script that stands in place of the program: it answers no words as the program does, and takes no
+# words beyond ASCII, as the program takes none that aren't UTF-8.
+FRONT = """#!/bin/sh
+if [ $# = 0 ]; then echo words; exit 2; fi
+LC_ALL=C
+case "$2$3" in *[!\\ -~]*) echo words; exit 2 ;; esac
+"""
+# It looks up what it has to answer in a folder, by the digest of the file.
+KNOWING = FRONT + """
+answer={folder}/$(sha256sum <"$2" | cut -c1-64)
+if [ -e "$answer.out" ]; then cat "$answer.out" >"$3" || exit 5; exit 0; fi
+if [ -e "$answer.said" ]; then cat "$answer.said"; exit 3; fi
+echo "refused Torn at 0"; exit 3
+"""
+# It writes a file without its last byte, which will do where nobody reads it.
+CUTTING = 'size=$(wc -c <"$2")\nhead -c $((size - 1)) "$2" >"$3"\n'
+
+
+def test(function):
+    TESTS.append(function)
+    return function
+
+
+def wanted(condition, words):
+    if not condition:
+        raise Failure(words)
+
+
+def temporary(name):
+    return os.fsencode(name).startswith(b".mikadocherry-")
+
+
+class Place:
+    """A folder for one test, with a tree of files in `tree`."""
+
+    def __init__(self, program, folder):
+        self.folder = os.fsencode(folder)
+        os.chmod(folder, 0o755)
+        os.mkdir(self.path("tree"))
+        os.mkdir(self.path("answers"))
+        self.program = program or self.script("knowing", KNOWING.format(folder=folder + "/answers"))
+
+    def path(self, name):
+        return os.path.join(self.folder, os.fsencode(name))
+
+    def in_tree(self, name):
+        return os.path.join(self.path("tree"), os.fsencode(name))
+
+    def script(self, name, text):
+        """A script in place of the program."""
+        path = self.path(name)
+        with open(path, "w") as file:
+            file.write(text)
+        os.chmod(path, 0o755)
+        return os.fsdecode(path)
+
+    def write(self, name, body, mode=0o644):
+        """A file in the tree, in folders that are made for it."""
+        path = self.in_tree(name)
+        os.makedirs(os.path.dirname(path), exist_ok=True)
+        with open(path, "wb") as file:
+            file.write(body)
+        os.chmod(path, mode)
+        return path
+
+    def read(self, name):
+        with open(self.in_tree(name), "rb") as file:
+            return file.read()
+
+    def knows(self, source, answer):
+        """Tells the stand-in what becomes of a file: the bytes that are written, or the line that refuses it."""
+        end = "said" if answer.startswith(b"refused ") else "out"
+        with open(self.path(f"answers/{hashlib.sha256(source).hexdigest()}.{end}"), "wb") as file:
+            file.write(answer)
+
+    def pair(self, count):
+        """A file of so many units and what is written for it."""
+        source, written = pair_of_units(count)
+        self.knows(source, written)
+        self.knows(written, written)
+        return source, written
+
+    def refused(self, source, line):
+        self.knows(source, line)
+        return source
+
+    def files(self):
+        """All names in the tree, with their bytes, or with where a symbolic link leads."""
+        found = {}
+        for folder, folders, names in os.walk(self.path("tree")):
+            for name in names + [it for it in folders if os.path.islink(os.path.join(folder, it))]:
+                path = os.path.join(folder, name)
+                key = os.path.relpath(path, self.path("tree"))
+                if os.path.islink(path):
+                    found[key] = os.readlink(path)
+                else:
+                    with open(path, "rb") as file:
+                        found[key] = file.read()
+        return found
+
+    def command(self, words, program=None):
+        return [sys.executable, SCRIPT, "--program", program or self.program, *(words or ["tree"])]
+
+    def run(self, *words, status=0, program=None, **how):
+        """Fails where the script doesn't end with this status; answers its standard output and its standard error."""
+        how = {"cwd": self.folder, "stdout": subprocess.PIPE, "stderr": subprocess.PIPE, "timeout": SECONDS, **how}
+        run = subprocess.run(self.command(words, program), **how)
+        stdout, stderr = (run.stdout or b"").decode(), (run.stderr or b"").decode()
+        wanted(run.returncode == status, f"{words}: status {run.returncode} and not {status}: {stdout!r}, {stderr!r}")
+        wanted("Traceback" not in stderr, stderr)
+        return stdout, stderr
+
+    def keeps(self, *words, **how):
+        """As run, and fails where a file of the tree differs then."""
+        before = self.files()
+        said = self.run(*words, **how)
+        self.has(before)
+        return said
+
+    def has(self, files):
+        """Fails where the tree doesn't have these files and no others."""
+        found = self.files()
+        for name in found.keys() | {os.fsencode(name) for name in files}:
+            wanted(name in found, f"{name} is missing")
+        for name, body in found.items():
+            wanted(name in files, f"{name} is made")
+            wanted(body == files[name], f"{name} has {difference(body, files[name])}")
+
+
+def counts(summary):
+    """The numbers of a summary by their words, without those that are 0."""
+    pairs = (line.rsplit(": ", 1) for line in summary.splitlines())
+    return {words: int(number) for words, number in pairs if int(number)}
+
+
+def says(summary, numbers):
+    found = counts(summary)
+    wanted(found == numbers, f"{found} is said, and not {numbers}")
+
+
+def object_file(whole):
+    """The same file as an object file."""
+    return whole[:16] + b"\1" + whole[17:]
+
+
+def compressed(whole):
+    """The same file with the flag SHF_COMPRESSED at its first section, which begins at 64."""
+    flags_at = struct.unpack_from("<Q", whole, 40)[0] + 64 + 8
+    return whole[:flags_at] + struct.pack("<Q", 0x800) + whole[flags_at + 8 :]
+
+
+PLAIN = elf_file([(b".text", b"1234567"), (b".debugger", b"")])
+
+
+def elf_32(order, name):
+    """An ELF-32 file in a byte order (< or >) with one section of this name beside that of the names."""
+    names = b"\0" + name + b"\0"
+    head = struct.pack(f"{order}HHIIIIIHHHHHH", 2, 3, 1, 0, 0, 52 + len(names), 0, 52, 0, 0, 40, 2, 1)
+    section = struct.pack(f"{order}10I", 1, 3, 0, 0, 52, len(names), 0, 0, 1, 0)
+    return b"\x7fELF\1" + (b"\1" if order == "<" else b"\2") + b"\1" + bytes(9) + head + names + bytes(40) + section
+
+
+@test
+def files_of_all_kinds(place):
+    """each file is replaced, refused by its kind, left or skipped, and counted so; a second run replaces none"""
+    pairs = [place.pair(count) for count in (20, 30, 40)]
+    for name, (source, _) in zip(("a", "b/c/d", "b/e.so"), pairs):
+        place.write(name, source, 0o755)
+    place.write("b/small", pairs[0][1])
+    source = pairs[0][0]
+    place.write("o.o", place.refused(object_file(source), b"refused FileType at 16\n"))
+    place.write("b/p.o", place.refused(object_file(pairs[1][0]), b"refused FileType at 16\n"))
+    place.write("z", place.refused(compressed(source), b"refused Compressed at 64\n"))
+    macro = elf_file([(b".text", b"1234567"), (b".debug_macro", b"")])
+    place.write("m", place.refused(macro, b"refused Companion at 71\n"))
+    place.write("plain", PLAIN)
+    place.write("alone", ALONE)
+    for name, body in (("empty", b""), ("text", b"ELF"), ("\n", b"\x7fELG" + source[4:])):
+        place.write(name, body)
+    files = {**place.files(), **{name: pair[1] for name, pair in zip((b"a", b"b/c/d", b"b/e.so"), pairs)}}
+    numbers = {"not smaller": 1, "refused": 4, "refused FileType": 2, "refused Compressed": 1, "refused Companion": 1}
+    numbers["without debug sections"] = 2
+    sizes = {"bytes before": sum(len(it[0]) for it in pairs), "bytes after": sum(len(it[1]) for it in pairs)}
+    stdout, stderr = place.run()
+    says(stdout, {"replaced": 3, **sizes, **numbers})
+    wanted(stderr == "", stderr)
+    place.has(files)
+    says(place.keeps()[0], {**numbers, "not smaller": 4})
+
+
+@test
+def dry_run(place):
+    """--dry-run says what would be, and leaves each file and inode as it is"""
+    source, written = place.pair(20)
+    os.link(place.write("a", source), place.in_tree("b"))
+    inode = os.stat(place.in_tree("a")).st_ino
+    stdout, _ = place.keeps("--dry-run", "tree")
+    says(stdout, {"would be replaced": 1, "bytes before": len(source), "bytes after": len(written)})
+    wanted(os.stat(place.in_tree("b")).st_ino == os.stat(place.in_tree("a")).st_ino == inode, "an inode differs")
+
+
+def properties(path):
+    """What is kept of a file."""
+    it = os.lstat(path)
+    attributes = {name: os.getxattr(path, name) for name in os.listxattr(path)}
+    return stat.filemode(it.st_mode), it.st_uid, it.st_gid, it.st_atime_ns, it.st_mtime_ns, attributes
+
+
+def keeps_properties(place, names):
+    before = {name: properties(place.in_tree(name)) for name in names}
+    says_replaced = counts(place.run()[0]).get("replaced")
+    wanted(says_replaced == len(names), f"{says_replaced} files are replaced, and not {len(names)}")
+    for name in names:
+        found = properties(place.in_tree(name))
+        wanted(found == before[name], f"{name}: {found} and not {before[name]}")
+
+
+@test
+def modes_and_times(place):
+    """modes with setuid, setgid and sticky bits are kept, and both times to the nanosecond"""
+    modes = (0o755, 0o4755, 0o2711, 0o6555, 0o1644, 0o400, 0o444, 0o640)
+    source, accessed, modified = place.pair(20)[0], 1_111_111_111_123_456_789, 1_222_222_222_987_654_321
+    for mode in modes:
+        os.utime(place.write(f"{mode:o}", source, mode), ns=(accessed + mode, modified - mode))
+    keeps_properties(place, [f"{mode:o}" for mode in modes])
+
+
+@test
+def owners(place):
+    """owner and group are kept, with the setuid bit and with capabilities, which a change of the owner takes away"""
+    if os.getuid() != 0:
+        raise Skipped("only root can give files away")
+    source = place.pair(20)[0]
+    for name, mode in (("a", 0o4755), ("b", 0o2755), ("c", 0o600), ("d", 0o755)):
+        path = place.write(name, source)
+        os.chown(path, 1_234, 2_345)
+        os.chmod(path, mode)
+    with contextlib.suppress(OSError):
+        os.setxattr(path, "security.capability", struct.pack("<5I", 0x2000001, 1 << 10, 0, 0, 0))
+    keeps_properties(place, ["a", "b", "c", "d"])
+
+
+def access_list(*entries):
+    return struct.pack("<I", 2) + b"".join(struct.pack("<HHI", tag, rights, who) for tag, rights, who in entries)
+
+
+@test
+def attributes(place):
+    """extended attributes and access control lists are kept, and none is added that the folder has for new files"""
+    source, nobody = place.pair(20)[0], 0xFFFFFFFF
+    rights = access_list((1, 6, nobody), (2, 4, 1_234), (4, 4, nobody), (16, 4, nobody), (32, 0, nobody))
+    path = place.write("a", source)
+    plain = place.write("b/b", source, 0o640)
+    try:
+        os.setxattr(path, "user.one", b"\0some\xff")
+        os.setxattr(path, "user.two", b"")
+        os.setxattr(path, "system.posix_acl_access", rights)
+        os.setxattr(os.path.dirname(plain), "system.posix_acl_default", rights)
+    except OSError as why:
+        raise Skipped(f"the file system has none: {why.strerror}") from None
+    keeps_properties(place, ["a", "b/b"])
+    wanted(not os.listxattr(plain), "a file has got attributes of its folder")
+
+
+def inodes(place, names):
+    return {os.stat(place.in_tree(name)).st_ino for name in names}
+
+
+@test
+def links_inside(place):
+    """the names of one file, in several folders and words, stay names of one file, with the new contents"""
+    source, written = place.pair(20)
+    names = ["a", "b", "c/d", "c/e/f"]
+    place.write("c/e/x", PLAIN)
+    os.link(place.write("a", source), place.in_tree("b"))
+    os.link(place.in_tree("a"), place.in_tree("c/d"))
+    os.link(place.in_tree("a"), place.in_tree("c/e/f"))
+    before, files = inodes(place, names), place.files()
+    stdout, _ = place.run("tree/c", "tree/a", "tree/b")
+    sizes = {"bytes before": len(source), "bytes after": len(written)}
+    says(stdout, {"replaced": 1, **sizes, "without debug sections": 1})
+    place.has({**files, **{os.fsencode(name): written for name in names}})
+    after = inodes(place, names)
+    wanted(len(after) == 1 and after != before, f"inodes {before} became {after}")
+    wanted(os.stat(place.in_tree("a")).st_nlink == 4, "there are more or fewer names")
+
+
+@test
+def links_to_the_outside(place):
+    """a file with a name outside the trees is left alone and counted, also where one name inside is found twice"""
+    os.link(place.write("a/a", place.pair(20)[0]), place.path("outside"))
+    before = os.stat(place.path("outside"))
+    several = ["tree", "tree/a", "tree/a/../a/a"], ["tree/a/a", "tree/a/a", "./tree/a/a"]
+    for words in (["tree"], ["tree", "tree"], *several):
+        says(place.keeps(*words)[0], {"linked from outside": 1})
+    wanted("tree/a/a: linked from outside" in place.keeps("--verbose", "tree")[1], "the file isn't named")
+    after = os.stat(place.path("outside"))
+    wanted((after.st_ino, after.st_nlink, after.st_ctime_ns) == (before.st_ino, 2, before.st_ctime_ns), "it differs")
+
+
+@test
+def symbolic_links(place):
+    """symbolic links to files and folders stay as they are, and what they name outside the tree does too"""
+    source, written = place.pair(20)
+    place.write("a", source)
+    place.write("../other/file", source)
+    targets = {"to_a": "a", "to_file": "../other/file", "to_folder": "../other", "to_none": "none", "up": "."}
+    for name, target in targets.items():
+        os.symlink(target, place.in_tree(name))
+    files = {**place.files(), b"a": written}
+    wanted(counts(place.run()[0])["replaced"] == 1, "more or less than one file is replaced")
+    place.has(files)
+    wanted(place.read("../other/file") == source, "a file outside the tree differs")
+    for name in ("to_a", "to_folder"):
+        wanted(f"tree/{name}: " in place.keeps(f"tree/{name}", status=1)[1], f"{name} as a word isn't named")
+
+
+@test
+def names_of_files(place):
+    """names with spaces, newlines, a leading - and bytes that aren't UTF-8, also of folders, are names like others"""
+    source, written = place.pair(20)
+    names = [b"a b", b"a\nb", "größer".encode(), b"-", b"--help"]
+    names += [b"\xff", b"\xc3\n", b"\xed\xa0\x80", b"f\xe9 /\xe9", b"f\xe9 /plain"]
+    for name in names:
+        place.write(name, source)
+    os.link(place.in_tree(b"\xff"), place.in_tree(b"f\xe9 /linked\xff"))
+    stdout, stderr = place.run()
+    wanted(counts(stdout)["replaced"] == len(names) and stderr == "", f"{stdout!r} and {stderr!r}")
+    place.has({name: written for name in [*names, b"f\xe9 /linked\xff"]})
+    wanted(len(inodes(place, [b"\xff", b"f\xe9 /linked\xff"])) == 1, "a link is broken")
+    place.write(b"again\xe9\n", source)
+    lines = place.run("--verbose", b"tree/again\xe9\n")[1].splitlines()
+    wanted(lines == [r"mikadocherry-tree: tree/again\xe9\n: replaced"], f"{lines!r} are said")
+
+
+@test
+def other_classes(place):
+    """ELF-32 files in both byte orders are skipped where they have no debug sections, and else refused"""
+    for order, name in (("<", "little"), (">", "big")):
+        place.write(name + "-plain", elf_32(order, b".text"))
+        place.write(name, place.refused(elf_32(order, b".debug_info"), b"refused NotElf64 at 0\n"))
+    place.write("old", place.refused(elf_file([(b".zdebug_info", b"12345")]), b"refused Compressed at 64\n"))
+    numbers = {"refused": 3, "refused NotElf64": 2, "refused Compressed": 1, "without debug sections": 2}
+    says(place.keeps()[0], numbers)
+
+
+@test
+def damaged_files(place):
+    """files that are cut or have other bytes in their headers are no fault, whatever they hold"""
+    whole, rng = bytearray(place.pair(3)[0]), random.Random(4)
+    headers_at = struct.unpack_from("<Q", whole, 40)[0]
+    for size in [*range(4, 65, 3), headers_at, headers_at + 64, len(whole) - 1]:
+        place.write(f"cut{size}", whole[:size])
+    for at in [*range(24, 64, 8), *range(headers_at, len(whole) - 7, 8)]:
+        place.write(f"large{at}", whole[:at] + b"\xff" * 8 + whole[at + 8 :])
+    for number in range(100):
+        damaged = bytearray(whole)
+        for _ in range(rng.randrange(1, 4)):
+            at = rng.choice([rng.randrange(4, 64), rng.randrange(headers_at, len(whole)), rng.randrange(40, 64)])
+            damaged[at] = rng.choice([0, 1, 127, 128, 255, rng.randrange(256)])
+        place.write(f"damaged{number}", damaged)
+    wanted("faults" not in counts(place.keeps("--dry-run", "tree")[0]), "a fault is counted")
+
+
+@test
+def wrong_words(place):
+    """wrong words have the status 2; a DIR that isn't there is named with the status 1, and the others are done"""
+    source, written = place.pair(20)
+    place.write("a", source)
+    for words in ("--grow tree", "--jobs 0 tree", "--jobs many tree", "--dry tree", "--dry-run"):
+        place.keeps(*words.split(), status=2)
+    stdout, stderr = place.run("missing", "tree", "/dev/null", status=1)
+    wanted(counts(stdout)["faults"] == 2 and counts(stdout)["replaced"] == 1, stdout)
+    wanted("missing: " in stderr and "/dev/null: " in stderr, stderr)
+    place.has({b"a": written})
+
+
+@test
+def which_program(place):
+    """the program beside the script is found, also through a link to it, else the one on the PATH, else it is said"""
+    source, written = place.pair(20)
+    for folder in ("beside", "bin", "none"):
+        os.mkdir(place.path(folder))
+    link = place.path("bin/linked")
+    os.symlink("../beside/mikadocherry-tree", link)
+    place.script("beside/mikadocherry", FRONT + f'exec "{place.program}" "$@"\n')
+    place.script("bin/mikadocherry", FRONT + f'exec "{place.program}" "$@"\n')
+    for folder in ("beside", "none"):
+        shutil.copy(SCRIPT, place.path(f"{folder}/mikadocherry-tree"))
+    path = os.environ["PATH"] + ":"
+    on_path = os.fsdecode(place.path("bin")) + ":" + path
+    for script, path, status in (
+        (place.path("beside/mikadocherry-tree"), path, 0),
+        (link, path, 0),
+        (place.path("none/mikadocherry-tree"), on_path, 0),
+        (place.path("none/mikadocherry-tree"), path, 1),
+    ):
+        place.write("a", source)
+        run = subprocess.run(
+            [sys.executable, script, "tree"], cwd=place.folder, env={**os.environ, "PATH": path}, capture_output=True
+        )
+        wanted(run.returncode == status, f"{script}: {run}")
+        place.has({b"a": source if status else written})
+
+
+@test
+def installed(place):
+    """make install refuses where the program isn't built, and else installs it with the script, which finds it"""
+    if not shutil.which("make"):
+        raise Skipped("there is no make")
+    for name in ("Makefile", "mikadocherry-tree"):
+        shutil.copy(os.path.join(TOP, name), place.path(name))
+    command = ["make", "install", "DESTDIR=" + os.fsdecode(place.path("a b")), "PREFIX=/usr"]
+    how = {"cwd": place.folder, "capture_output": True, "timeout": SECONDS}
+    run = subprocess.run(command, **how)
+    wanted(run.returncode == 2 and b"run ./mikadocherry first" in run.stderr, f"it isn't refused: {run}")
+    os.makedirs(place.path("crates/shrink_app/out"))
+    place.script("crates/shrink_app/out/shrink_app", FRONT + f'exec "{place.program}" "$@"\n')
+    run = subprocess.run(command, **how)
+    wanted(run.returncode == 0, f"it fails: {run}")
+    source, written = place.pair(20)
+    place.write("a", source)
+    subprocess.run([sys.executable, place.path("a b/usr/bin/mikadocherry-tree"), "tree"], check=True, **how)
+    place.has({b"a": written})
+
+
+@test
+def other_programs(place):
+    """a PROGRAM that is missing, can't be run or isn't mikadocherry has the status 1, and no file differs"""
+    place.write("a", place.pair(20)[0])
+    broken = place.script("broken", "\x7fELF")
+    text = place.script("text", FRONT)
+    os.chmod(text, 0o644)
+    other = place.script("other", "#!/bin/sh\necho words\n")
+    for program in ("missing", "tree", text, broken, other, "/bin/true", "/bin/cat"):
+        stdout, stderr = place.keeps(status=1, program=program)
+        wanted(stdout == "" and stderr.count("\n") == 1, f"{program}: {stdout!r} and {stderr!r} are said")
+
+
+@test
+def failing_programs(place):
+    """each other way in which the program ends is a fault with words, and no file differs"""
+    place.write("a", place.pair(20)[0])
+    place.write("b", place.pair(30)[0])
+    for number, (text, words) in enumerate((
+        ("exit 2", "words"),
+        ("exit 4", "read"),
+        ("exit 5", "disk"),
+        ("exit 6", "memory"),
+        ("echo as it rains >&2; exit 70", "(as it rains)"),
+        ("exit 1", "status 1"),
+        ("exit 3", "status 3"),
+        ("echo refused; exit 3", "status 3"),
+        ("echo refused Torn at 1 and more; exit 3", "status 3"),
+        ("kill -KILL $$", "SIGKILL"),
+        ("kill -SEGV $$", "SIGSEGV"),
+        (":", "ELF header"),
+        ('head -c 100 /dev/zero >"$3"', "ELF header"),
+        ('head -c 60 "$2" >"$3"', "ELF header"),
+        ('rm "$3"; exit 4', "read"),
+    )):
+        program = place.script(f"failing{number}", FRONT + "ulimit -c 0\n" + text + "\n")
+        stdout, stderr = place.keeps(status=1, program=program)
+        says(stdout, {"faults": 2})
+        for name in ("a", "b"):
+            line = next((it for it in stderr.splitlines() if f" tree/{name}: " in it), "")
+            wanted(words in line, f"{text}: {stderr!r} is said")
+
+
+@test
+def standard_output_full(place):
+    """a summary that standard output doesn't take has the status 1"""
+    if not os.path.exists("/dev/full"):
+        raise Skipped("there is no /dev/full")
+    with open("/dev/full", "wb") as full:
+        wanted("standard output" in place.run(status=1, stdout=full)[1], "it isn't said")
+
+
+@contextlib.contextmanager
+def mounted(folder, size):
+    """A small file system in a folder."""
+    command = ["mount", "-t", "tmpfs", "-o", f"size={size},mode=755", "none", folder]
+    if os.getuid() != 0 or not shutil.which("mount"):
+        raise Skipped("only root can mount a small file system")
+    if subprocess.run(command, capture_output=True).returncode != 0:
+        raise Skipped("no small file system can be mounted")
+    try:
+        yield
+    finally:
+        subprocess.run(["umount", "-l", folder], check=True)
+
+
+@test
+def full_disk(place):
+    """on a full disk the old file stays, the temporary one is removed, and a file for which there is room is shrunk"""
+    large, small = place.pair(8_000), place.pair(20)
+    with mounted(place.path("tree"), len(large[0]) + 65_536):
+        place.write("large", large[0])
+        place.write("small", small[0])
+        stdout, stderr = place.run("--jobs", "1", "tree", status=1)
+        wanted(counts(stdout)["faults"] == 1, stdout)
+        wanted("tree/large: " in stderr and "disk" in stderr, stderr)
+        place.has({b"large": large[0], b"small": small[1]})
+
+
+def run_without_rights(place, status):
+    """As run, with a script in place of the program, by a user who may do nothing but what the owner of a file may."""
+    command = place.command(["tree"], place.script("cutting", FRONT + CUTTING))
+    if os.getuid() == 0:
+        if not shutil.which("setpriv"):
+            raise Skipped("there is no setpriv to drop root's rights")
+        command = ["setpriv", "--bounding-set=-all", "--inh-caps=-all", *command]
+    run = subprocess.run(command, cwd=place.folder, capture_output=True, timeout=SECONDS)
+    wanted(run.returncode == status, f"status {run.returncode} and not {status}: {run}")
+    return run.stdout.decode(), run.stderr.decode()
+
+
+@test
+def folders_that_are_read_only(place):
+    """a file in a folder that can't be written is a fault with its name, and so is one with another name there"""
+    sources = [place.pair(count)[0] for count in (20, 30, 40)]
+    place.write("read_only/a", sources[0])
+    os.link(place.write("b/b", sources[1]), place.in_tree("read_only/b"))
+    place.write("c", sources[2])
+    files = {**place.files(), b"c": sources[2][:-1]}
+    os.chmod(place.in_tree("read_only"), 0o555)
+    stdout, stderr = run_without_rights(place, 1)
+    place.has(files)
+    sizes = {"bytes before": len(sources[2]), "bytes after": len(sources[2]) - 1}
+    says(stdout, {"replaced": 1, **sizes, "faults": 2})
+    wanted("tree/read_only/a: no temporary file" in stderr and "tree/b/b: no temporary file" in stderr, stderr)
+    os.chmod(place.in_tree("read_only"), 0o755)
+    wanted(counts(run_without_rights(place, 0)[0])["replaced"] == 3, "not all are replaced in folders with rights")
+
+
+@test
+def files_that_cannot_be_read(place):
+    """a file or a folder that can't be read is a fault with its name"""
+    source = place.pair(20)[0]
+    for path in (place.write("a", source), os.path.dirname(place.write("b/c", source))):
+        os.chmod(path, 0)
+    stdout, stderr = run_without_rights(place, 1)
+    says(stdout, {"faults": 2})
+    wanted("tree/a: it can't be read" in stderr and "tree/b: it can't be read" in stderr, stderr)
+    os.chmod(place.in_tree("b"), 0o755)
+
+
+@test
+def owners_that_cannot_be_kept(place):
+    """a file whose owner or group can't be kept is a fault and stays as it is"""
+    if os.getuid() != 0:
+        raise Skipped("only root can give files away")
+    paths = [place.write(name, place.pair(20)[0]) for name in ("a", "b")]
+    os.chown(paths[0], 1_234, -1)
+    os.chown(paths[1], -1, 2_345)
+    before = [(os.lstat(path).st_ino, os.lstat(path).st_ctime_ns) for path in paths]
+    stdout, stderr = run_without_rights(place, 1)
+    wanted([(os.lstat(path).st_ino, os.lstat(path).st_ctime_ns) for path in paths] == before, "a file differs")
+    says(stdout, {"faults": 2})
+    wanted("tree/a: its owner" in stderr and "tree/b: its owner" in stderr, stderr)
+
+
+def wait_for(condition, words):
+    end = time.monotonic() + SECONDS
+    while not condition():
+        wanted(time.monotonic() < end, f"{words} in {SECONDS} seconds")
+        time.sleep(0.01)
+
+
+# It says that it runs, and waits until it may go on, but at most for so long.
+WAITING = FRONT + """
+touch "{folder}/begun-$$"
+for _ in $(seq 2000); do [ -e "{folder}/go" ] && break; sleep 0.02; done
+"""
+
+
+def runs_in(folder):
+    """Whether a process has this working folder, as the programs of a killed run still have for a while."""
+    for process in os.listdir("/proc"):
+        with contextlib.suppress(OSError):
+            if process.isdigit() and os.readlink(os.fsencode(f"/proc/{process}/cwd")) == folder:
+                return True
+    return False
+
+
+@contextlib.contextmanager
+def waiting_runs(place, *words, count=1):
+    """A run whose programs wait for a file `go`, so many of which have begun. Nothing is left of it at the end."""
+    folder = tempfile.mkdtemp(dir=os.fsdecode(place.folder))
+    command = place.command(words, place.script("waiting", WAITING.format(folder=folder) + CUTTING))
+    pipe = subprocess.PIPE
+    run = subprocess.Popen(command, cwd=place.folder, stdout=pipe, stderr=pipe)
+    try:
+        wait_for(lambda: len(os.listdir(folder)) >= count, "no program runs")
+        yield run, folder
+    finally:
+        run.kill()
+        go_on(run, folder)
+        wait_for(lambda: not runs_in(place.folder), "a program doesn't end")
+
+
+def go_on(run, folder):
+    open(os.path.join(folder, "go"), "w").close()
+    stdout, stderr = (it or b"" for it in run.communicate(timeout=SECONDS))
+    return run.returncode, stdout.decode(), stderr.decode()
+
+
+def appended(path):
+    with open(path, "ab") as file:
+        file.write(b"more")
+
+
+def written_again(path):
+    with open(path, "r+b") as file:
+        file.write(file.read(8))
+
+
+def renamed_over(path):
+    shutil.copy2(path, path + b".other")
+    os.rename(path + b".other", path)
+
+
+@test
+def files_that_change(place):
+    """a file that is written, replaced, removed, linked or gets another mode meanwhile is a fault and stays as it is"""
+    source = place.pair(20)[0]
+    changes = {
+        "appended": appended,
+        "written": written_again,
+        "renamed": renamed_over,
+        "removed": os.unlink,
+        "mode": lambda path: os.chmod(path, 0o600),
+        "linked": lambda path: os.link(path, path + b".link"),
+        "second": lambda path: renamed_over(place.in_tree("second name")),
+    }
+    for name in changes:
+        place.write(name, source)
+    os.link(place.in_tree("second"), place.in_tree("second name"))
+    place.write("same", source)
+    with waiting_runs(place, "--jobs", "8", "tree", count=len(changes) + 1) as (run, folder):
+        for name, change in changes.items():
+            change(place.in_tree(name))
+        files = {name: body for name, body in place.files().items() if not temporary(name)}
+        files[b"same"] = source[:-1]
+        status, stdout, stderr = go_on(run, folder)
+    wanted(status == 1, f"status {status}")
+    says(stdout, {"replaced": 1, "bytes before": len(source), "bytes after": len(source) - 1, "faults": len(changes)})
+    for name in changes:
+        wanted(f"tree/{name}: " in stderr, f"{name} isn't named in {stderr!r}")
+    place.has(files)
+
+
+@test
+def so_many_at_once(place):
+    """as many programs run at once as --jobs says, or as there are processors"""
+    for number in range(9):
+        place.write(f"{number}", place.pair(20)[0])
+    for words, count in ((["--jobs", "3"], 3), ([], min(9, len(os.sched_getaffinity(0))))):
+        with waiting_runs(place, *words, "--dry-run", "tree", count=count) as (run, folder):
+            time.sleep(0.2)
+            begun = len(os.listdir(folder))
+            wanted(begun == count, f"{begun} run at once and not {count}")
+            status, stdout, _ = go_on(run, folder)
+            wanted(status == 0 and counts(stdout)["would be replaced"] == 9, stdout)
+
+
+@test
+def signals_that_stop(place):
+    """SIGINT, SIGTERM and SIGHUP end the run and its programs, no temporary file is left, and no file differs"""
+    for number in range(6):
+        place.write(f"{number}/f", place.pair(20)[0])
+    files = place.files()
+    for number in (signal.SIGINT, signal.SIGTERM, signal.SIGHUP):
+        with waiting_runs(place, "--jobs", "4", "tree", count=4) as (run, folder):
+            modes = [os.stat(place.in_tree(name)).st_mode for name in place.files().keys() - files.keys()]
+            wanted(modes == [stat.S_IFREG | 0o600] * 4, f"not 4 files of the owner alone: {modes}")
+            begun = [name.split("-")[1] for name in os.listdir(folder)]
+            run.send_signal(number)
+            said = run.communicate(timeout=SECONDS)
+            wanted(run.returncode == -number, f"the run has ended with {run.returncode}")
+            wanted(said == (b"", f"mikadocherry-tree: stopped by {number.name}\n".encode()), f"{said} is said")
+            wanted(not any(os.path.exists(f"/proc/{pid}") for pid in begun), "a program still runs")
+        place.has(files)
+
+
+@test
+def signal_amid_a_build(place):
+    """SIGTERM ends the run also while a launcher builds, with all that this has started"""
+    place.write("a", place.pair(20)[0])
+    building = 'touch begun\n(sleep 60; echo words)\nexit 2\n'
+    command = place.command((), place.script("building", "#!/bin/sh\n" + building))
+    run = subprocess.Popen(command, cwd=place.folder, stdout=subprocess.PIPE, stderr=subprocess.PIPE)
+    wait_for(lambda: os.path.exists(place.path("begun")), "no program runs")
+    run.terminate()
+    run.communicate(timeout=30)
+    wanted(run.returncode == -signal.SIGTERM, f"the run has ended with {run.returncode}")
+    wait_for(lambda: not runs_in(place.folder), "a program doesn't end")
+
+
+@test
+def signals_that_are_ignored(place):
+    """a signal that was ignored before the run stays ignored"""
+    source = place.pair(20)[0]
+    place.write("a", source)
+    before = signal.signal(signal.SIGHUP, signal.SIG_IGN)
+    try:
+        with waiting_runs(place) as (run, folder):
+            run.send_signal(signal.SIGHUP)
+            time.sleep(0.3)
+            wanted(go_on(run, folder)[0] == 0, "the run has ended by it")
+    finally:
+        signal.signal(signal.SIGHUP, before)
+    place.has({b"a": source[:-1]})
+
+
+def many_files(place):
+    """Names in six folders with what they have before and after; some are names of one file."""
+    pairs = [place.pair(20 + number) for number in range(8)]
+    names = {}
+    shutil.rmtree(place.path("tree"))
+    for number in range(36):
+        source = pairs[number % len(pairs)]
+        name = b"%d/%d" % (number % 6, number)
+        path = place.write(name, source[0])
+        names[name] = source
+        for other in range(number % 3):
+            link = b"%d/%d.%d" % (other, number, other)
+            os.makedirs(os.path.dirname(place.in_tree(link)), exist_ok=True)
+            os.link(path, place.in_tree(link))
+            names[link] = source
+    return names
+
+
+def check_whole(place, names, exact):
+    """Fails where a name has neither its old nor its new contents, or where there is another file, be it a temporary
+    one where that is asked for. Answers how many names have the new contents, and how many files are temporary."""
+    found = place.files()
+    left = [name for name in found if temporary(os.path.basename(name))]
+    wanted(found.keys() - set(left) == names.keys(), "a name is missing or made")
+    wanted(not (exact and left), f"{left} are left")
+    for name, pair in names.items():
+        wanted(found[name] in pair, f"{name} has {len(found[name])} bytes, neither {len(pair[0])} nor {len(pair[1])}")
+    return sum(found[name] == pair[1] for name, pair in names.items()), len(left)
+
+
+def check_links(place, names):
+    """Fails where names of one file no longer are that."""
+    groups = collections.defaultdict(set)
+    for name in names:
+        groups[name.split(b"/")[1].split(b".")[0]].add(os.stat(place.in_tree(name)).st_ino)
+    wanted(all(len(group) == 1 for group in groups.values()), "names of one file are names of two")
+
+
+def killed_amid(place, number, names, count, seconds):
+    """Lets a run be ended by a signal, so many seconds after so many names have other contents."""
+    before, pipe = {name: os.stat(place.in_tree(name)).st_ino for name in names}, subprocess.PIPE
+    run = subprocess.Popen(place.command(()), cwd=place.folder, stdout=subprocess.DEVNULL, stderr=pipe)
+    while run.poll() is None and sum(os.stat(place.in_tree(it)).st_ino != before[it] for it in names) < count:
+        time.sleep(0.002)
+    time.sleep(seconds)
+    run.send_signal(number)
+    stderr = run.communicate(timeout=SECONDS)[1]
+    if number == signal.SIGKILL:
+        wait_for(lambda: not runs_in(place.folder), "a program doesn't end")
+    wanted(run.returncode in (0, -number), f"the run has ended with {run.returncode}: {stderr!r}")
+
+
+@test
+def kills_at_any_moment(place):
+    """a run that SIGTERM or SIGKILL ends at any moment leaves each name with the whole old or the whole new contents"""
+    rng, between = random.Random(), 0
+    for number in [signal.SIGTERM, signal.SIGKILL] * 6:
+        names = many_files(place)
+        killed_amid(place, number, names, rng.randrange(len(names) * 3 // 4), rng.uniform(0, 0.05))
+        done, left = check_whole(place, names, exact=number == signal.SIGTERM)
+        between += 0 < done < len(names)
+        if number == signal.SIGTERM:
+            check_links(place, names)
+        elif left or done < len(names):
+            wanted(counts(place.run()[0]).get("left by a killed run", 0) == left, "what is left isn't counted")
+            wanted(check_whole(place, names, exact=False) == (len(names), left), "a second run doesn't do the rest")
+    wanted(between, "no run was ended amid the files")
+
+
+@test
+def files_left_by_a_killed_run(place):
+    """what a killed run has left is never shrunk, and a new run with the same number takes other names"""
+    source, written = place.pair(20)
+    place.write(".mikadocherry-123-0.tmp", source)
+    place.write("a/.mikadocherry-9-99.tmp", source)
+    place.write(".mikadocherry-x-0.tmp", source)
+    files = {**place.files(), b".mikadocherry-x-0.tmp": written}
+    sizes = {"bytes before": len(source), "bytes after": len(written)}
+    says(place.run("tree", "tree/.mikadocherry-123-0.tmp")[0], {"replaced": 1, **sizes, "left by a killed run": 2})
+    place.has(files)
+    # the shell becomes the script, so that the files have its number
+    command = 'for n in 0 1 2 3; do cp "$0" tree/.mikadocherry-$$-$n.tmp; done; exec "$@"'
+    place.write("b", source)
+    shell = ["sh", "-c", command, "tree/b", *place.command(())]
+    subprocess.run(shell, cwd=place.folder, check=True, capture_output=True, timeout=SECONDS)
+    found = place.files()
+    wanted(found.pop(b"b") == written, "the file isn't replaced")
+    left = [found[name] for name in found.keys() - files.keys()]
+    wanted(left == [source] * 4, f"{len(left)} files are left and not 4, or one differs")
+
+
+@test
+def one_build(place):
+    """the program is run without words once before the files, for a launcher that builds it, and never without files"""
+    log = os.fsdecode(place.path("log"))
+    program = place.script("logging", f"#!/bin/sh\necho $# >>{log}\n" + FRONT + CUTTING)
+    place.write("plain", PLAIN)
+    place.run(program=program)
+    wanted(not os.path.exists(log), "the program is run where there is nothing to shrink")
+    for number in range(5):
+        place.write(f"{number}", place.pair(20)[0])
+    place.run(program=program)
+    with open(log) as file:
+        lines = file.read().split()
+    wanted(lines == ["0"] + ["3"] * 5, f"it is run with these numbers of words: {lines}")
+
+
+@test
+def what_is_said(place):
+    """--quiet says nothing but faults, --verbose names each file, and progress is shown on a terminal alone"""
+    source, written = place.pair(20)
+    refused = place.refused(object_file(source), b"refused FileType at 16\n")
+    place.write("a", written)
+    place.write("o", refused)
+    wanted(place.keeps("--quiet", "tree") == ("", ""), "something is said")
+    wanted("-tree: missing: " in place.keeps("--quiet", "missing", status=1)[1], "a fault isn't said")
+    wanted(place.keeps()[1] == "", "something is said on standard error")
+    lines = sorted(place.keeps("--verbose", "tree")[1].splitlines())
+    named = [f"mikadocherry-tree: tree/{it}" for it in ("a: not smaller", "o: refused FileType")]
+    wanted(lines == named, f"{lines} are said")
+    for words, shows in ((["tree"], True), (["--quiet", "tree"], False)):
+        terminal, end = pty.openpty()
+        place.keeps(*words, stderr=end)
+        os.write(end, b".")
+        shown = os.read(terminal, 1_000)
+        wanted((b"2 of 2 files" in shown) == shows, f"{shown!r} is shown on a terminal")
+        os.close(terminal)
+        os.close(end)
+
+
+@test
+def without_root(place):
+    """under fakeroot, in which packages are built, files keep the owners that it shows, and their setuid bits"""
+    if not shutil.which("fakeroot"):
+        raise Skipped("there is no fakeroot")
+    for name in ("a", "b"):
+        place.write(name, place.pair(20)[0])
+    show = "stat -c '%u %g %a %n' tree/a tree/b"
+    command = f'chown 1234:2345 tree/a; chown 0:0 tree/b; chmod 4755 tree/a; {show}; "$@" >/dev/null; echo $?; {show}'
+    command = ["fakeroot", "sh", "-c", command, "sh", *place.command(())]
+    run = subprocess.run(command, cwd=place.folder, capture_output=True, timeout=SECONDS)
+    lines = run.stdout.decode().splitlines()
+    wanted(lines == ["1234 2345 4755 tree/a", "0 0 644 tree/b", "0", *lines[:2]], f"{run}")
+    wanted(place.read("a") == place.pair(20)[1], "a file isn't replaced")
+
+
+def outcome(function, program):
+    """Whether a test passed, None where it can't be run here, and what is to be said of it."""
+    with tempfile.TemporaryDirectory() as folder:
+        try:
+            function(Place(program, folder))
+        except Skipped as why:
+            return None, f": {why}"
+        except Exception as wrong:
+            return False, f": {wrong!r}"
+    return True, ""
+
+
+def main():
+    parser = argparse.ArgumentParser(description=__doc__, formatter_class=argparse.RawDescriptionHelpFormatter)
+    parser.add_argument("--program", default=os.path.join(TOP, "crates/shrink_app/out/shrink_app"))
+    parser.add_argument("--stand-in", action="store_true", help="use a script that knows the answers")
+    parser.add_argument("tests", nargs="*", help="names of tests; left out, all")
+    words = parser.parse_args()
+    program = None if words.stand_in else os.path.abspath(words.program)
+    if program and not os.access(program, os.X_OK):
+        sys.exit(f"{program} isn't there: ./mikadocherry builds it, and so does rt ci")
+    # who runs this in the background may have told it to ignore them
+    signal.signal(signal.SIGINT, signal.default_int_handler)
+    signal.signal(signal.SIGTERM, signal.SIG_DFL)
+    signal.signal(signal.SIGHUP, signal.SIG_DFL)
+    numbers = {True: 0, False: 0, None: 0}
+    for function in TESTS:
+        if words.tests and function.__name__ not in words.tests:
+            continue
+        start = time.monotonic()
+        passed, why = outcome(function, program)
+        numbers[passed] += 1
+        word = {True: "passed", False: "FAILED", None: "skipped"}[passed]
+        print(f"{word}: {function.__doc__} ({time.monotonic() - start:.1f} s){why}", flush=True)
+    print(f"{numbers[True]} passed, {numbers[False]} failed")
+    return 1 if numbers[False] else 0
+
+
+if __name__ == "__main__":
+    sys.exit(main())
