@@ -1,7 +1,8 @@
 #!/usr/bin/env python3
 """Compiles C++ and C with gcc and clang so that they have range lists and location lists, runs the program on the result, and compares
-the ranges and the locations with their expressions that llvm-dwarfdump shows of each entry before and after. (What readelf shows of a
-section of lists doesn't help: version 2.40 reads offsets without the base address of their unit.) Of an operation that llvm-dwarfdump
+the ranges and the locations with their expressions that llvm-dwarfdump shows of each entry before and after, and the view pairs that
+readelf shows. (What readelf shows of the lists themselves doesn't help: version 2.40 reads offsets without the base address of their
+unit.) Of an operation that llvm-dwarfdump
 doesn't decode, only the entry that it names is compared, and not what stands behind it. Version 14 takes the index of a DW_AT_low_pc of
 DW_FORM_addrx1 to addrx4 for the base address of the unit, and so shows other addresses where that form was chosen.
 
@@ -51,6 +52,7 @@ COMPILERS = [
     ("clang-14", "clang++-14", ["-g1", "-O2"]),
     ("clang-14", "clang++-14", ["-g1", "-O1", "-ffunction-sections"]),
     ("clang-14", "clang++-14", ["-g1", "-O0"]),
+    ("gcc", "g++", ["-g", "-O2"]),
     ("gcc", "g++", ["-g", "-O2", "-gno-variable-location-views"]),
     ("clang-14", "clang++-14", ["-g", "-O2"]),
 ]
@@ -64,6 +66,8 @@ NAMING = re.compile(r"(DW_OP_(?:GNU_)?(?:convert|reinterpret|const_type|regval_t
 UNDECODED = re.compile(r"(decoding error> a0 )((?:[0-9a-f]{2} ){4}).*")
 # other operations that it doesn't decode, in which a place of an entry may stand as bytes
 UNKNOWN = re.compile(r"decoding error> (?!a0).*")
+# two view numbers, as readelf shows them before their list
+VIEWS = re.compile(r"^\s+[0-9a-f]+ (v[0-9a-f]+ v[0-9a-f]+) location view pair$", re.M)
 
 
 def dumped(path):
@@ -97,6 +101,12 @@ def entries_with_lists(path):
     return out
 
 
+def view_pairs(path):
+    """The view pairs of all lists, in the order in which they stand."""
+    run = subprocess.run(["readelf", "--debug-dump=loc", path], capture_output=True, text=True, errors="replace")
+    return VIEWS.findall(run.stdout)
+
+
 def compile_all(folder):
     made = []
     for name, text in SOURCES.items():
@@ -112,6 +122,8 @@ def compare(program, path, out):
         return answer, words
     if entries_with_lists(path) != entries_with_lists(out):
         return "differs", "the lists of entries"
+    if view_pairs(path) != view_pairs(out):
+        return "differs", "the view pairs"
     return "same", ""
 
 

@@ -152,7 +152,7 @@ def described(path):
             if expression := EXPRESSION.match(value):
                 out.append(f"{name} {operations(expression[1], number)}")
                 continue
-            if name in ("DW_AT_ranges", "DW_AT_rnglists_base", "DW_AT_loclists_base") or "location list" in value or "index into .debug_loclists" in value:
+            if name in ("DW_AT_ranges", "DW_AT_rnglists_base", "DW_AT_loclists_base", "DW_AT_GNU_locviews") or "location list" in value or "index into .debug_loclists" in value:
                 # what lists mean is compared by compare_lists.py
                 out.append(name)
                 continue
