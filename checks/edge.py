@@ -17,32 +17,19 @@ import shutil
 import struct
 import subprocess
 import sys
-import tempfile
 import time
 
 sys.dont_write_bytecode = True
 TOP = os.path.dirname(os.path.dirname(os.path.abspath(__file__)))
 sys.path.insert(0, os.path.join(TOP, "bench"))
 from elf_files import Section, aligned, elf_file, names_of, placed, sleb, uleb
+from harness import BUILT, Failure, Skipped, Tests, executable
 
 # A run of the program has to end in this time.
 SECONDS = 60
 LIMIT = 1 << 30
 SHRINK = ["shrink", "in", "out"]
-TESTS = []
-
-
-class Failure(Exception):
-    """What a test found to be wrong."""
-
-
-class Skipped(Exception):
-    """Why a test can't be run here."""
-
-
-def test(function):
-    TESTS.append(function)
-    return function
+test = Tests()
 
 
 def difference(found, wanted):
@@ -435,33 +422,11 @@ def many_rows(place):
     shows_the_same(place, "decodedline", len(rows))
 
 
-def outcome(function, program):
-    """Whether a test passed, None where it can't be run here, and what is to be said of it."""
-    with tempfile.TemporaryDirectory() as folder:
-        try:
-            function(Place(program, folder))
-        except Skipped as why:
-            return None, f": {why}"
-        except Exception as wrong:
-            return False, f": {wrong!r}"
-    return True, ""
-
-
 def main():
     parser = argparse.ArgumentParser(description=__doc__, formatter_class=argparse.RawDescriptionHelpFormatter)
-    parser.add_argument("program", nargs="?", default=os.path.join(TOP, "crates/shrink_app/out/shrink_app"))
-    program = os.path.abspath(parser.parse_args().program)
-    if not os.access(program, os.X_OK):
-        sys.exit(f"{program} isn't there: ./mikadocherry builds it, and so does rt ci")
-    counts = {True: 0, False: 0, None: 0}
-    for function in TESTS:
-        start = time.monotonic()
-        passed, why = outcome(function, program)
-        counts[passed] += 1
-        word = {True: "passed", False: "FAILED", None: "left out"}[passed]
-        print(f"{word}: {function.__doc__} ({time.monotonic() - start:.1f} s){why}", flush=True)
-    print(f"{counts[True]} passed, {counts[False]} failed")
-    return 1 if counts[False] else 0
+    parser.add_argument("program", nargs="?", default=BUILT)
+    program = executable(parser.parse_args().program)
+    return test.run(lambda folder: Place(program, folder))
 
 
 if __name__ == "__main__":

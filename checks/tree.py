@@ -30,13 +30,14 @@ sys.dont_write_bytecode = True
 TOP = os.path.dirname(os.path.dirname(os.path.abspath(__file__)))
 sys.path.insert(0, os.path.join(TOP, "bench"))
 sys.path.insert(0, os.path.join(TOP, "checks"))
-from edge import ALONE, Failure, Skipped, difference, pair_of_units
+from edge import ALONE, difference, pair_of_units
 from elf_files import elf_file
+from harness import BUILT, Failure, Skipped, Tests, executable
 
 SCRIPT = os.path.join(TOP, "mikadocherry-tree")
 # A run has to end in this time.
 SECONDS = 60
-TESTS = []
+test = Tests()
 
 # The front of each script that stands in place of the program: it answers no words as the program does, and takes no
 # words beyond ASCII, as the program takes none that aren't UTF-8.
@@ -54,11 +55,6 @@ echo "refused Torn at 0"; exit 3
 """
 # It writes a file without its last byte, which will do where nobody reads it.
 CUTTING = 'size=$(wc -c <"$2")\nhead -c $((size - 1)) "$2" >"$3"\n'
-
-
-def test(function):
-    TESTS.append(function)
-    return function
 
 
 def wanted(condition, words):
@@ -899,42 +895,18 @@ def without_root(place):
     wanted(place.read("a") == place.pair(20)[1], "a file isn't replaced")
 
 
-def outcome(function, program):
-    """Whether a test passed, None where it can't be run here, and what is to be said of it."""
-    with tempfile.TemporaryDirectory() as folder:
-        try:
-            function(Place(program, folder))
-        except Skipped as why:
-            return None, f": {why}"
-        except Exception as wrong:
-            return False, f": {wrong!r}"
-    return True, ""
-
-
 def main():
     parser = argparse.ArgumentParser(description=__doc__, formatter_class=argparse.RawDescriptionHelpFormatter)
-    parser.add_argument("--program", default=os.path.join(TOP, "crates/shrink_app/out/shrink_app"))
+    parser.add_argument("--program", default=BUILT)
     parser.add_argument("--stand-in", action="store_true", help="use a script that knows the answers")
     parser.add_argument("tests", nargs="*", help="names of tests; left out, all")
     words = parser.parse_args()
-    program = None if words.stand_in else os.path.abspath(words.program)
-    if program and not os.access(program, os.X_OK):
-        sys.exit(f"{program} isn't there: ./mikadocherry builds it, and so does rt ci")
+    program = None if words.stand_in else executable(words.program)
     # who runs this in the background may have told it to ignore them
     signal.signal(signal.SIGINT, signal.default_int_handler)
     signal.signal(signal.SIGTERM, signal.SIG_DFL)
     signal.signal(signal.SIGHUP, signal.SIG_DFL)
-    numbers = {True: 0, False: 0, None: 0}
-    for function in TESTS:
-        if words.tests and function.__name__ not in words.tests:
-            continue
-        start = time.monotonic()
-        passed, why = outcome(function, program)
-        numbers[passed] += 1
-        word = {True: "passed", False: "FAILED", None: "skipped"}[passed]
-        print(f"{word}: {function.__doc__} ({time.monotonic() - start:.1f} s){why}", flush=True)
-    print(f"{numbers[True]} passed, {numbers[False]} failed")
-    return 1 if numbers[False] else 0
+    return test.run(lambda folder: Place(program, folder), words.tests)
 
 
 if __name__ == "__main__":
