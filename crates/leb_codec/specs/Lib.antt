@@ -5,4 +5,6 @@ pub mod LebLaws
 pub mod Least
 pub mod LineCosts
 pub mod Numbering
+pub mod RecordLaws
+pub mod Records
 pub mod inside
