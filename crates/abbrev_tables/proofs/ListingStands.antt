@@ -1,52 +1,12 @@
--- All that is spelled can be held, and each declaration stands at its place.
-use Rattle.std.proofs.Common.{◌≡◌, ◌≤◌, ◌<◌, ◌+◌, ◌-◌, ◌∙◌, ◌++◌, ℕ, zero, suc, List, [], ◌∷◌, length, take, drop, sym, ap, subst, refl, arith}
-use Rattle.std.proofs.lemmas.List.{append-nil, append_assoc, length-append, take-append-drop, take_at, drop_at}
-use Rattle.spelled.specs.Spelled.{Joined, StandsAt}
+-- All that is spelled can be held.
+use Rattle.std.proofs.Common.{◌≡◌, ◌+◌, ◌-◌, ◌∙◌, ◌++◌, ℕ, List, [], ◌∷◌, length, take, drop, sym, ap, subst, refl, arith}
+use Rattle.std.proofs.lemmas.List.{append-nil, append_assoc, length-append, take_at, drop_at}
+use Rattle.spelled.specs.Spelled.{Joined}
 use Rattle.abbrev_tables.specs.declared.decl.Decl.{Decl}
 use Rattle.abbrev_tables.specs.declared.decl.Spec.{Spec}
 use Rattle.abbrev_tables.specs.Tables.{Declared, SpellsDeclared, SpellsTable}
 use Rattle.abbrev_tables.proofs.ListingOnce.{all_columns}
-use Rattle.abbrev_tables.specs.Listings.{Listing, decl_at, declared_in, declarations_in, AreAdjacent, ArePlaced, IsTableAt}
-
--- DECLARATIONS STAND
-
-record StandsAmong (specs : List Spec) (place : ℕ) (ds : List Decl) (bytes : List ℕ) (i : ℕ) : Type 0 where
-  front : List ℕ
-  body : List ℕ
-  rest : List ℕ
-  here : (decl_at ds i).at ≡ place + length front
-  prior : Joined SpellsDeclared (take i (declarations_in specs ds)) front
-  spelled : SpellsDeclared (declared_in specs (decl_at ds i)) body
-  whole : bytes ≡ front ++ (body ++ rest)
-
-stands_among : (specs : List Spec) (place : ℕ) (ds : List Decl) (bytes : List ℕ) (i : ℕ) → ArePlaced specs place ds bytes → i < length ds → StandsAmong specs place ds bytes i
-stands_among specs place [] bytes i placed inside = absurd (omega arith)
-stands_among specs place (d ∷ ds) bytes zero (first, rest, at, spelled, placed, parts) inside = record { front = []; body = first; rest = rest; here = omega arith; prior = refl; spelled = spelled; whole = parts }
-stands_among specs place (d ∷ ds) bytes (suc i) (first, rest, at, spelled, placed, parts) inside =
-    let s = stands_among specs (place + length first) ds rest i placed (omega arith) in
-    let size : length (first ++ s.front) ≡ length first + length s.front = length-append first s.front in
-    let here : (decl_at ds i).at ≡ place + length first + length s.front = s.here in
-    record {
-      front = first ++ s.front;
-      body = s.body;
-      rest = s.rest;
-      here = omega arith;
-      prior = (first, s.front, spelled, s.prior, refl);
-      spelled = s.spelled;
-      whole = parts ∙ ap (λ z. first ++ z) s.whole ∙ sym (append_assoc first s.front (s.body ++ s.rest));
-    }
-
-pub declarations_stand : (section : List ℕ) (at : ℕ) (t : Listing) (i : ℕ) → IsTableAt section at t → i < length t.decls → (at ≤ (decl_at t.decls i).at) × StandsAt SpellsDeclared (drop at section) (take i (declarations_in t.specs t.decls)) (declared_in t.specs (decl_at t.decls i)) ((decl_at t.decls i).at - at)
-declarations_stand section at t i h inside =
-    let s = stands_among t.specs at t.decls h.front i h.placed inside in
-    let here : (decl_at t.decls i).at ≡ at + length s.front = s.here in
-    let rest : List ℕ = drop at section in
-    let all : rest ≡ h.front ++ (h.end ++ drop (t.end - at) rest) = sym (take-append-drop (t.end - at) rest) ∙ ap (λ z. z ++ drop (t.end - at) rest) h.whole ∙ append_assoc h.front h.end (drop (t.end - at) rest) in
-    let own : h.front ++ (h.end ++ drop (t.end - at) rest) ≡ s.front ++ (s.body ++ (s.rest ++ (h.end ++ drop (t.end - at) rest))) =
-    ap (λ z. z ++ (h.end ++ drop (t.end - at) rest)) s.whole ∙ append_assoc s.front (s.body ++ s.rest) (h.end ++ drop (t.end - at) rest) ∙ ap (λ z. s.front ++ z) (append_assoc s.body s.rest (h.end ++ drop (t.end - at) rest)) in
-    (omega arith, record { front = s.front; body = s.body; rest = s.rest ++ (h.end ++ drop (t.end - at) rest); place = omega arith; spelled = s.prior; here = s.spelled; whole = all ∙ own })
-
--- TABLES ARE LISTED
+use Rattle.abbrev_tables.specs.Listings.{Listing, declared_in, declarations_in, AreAdjacent, ArePlaced, IsTableAt}
 
 record HasListing (prefix : List Spec) (place : ℕ) (ds : List Declared) (specs : List Spec) (bytes : List ℕ) : Type 0 where
   decls : List Decl

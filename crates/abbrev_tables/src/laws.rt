@@ -6,7 +6,7 @@ ghost use Rattle.spelled.specs.Spelled.{HasUniqueFronts, NeverBoth};
 ghost use Rattle.abbrev_tables.specs.Tables.{SpellsColumns, Declared, SpellsDeclared, SpellsTable, codes_of, AreDistinct};
 ghost use Rattle.abbrev_tables.specs.Faults.{FaultTable};
 ghost use Rattle.abbrev_tables.specs.Written.{ShortestTable, IsWritable};
-ghost use Rattle.abbrev_tables.specs.ListingLaws.{OneListing, TablesAreListed, DeclarationsStand};
+ghost use Rattle.abbrev_tables.specs.ListingLaws.{OneListing, TablesAreListed};
 
 /// A law: columns, a declaration and a table end by themselves, so that bytes begin with no more than one of them.
 pub fn tables_end()
@@ -25,10 +25,8 @@ pub fn tables_written()
     ensures { (ds : List Declared) (bytes : List ℕ) → All IsWritable ds → AreDistinct (codes_of ds) → ShortestTable ds bytes → SpellsTable ds bytes }
 {}
 
-/// Laws of tables as they are held: a table that stands at a place is held in one way, all that is spelled can be held, and each
-/// declaration stands at its place, behind those before it.
+/// Laws of tables as they are held: a table that stands at a place is held in one way, and all that is spelled can be held.
 pub fn listings()
     ensures once { OneListing }
     ensures some { TablesAreListed }
-    ensures stand { DeclarationsStand }
 {}

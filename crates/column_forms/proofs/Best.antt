@@ -1,32 +1,68 @@
 -- The least form of a column, from what is held of all forms.
 use Rattle.std.proofs.Common.{◌≡◌, ◌≢◌, ◌≤◌, ◌<◌, ◌+◌, ◌*◌, ◌^◌, ℕ, List, [], ◌∷◌, length, sym, ap, refl, subst, arith, inl, inr}
 use Rattle.std.specs.Prelude.{ℤ, pos, ◌⊎◌, Bool, true, false, if◌then◌else◌, ◌==◌}
+use Rattle.std.proofs.lemmas.Bool.{cases_Bool}
+use Rattle.spelled.specs.Spelled.{AreBytes}
+use Rattle.fixed_width.specs.Numbers.{number}
+use Rattle.fixed_width.proofs.Numbers.{number_small}
+use Rattle.leb_codec.specs.Leb.{least_unsigned_len}
+use Rattle.leb_codec.proofs.SpellingLaws.{unsigned_spellings}
 use Rattle.form_codec.specs.declared.form.Form.{Form}
-use Rattle.form_codec.specs.declared.form.Form.TheVariants.{Ref1, Ref2, Ref4, Ref8}
+use Rattle.form_codec.specs.declared.form.Form.TheVariants.{Ref1, Ref2, Ref4, Ref8, RefUdata}
 use Rattle.form_codec.specs.declared.value.Value.{Value}
 use Rattle.form_codec.specs.Values.{meant_in}
-use Rattle.form_codec.specs.Forms.{Meaning, SpellsValue, code_of, is_written, counted}
-use Rattle.form_codec.proofs.FormLaws.{any_constant}
+use Rattle.form_codec.specs.Forms.{Meaning, SpellsShape, SpellsValue, code_of, shape_of, is_written, counted}
+use Rattle.form_codec.specs.Forms.Meaning.{InUnit}
+use Rattle.form_codec.proofs.FormLaws.{any_constant, in_form}
 use Rattle.abbrev_tables.specs.Tables.{implicit_const}
 use Rattle.abbrev_tables.specs.declared.decl.Spec.{Spec}
 use Rattle.column_forms.specs.declared.tally.Candidate.{Candidate}
 use Rattle.column_forms.specs.declared.choice.Choice.{Choice}
-use Rattle.form_codec.specs.Columns.{IsChoice, EntriesWithin, AreSpelled, ColumnWithin, ComesFirst, IsLeastForm, IsFirstForm, constant_bytes, is_reference}
+use Rattle.form_codec.specs.Columns.{IsChoice, EntriesWithin, AreSpelled, ColumnWithin, ComesFirst, IsLeastForm, IsFirstForm, constant_bytes}
 use Rattle.column_forms.specs.Columns.{IsChosen}
 use Rattle.column_forms.specs.Tallies.{IsEntriesSize, AreTallied, AreBounded, IsTally, candidate_at, meanings_in}
 use Rattle.column_forms.specs.inside.Choices.{IsBestOf, AreOut, bytes_of}
 use Rattle.column_forms.proofs.Sums.{is_or_not}
 
--- a form other than those of references may be chosen
-written : (f : Form) → is_reference (code_of f) ≢ true → is_written f ≡ true
-written Ref1 other = absurd (other refl)
-written Ref2 other = absurd (other refl)
-written Ref4 other = absurd (other refl)
-written Ref8 other = absurd (other refl)
-written f other = refl
+-- a reference within the unit whose number fits 64 bits
+record IsLocalReference (m : Meaning) : Type 0 where
+  place : ℕ
+  fits : place < 2 ^ 64
+  means : m ≡ InUnit place
 
-choice_of : (code : ℕ) (c : ℤ) (m : Meaning) (bytes : List ℕ) → is_reference code ≢ true → SpellsValue code c m bytes → IsChoice code
-choice_of code c m bytes other s = (s.form, s.known, written s.form (subst (λ (z : ℕ). is_reference z ≢ true) (sym s.known) other))
+-- the forms that are never written spell such references alone
+local_reference : (f : Form) (c : ℤ) (m : Meaning) (bytes : List ℕ) → is_written f ≡ false → AreBytes bytes → SpellsShape (shape_of f c) m bytes → IsLocalReference m
+local_reference Ref1 c m bytes never small s = record { place = number 1 bytes; fits = omega (arith, number_small 1 bytes small); means = s.1 }
+local_reference Ref2 c m bytes never small s = record { place = number 2 bytes; fits = omega (arith, number_small 2 bytes small); means = s.1 }
+local_reference Ref4 c m bytes never small s = record { place = number 4 bytes; fits = omega (arith, number_small 4 bytes small); means = s.1 }
+local_reference Ref8 c m bytes never small s = record { place = number 8 bytes; fits = omega (arith, number_small 8 bytes small); means = s.1 }
+local_reference f c m bytes never small s = absurd (cc (never))
+
+-- and DW_FORM_ref_udata spells each of them
+by_udata : (c : ℤ) (m : Meaning) → IsLocalReference m → (bytes : List ℕ) × SpellsValue (code_of RefUdata) c m bytes
+by_udata c m r =
+    let b = unsigned_spellings.each_len r.place (least_unsigned_len r.place) (omega arith) in (
+      b.0,
+      record {
+        form = RefUdata;
+        known = refl;
+        small = b.1.0.byte;
+        spelled = (r.place, (b.1, r.fits), r.means);
+      },
+    )
+
+all_by_udata : (f : Form) (c : ℤ) (ms : List Meaning) → is_written f ≡ false → AreSpelled (code_of f) c ms → AreSpelled (code_of RefUdata) c ms
+all_by_udata f c [] never s = tt
+all_by_udata f c (m ∷ ms) never ((bytes, s), more) =
+    (by_udata c m (local_reference f c m bytes never s.small (in_form (code_of f) f c m bytes refl s)), all_by_udata f c ms never more)
+
+-- some form may be chosen that spells the values: theirs, or DW_FORM_ref_udata
+some_choice : (f : Form) (c : ℤ) (ms : List Meaning) → AreSpelled (code_of f) c ms → (code : ℕ) × IsChoice code × AreSpelled code c ms
+some_choice f c ms s =
+    elim (cases_Bool (is_written f)) [
+      | inl is ↦ (code_of f, (f, refl, is), s)
+      | inr never ↦ (code_of RefUdata, (RefUdata, refl, refl), all_by_udata f c ms never s)
+    ]
 
 entries_some : (code : ℕ) (c : ℤ) (ms : List Meaning) → AreSpelled code c ms → (n : ℕ) × EntriesWithin code c ms n
 entries_some code c [] s = (0, tt)
@@ -119,12 +155,14 @@ first_form cs c d ms input choice t b same = λ other e least.
     let at : choice.bytes ≡ bytes_of c (candidate_at cs k.0) = omega (arith, k.4) in
     subst (λ (z : ℕ). ComesFirst input choice.form z) k.2 (b.first k.0 k.1 k.3 at)
 
--- some form is held: the input's
-pub some_form : (cs : List Candidate) (c : ℤ) (m : Meaning) (ms : List Meaning) (column : Spec) → AreTallied (m ∷ ms) cs c → is_reference column.form ≢ true → AreSpelled column.form column.constant (m ∷ ms) → AreOut cs (length cs) → ⊥
-some_form cs c m ms column t other s out =
-    let w = entries_some column.form column.constant (m ∷ ms) s in
-    let choice = choice_of column.form column.constant m s.0.0 other s.0.1 in
-    let i = held_in cs c (m ∷ ms) column.form column.constant w.0 t choice w.1 in
+-- some form is held that admits all values
+pub some_form : (cs : List Candidate) (c : ℤ) (m : Meaning) (ms : List Meaning) (column : Spec) → AreTallied (m ∷ ms) cs c → AreSpelled column.form column.constant (m ∷ ms) → AreOut cs (length cs) → ⊥
+some_form cs c m ms column t s out =
+    let form : Form = s.0.1.form in
+    let here = subst (λ (z : ℕ). AreSpelled z column.constant (m ∷ ms)) (sym s.0.1.known) s in
+    let x = some_choice form column.constant (m ∷ ms) here in
+    let w = entries_some x.0 column.constant (m ∷ ms) x.2 in
+    let i = held_in cs c (m ∷ ms) x.0 column.constant w.0 t x.1 w.1 in
     let never : (candidate_at cs i.number).admits ≡ false = out i.number i.inside in
     absurd (cc (never, i.admits))
 
@@ -135,20 +173,19 @@ room_left cs ds count e b few k lt =
     let same : (candidate_at ds k).size ≡ (candidate_at cs k).size = ap (λ z. (candidate_at z k).size) e in
     omega arith
 
-pub chosen : (section : List ℕ) (values : List Value) (cs ds : List Candidate) (c d : ℤ) (count : ℕ) (column : Spec) (choice : Choice) → ds ≡ cs → is_reference column.form ≢ true → IsTally section values (record { candidates = cs; constant = c; count = count }) → IsBestOf ds c column.form (length ds) choice → (choice.form ≡ implicit_const → d ≡ c) → (choice.form ≢ implicit_const → d ≡ pos 0) → IsChosen column (meanings_in section values) (record { name = column.name; form = choice.form; constant = d })
-chosen section values cs ds c d count column choice e other t b same none =
+pub chosen : (section : List ℕ) (values : List Value) (cs ds : List Candidate) (c d : ℤ) (count : ℕ) (column : Spec) (choice : Choice) → ds ≡ cs → IsTally section values (record { candidates = cs; constant = c; count = count }) → IsBestOf ds c column.form (length ds) choice → (choice.form ≡ implicit_const → d ≡ c) → (choice.form ≢ implicit_const → d ≡ pos 0) → IsChosen column (meanings_in section values) (record { name = column.name; form = choice.form; constant = d })
+chosen section values cs ds c d count column choice e t b same none =
     let best = subst (λ (z : List Candidate). IsBestOf z c column.form (length z) choice) e b in
     record {
       least = record {
         name = refl;
-        kept = λ is. absurd (other is);
-        least = λ _. least_form cs c d (meanings_in section values) column.form choice t.tallied best same;
-        unused = λ differs _. none differs;
+        least = least_form cs c d (meanings_in section values) column.form choice t.tallied best same;
+        unused = none;
       };
-      first = λ _. first_form cs c d (meanings_in section values) column.form choice t.tallied best same;
+      first = first_form cs c d (meanings_in section values) column.form choice t.tallied best same;
     }
 
-pub never_none : (section : List ℕ) (values : List Value) (cs ds : List Candidate) (c : ℤ) (count : ℕ) (column : Spec) → ds ≡ cs → 1 ≤ count → is_reference column.form ≢ true → IsTally section values (record { candidates = cs; constant = c; count = count }) → AreSpelled column.form column.constant (meanings_in section values) → AreOut ds (length ds) → ⊥
-never_none section [] cs ds c count column e some other t s out = let none : count ≡ 0 = t.count in absurd (omega arith)
-never_none section (v ∷ vs) cs ds c count column e some other t s out =
-    some_form cs c (meant_in section v) (meanings_in section vs) column t.tallied other s (subst (λ (z : List Candidate). AreOut z (length z)) e out)
+pub never_none : (section : List ℕ) (values : List Value) (cs ds : List Candidate) (c : ℤ) (count : ℕ) (column : Spec) → ds ≡ cs → 1 ≤ count → IsTally section values (record { candidates = cs; constant = c; count = count }) → AreSpelled column.form column.constant (meanings_in section values) → AreOut ds (length ds) → ⊥
+never_none section [] cs ds c count column e some t s out = let none : count ≡ 0 = t.count in absurd (omega arith)
+never_none section (v ∷ vs) cs ds c count column e some t s out =
+    some_form cs c (meant_in section v) (meanings_in section vs) column t.tallied s (subst (λ (z : List Candidate). AreOut z (length z)) e out)

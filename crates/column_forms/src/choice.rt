@@ -1,11 +1,11 @@
 // The least form among those that admit all values.
 ghost use Rattle.std.specs.Prelude.{◌≡◌, ◌≤◌, ◌<◌, ◌+◌, ◌^◌, ◌↔◌, ℕ, length, IsTrue, true};
-ghost use Rattle.form_codec.specs.Columns.{ComesFirst, is_reference};
+ghost use Rattle.form_codec.specs.Columns.{ComesFirst};
 ghost use Rattle.column_forms.specs.Tallies.{AreBounded, candidate_at};
 ghost use Rattle.column_forms.specs.inside.Choices.{IsBest, IsBetter, bytes_of};
 
 use crate::tally::Candidate;
-use dw_base::constants::{DW_FORM_IMPLICIT_CONST, DW_FORM_REF_ADDR, DW_FORM_REF_UDATA};
+use dw_base::constants::DW_FORM_IMPLICIT_CONST;
 use leb_codec::len_s;
 
 /// A form, and the bytes of a column in it.
@@ -15,13 +15,6 @@ pub struct Choice {
     pub form: u64,
     /// The bytes in the entries and of the constant in the declaration.
     pub bytes: u128,
-}
-
-/// Whether a form is one of references to entries: ref_addr, ref1, ref2, ref4, ref8 or ref_udata.
-pub fn is_reference(form: u64) -> bool
-    ensures { result ≡ is_reference form }
-{
-    (DW_FORM_REF_ADDR..=DW_FORM_REF_UDATA).contains(&form)
 }
 
 // Whether a form comes before another one that takes as few bytes, or is it.

@@ -32,8 +32,8 @@ fn tally_of(
 /// The columns of one declaration, each in the form that takes the fewest bytes: those of its values in the entries and,
 /// for DW_FORM_implicit_const, those of the constant in the declaration (DWARF 5 sections 7.5.3 and 7.5.6). Among equals a
 /// column keeps its form, or else has the one with the lowest code. Names stay, and a column whose form isn't
-/// DW_FORM_implicit_const has the constant 0. Columns of references to entries keep their forms, since the sizes of these
-/// depend on each other.
+/// DW_FORM_implicit_const has the constant 0. References within a unit get DW_FORM_ref_udata, whose bytes don't count here: each
+/// has as many as the layout of its unit gives it.
 ///
 /// `values` are row by row, a row for each of the `uses` entries and in it a value for each of `specs`, which its form
 /// spells; of a column with another value nothing is said. The only error is want of memory.

@@ -11,7 +11,7 @@ ghost use Rattle.form_codec.specs.Written.{HasConstant};
 ghost use Rattle.column_forms.specs.Tallies.{meanings_in, IsTally, IsHere};
 ghost use Rattle.column_forms.specs.inside.Tallies.{CanSpell, IsNext, IsFirst, AreFound, AreAdded, HaveRoom, HaveConstants};
 
-use crate::choice::{best_of, is_reference};
+use crate::choice::best_of;
 use abbrev_tables::Spec;
 use dw_base::NoMemory;
 use dw_base::constants::{DW_FORM_ADDRX4, DW_FORM_IMPLICIT_CONST};
@@ -166,14 +166,11 @@ impl Tally {
 
     /// The column in the form that takes the fewest bytes: those of the values in the entries and, for
     /// DW_FORM_implicit_const, those of the constant in the declaration. Among equals it keeps its own form, or else has the
-    /// one with the lowest code. A column of references to entries keeps its form, since their sizes depend on each other.
+    /// one with the lowest code. References within a unit get DW_FORM_ref_udata, since ref1, ref2, ref4 and ref8 are never chosen.
     /// `column` is the one whose values were counted, each in its form.
     pub fn best(&self, column: Spec) -> Spec
         ensures { (section : List ℕ) (values : List AValue) → IsTally section values self.now → AreSpelled column.form column.constant (meanings_in section values) → IsChosen column (meanings_in section values) result }
     {
-        if is_reference(column.form) {
-            return column;
-        }
         match best_of(&self.candidates, self.constant, column.form) {
             Some(choice) => Spec {
                 name: column.name,

@@ -149,10 +149,10 @@ fn forms_without_another(rt: HostRuntime) -> Result<(), Fail> {
     assert!(rt; is_chosen(alloc, 0x18, &[Value::Expr(Span { at: 0, len: 2 })], 0x18, 0));
     assert!(rt; is_chosen(alloc, 0x22, &[Value::LocIndex(1)], 0x22, 0));
     assert!(rt; is_chosen(alloc, 0x23, &[Value::RangeIndex(1)], 0x23, 0));
-    // references keep their forms
+    // references within a unit get DW_FORM_ref_udata, and those to the section keep DW_FORM_ref_addr
     assert!(rt; is_chosen(alloc, 0x10, &[Value::SectionRef(1)], 0x10, 0));
-    assert!(rt; is_chosen(alloc, 0x11, &[Value::LocalRef(1)], 0x11, 0));
-    assert!(rt; is_chosen(alloc, 0x13, &[Value::LocalRef(1)], 0x13, 0));
+    assert!(rt; is_chosen(alloc, 0x11, &[Value::LocalRef(1)], 0x15, 0));
+    assert!(rt; is_chosen(alloc, 0x13, &[Value::LocalRef(1)], 0x15, 0));
     assert!(rt; is_chosen(alloc, 0x15, &[Value::LocalRef(1)], 0x15, 0));
     Ok(())
 }

@@ -6,4 +6,5 @@ pub mod Laws
 pub mod Readings
 pub mod Places
 pub mod Short
+pub mod Locals
 pub mod inside

@@ -1,11 +1,9 @@
 -- Values and entries without a byte too many (DWARF 5 sections 7.5.2, 7.5.5 and 7.5.6): each LEB128 number of a code or a form is
--- shortest, but for DW_FORM_ref_udata, which has five bytes, so that its size doesn't depend on its number. Numbers inside an
--- expression are part of its bytes.
-use Rattle.std.specs.Prelude.{◌≡◌, ◌≢◌, ◌+◌, ◌⊎◌, ℕ, List, [], ◌∷◌, length, take, drop}
+-- shortest. Numbers inside an expression are part of its bytes.
+use Rattle.std.specs.Prelude.{◌≡◌, ◌+◌, ℕ, List, [], ◌∷◌, take, drop}
 use Rattle.leb_codec.specs.Leb.{ShortestUnsigned}
-use Rattle.form_codec.specs.declared.form.Form.TheVariants.{RefUdata}
 use Rattle.form_codec.specs.declared.value.Value.{Value}
-use Rattle.form_codec.specs.Forms.{Meaning, code_of, SpellsValue, SpellsShortest}
+use Rattle.form_codec.specs.Forms.{Meaning, SpellsValue, SpellsShortest}
 use Rattle.form_codec.specs.Values.{meant_in}
 use Rattle.abbrev_tables.specs.declared.decl.Spec.{Spec}
 use Rattle.abbrev_tables.specs.Tables.{Declared}
@@ -15,7 +13,7 @@ use Rattle.entry_arena.specs.Trees.{SpellsBetween, declared_at}
 
 -- these bytes spell the value of a column, and none is too many
 abbrev pub IsWritten : Spec → Meaning → List ℕ → Type 0
-IsWritten column meaning bytes = SpellsValue column.form column.constant meaning bytes × (((column.form ≡ code_of RefUdata) × (length bytes ≡ 5)) ⊎ ((column.form ≢ code_of RefUdata) × SpellsShortest column.form meaning bytes))
+IsWritten column meaning bytes = SpellsValue column.form column.constant meaning bytes × SpellsShortest column.form meaning bytes
 
 -- the values of columns stand in such bytes, one after the other from a place up to another
 abbrev pub WrittenBetween : List ℕ → List Spec → List Value → ℕ → ℕ → Type 0

@@ -1,6 +1,6 @@
 -- Columns (DWARF 5 sections 7.5.3, 7.5.5 and 7.5.6): the values that one attribute has in all entries of a declaration, and the
 -- form in which they and the declaration take the fewest bytes.
-use Rattle.std.specs.Prelude.{◌≡◌, ◌≢◌, ◌≤◌, ◌+◌, ◌==◌, ◌⊎◌, if◌then◌else◌, ℕ, ℤ, List, [], ◌∷◌, length, true, nat_le, ◌&&◌, Bool}
+use Rattle.std.specs.Prelude.{◌≡◌, ◌≢◌, ◌≤◌, ◌+◌, ◌==◌, ◌⊎◌, if◌then◌else◌, ℕ, ℤ, List, [], ◌∷◌, length, true}
 use Rattle.leb_codec.specs.Leb.{least_signed_len}
 use Rattle.form_codec.specs.declared.form.Form.{Form}
 use Rattle.form_codec.specs.declared.form.Form.TheVariants.{ImplicitConst}
@@ -47,7 +47,3 @@ ComesFirst input code other = (code ≡ input) ⊎ ((other ≢ input) × (code �
 -- of the least forms this one comes first
 abbrev pub IsFirstForm : ℕ → List Meaning → ℕ → Type 0
 IsFirstForm input meanings code = (other : ℕ) (c : ℤ) → IsLeastForm meanings other c → ComesFirst input code other
-
--- the form is one of references to entries: ref_addr, ref1, ref2, ref4, ref8 or ref_udata, with the codes from 16 to 21
-abbrev pub is_reference : ℕ → Bool
-is_reference code = nat_le 16 code && nat_le code 21

@@ -2,6 +2,7 @@
 use Rattle.std.proofs.Common.{◌≡◌, ◌≢◌, ◌≤◌, ◌<◌, ◌+◌, ◌-◌, ◌^◌, ℕ, zero, suc, List, [], ◌∷◌, length, slice_index, ◌∙◌, sym, ap, subst, arith}
 use Rattle.std.specs.Prelude.{Result, Ok, Err, IfOk}
 use Rattle.dw_base.specs.declared.fault.NoMemory.{NoMemory}
+use Rattle.dw_base.specs.declared.fault.Reach.{Reach}
 use Rattle.abbrev_tables.specs.Tables.{Declared}
 use Rattle.abbrev_tables.specs.Listings.{Listing}
 use Rattle.fixed_width.specs.InitialLengths.{least_reserved}
@@ -11,19 +12,24 @@ use Rattle.unit_write.specs.declared.places.Places.{Places}
 use Rattle.unit_write.specs.declared.write.NewNumbers.{NewNumbers}
 use Rattle.unit_write.specs.Placing.{IsRenumbered}
 use Rattle.unit_write.specs.NewExpressions.{lens_of, AreEndsFor}
-use Rattle.unit_write.specs.Moved.{IsWritable, IsPlacedAt, IsWrittenAnew, new_values}
+use Rattle.unit_write.specs.Lens.{AreLensFor}
+use Rattle.unit_write.specs.Moved.{IsWritable, IsPlacedAt, IsWrittenAnew, new_values, lens_anew}
+use Rattle.unit_write.specs.declared.slots.Spot.{Spot}
+use Rattle.unit_write.specs.Slots.{AreSpotsOf, IsLaidOut, LayoutsHold}
 use Rattle.unit_write.proofs.FewLaws.{one_ends}
+use Rattle.unit_write.proofs.LensLaws.{lens_fit}
 use Rattle.unit_write.proofs.UnitLaws.{placed_order}
 use Rattle.value_links.specs.Reading.{Reading, unit_at}
-use Rattle.value_links.specs.World.{World, head_and_forest, table_at, operations_at, Holds}
+use Rattle.value_links.specs.World.{World, head_and_forest, table_at, operations_at, Holds, IsWorldOf}
 use Rattle.value_links.specs.declared.units.NamedTable.{NamedTable}
 use Rattle.rewriter.specs.declared.tables.NewTable.{NewTable}
 use Rattle.rewriter.specs.declared.new_places.NewPlaces.{NewPlaces}
 use Rattle.rewriter.specs.inside.Tables.{TableAnew, table_anew, new_table_at, AreTablesWritten}
-use Rattle.rewriter.specs.inside.Placed.{PlacesAnew, places_at, unit_in, AreEndsIn, AreWritable, IsPlacedBy, PlacesFollow, ArePlacesOf}
+use Rattle.rewriter.specs.inside.Placed.{places_at, unit_in, AreEndsIn, AreWritable, IsPlacedBy, PlacesFollow, ArePlacesOf}
 use Rattle.rewriter.specs.inside.Numbers.{AreNewNumbers}
 use Rattle.rewriter.specs.inside.Held.{table_for, IsPlacedFrom}
 use Rattle.rewriter.proofs.Standing.{held_unit}
+use Rattle.rewriter.proofs.SpotNumbers.{spot_numbers}
 
 -- PLACES RISE
 
@@ -57,12 +63,28 @@ unit_ends world tables places size u are known =
     let small : size < least_reserved = are.small in
     omega arith
 
--- ONE LIST OF ENDS
+-- THE SIZES OF REFERENCES
 
--- a unit that stands at places does so with any list of the ends of its expressions, since there is one
-pub placed_with : (world : World) (tables : List NewTable) (u : ℕ) (p : PlacesAnew) (ends : List ℕ) → IsPlacedBy world tables u p → AreEndsIn world u ends → IsPlacedAt (unit_in world.units u) (table_for world u) (new_table_at tables (slice_index world.table_of u)).columns (new_table_at tables (slice_index world.table_of u)).numbers (lens_of ends) p.start p.entries p.ends p.end
-placed_with world tables u p ends placed are =
-    subst (λ (e : List ℕ). IsPlacedAt (unit_in world.units u) (table_for world u) (new_table_at tables (slice_index world.table_of u)).columns (new_table_at tables (slice_index world.table_of u)).numbers (lens_of e) p.start p.entries p.ends p.end) (one_ends (unit_in world.units u).forest (operations_at world.operations u) placed.expressions ends placed.plain are) placed.placed
+-- as many new numbers as values, and as many ends
+module _ (file : List ℕ) (world : World) (r : Reading) (tables : List NewTable) (places : List Places) (new_places : NewPlaces) (u : ℕ) (new : NewNumbers) (holds : Holds file world r) (numbers : AreNewNumbers world r.links tables places new_places u new) where
+  numbers_counted : length new.held.items ≡ length (unit_in world.units u).forest.values
+  numbers_counted = numbers.count ∙ ap (λ (h : HeadAndForest). length h.forest.values) (sym (held_unit file world r u holds))
+
+  ends_counted : length new.ends.items ≡ length (unit_in world.units u).forest.values
+  ends_counted = numbers.ends_are.fit.rise.each
+
+  -- the sizes that the new numbers need are such as a unit can be written with
+  anew_fits : AreLensFor (unit_in world.units u).forest (lens_anew (unit_in world.units u).forest (new_values new))
+  anew_fits = lens_fit (unit_in world.units u).forest (new_values new) numbers_counted ends_counted numbers.ends_are.fit numbers.fit
+
+  -- they are those with which it has its places
+  pub placed_with : LayoutsHold → (reach : Reach) → IsWorldOf world.image reach world → u < length world.units → IsPlacedBy world tables u (places_at places u) → IsPlacedAt (unit_in world.units u) (table_for world u) (new_table_at tables (slice_index world.table_of u)).columns (new_table_at tables (slice_index world.table_of u)).numbers (lens_anew (unit_in world.units u).forest (new_values new)) (places_at places u).start (places_at places u).entries (places_at places u).ends (places_at places u).end
+  placed_with hold reach is known p =
+      let ends : p.expressions ≡ new.ends.items = one_ends (unit_in world.units u).forest (operations_at world.operations u) p.expressions new.ends.items p.plain numbers.ends_are in
+      let laid_out : IsLaidOut (unit_in world.units u) (table_for world u) (new_table_at tables (slice_index world.table_of u)).columns (new_table_at tables (slice_index world.table_of u)).numbers (lens_of new.ends.items) p.spots p.lens = subst (λ (e : List ℕ). IsLaidOut (unit_in world.units u) (table_for world u) (new_table_at tables (slice_index world.table_of u)).columns (new_table_at tables (slice_index world.table_of u)).numbers (lens_of e) p.spots p.lens) ends p.laid_out in
+      let counts = spot_numbers file world reach r tables places new_places u new p.spots is holds known numbers p.named in
+      let same : lens_anew (unit_in world.units u).forest (new_values new) ≡ p.lens = hold (unit_in world.units u) (table_for world u) (new_table_at tables (slice_index world.table_of u)).columns (new_table_at tables (slice_index world.table_of u)).numbers (new_values new) p.spots p.lens (places_at places u).start (places_at places u).entries (places_at places u).ends (places_at places u).end p.named numbers_counted ends_counted laid_out p.placed counts in
+      subst (λ (lens : List ℕ). IsPlacedAt (unit_in world.units u) (table_for world u) (new_table_at tables (slice_index world.table_of u)).columns (new_table_at tables (slice_index world.table_of u)).numbers lens (places_at places u).start (places_at places u).entries (places_at places u).ends (places_at places u).end) (sym same) p.placed
 
 -- WHAT IS READ OF THE PARTS
 
@@ -76,28 +98,28 @@ module _ (world : World) (tables : List NewTable) (u : ℕ) (unit : HeadAndFores
   back P read =
       subst (P (unit_in world.units u) (table_for world u)) anew_is (subst (λ (n : NamedTable). P (unit_in world.units u) n.table (table_anew anew)) old_is (subst (λ (h : HeadAndForest). P h old.table (table_anew anew)) unit_is read))
 
-  pub writable_there : (ends : List ℕ) → AreWritable world tables → u < length world.units → AreEndsIn world u ends → IsWritable unit old.table anew.columns.items anew.numbers.items (lens_of ends)
-  writable_there ends writable known are = there (λ h t n. IsWritable h t n.columns n.numbers (lens_of ends)) (writable u ends known are)
+  pub writable_there : (lens : List ℕ) → AreWritable world tables → u < length world.units → AreLensFor (unit_in world.units u).forest lens → IsWritable unit old.table anew.columns.items anew.numbers.items lens
+  writable_there lens writable known fit = there (λ h t n. IsWritable h t n.columns n.numbers lens) (writable u lens known fit)
 
   -- a unit that was placed stands at its places
-  placed_back : (ends : List ℕ) (start : ℕ) (places : Places) → AreEndsIn world u ends → places.start ≡ start → places.end < least_reserved → IsPlacedAt unit old.table anew.columns.items anew.numbers.items (lens_of ends) start places.entries.items places.ends.items places.end → IsPlacedFrom world tables u start places
-  placed_back ends start places are begins fits placed = record {
+  placed_back : (ends lens : List ℕ) (spots : List Spot) (start : ℕ) (places : Places) → AreEndsIn world u ends → AreSpotsOf (unit_in world.units u) spots → IsLaidOut unit old.table anew.columns.items anew.numbers.items (lens_of ends) spots lens → places.start ≡ start → places.end < least_reserved → IsPlacedAt unit old.table anew.columns.items anew.numbers.items lens start places.entries.items places.ends.items places.end → IsPlacedFrom world tables u start places
+  placed_back ends lens spots start places are named laid_out begins fits placed = record {
     begins = begins;
     placed = record {
       expressions = ends;
       plain = are;
-      placed = back (λ h t n. IsPlacedAt h t n.columns n.numbers (lens_of ends) places.start places.entries.items places.ends.items places.end) (subst (λ (z : ℕ). IsPlacedAt unit old.table anew.columns.items anew.numbers.items (lens_of ends) z places.entries.items places.ends.items places.end) (sym begins) placed);
+      spots = spots;
+      named = named;
+      lens = lens;
+      laid_out = back (λ h t n. IsLaidOut h t n.columns n.numbers (lens_of ends) spots lens) laid_out;
+      placed = back (λ h t n. IsPlacedAt h t n.columns n.numbers lens places.start places.entries.items places.ends.items places.end) (subst (λ (z : ℕ). IsPlacedAt unit old.table anew.columns.items anew.numbers.items lens z places.entries.items places.ends.items places.end) (sym begins) placed);
     };
     fits = fits;
   }
 
-  pub all_placed_back : (ends : List ℕ) (start : ℕ) (r : Result Places NoMemory) → AreEndsIn world u ends → IfOk r (λ places. places.start ≡ start) → IfOk r (λ places. places.end < least_reserved) → IfOk r (λ places. IsPlacedAt unit old.table anew.columns.items anew.numbers.items (lens_of ends) start places.entries.items places.ends.items places.end) → IfOk r (IsPlacedFrom world tables u start)
-  all_placed_back ends start (Ok places) are begins fits placed = placed_back ends start places are begins fits placed
-  all_placed_back ends start (Err e) are begins fits placed = tt
-
-  pub placed_there : (places : List Places) (size start end : ℕ) (ends : List ℕ) → ArePlacesOf world tables places size → u < length world.units → AreEndsIn world u ends → start ≡ (places_at places u).start → end ≡ (places_at places u).end → IsPlacedAt unit old.table anew.columns.items anew.numbers.items (lens_of ends) start (places_at places u).entries (places_at places u).ends end
-  placed_there places size start end ends are known ends_are start_is end_is =
-      there (λ h t n. IsPlacedAt h t n.columns n.numbers (lens_of ends) start (places_at places u).entries (places_at places u).ends end) (subst (λ (z : ℕ). IsPlacedAt (unit_in world.units u) (table_for world u) (new_table_at tables (slice_index world.table_of u)).columns (new_table_at tables (slice_index world.table_of u)).numbers (lens_of ends) z (places_at places u).entries (places_at places u).ends end) (sym start_is) (subst (IsPlacedAt (unit_in world.units u) (table_for world u) (new_table_at tables (slice_index world.table_of u)).columns (new_table_at tables (slice_index world.table_of u)).numbers (lens_of ends) (places_at places u).start (places_at places u).entries (places_at places u).ends) (sym end_is) (placed_with world tables u (places_at places u) ends (are.each u known) ends_are)))
+  pub all_placed_back : (ends lens : List ℕ) (spots : List Spot) (start : ℕ) (r : Result Places NoMemory) → AreEndsIn world u ends → AreSpotsOf (unit_in world.units u) spots → IsLaidOut unit old.table anew.columns.items anew.numbers.items (lens_of ends) spots lens → IfOk r (λ places. places.start ≡ start) → IfOk r (λ places. places.end < least_reserved) → IfOk r (λ places. IsPlacedAt unit old.table anew.columns.items anew.numbers.items lens start places.entries.items places.ends.items places.end) → IfOk r (IsPlacedFrom world tables u start)
+  all_placed_back ends lens spots start (Ok places) are named laid_out begins fits placed = placed_back ends lens spots start places are named laid_out begins fits placed
+  all_placed_back ends lens spots start (Err e) are named laid_out begins fits placed = tt
 
   abbrev Writes : HeadAndForest → Listing → TableAnew → NewNumbers → ℕ → List ℕ → Type 0
   Writes h t n new start section = (ds : List Declared) → IsRenumbered t n.columns n.numbers ds → IsWrittenAnew h t n.columns n.numbers ds new.table new.type_offset (new_values new) start section
@@ -128,3 +150,13 @@ module _ (world : World) (tables : List NewTable) (u : ℕ) (unit : HeadAndFores
         let inside : (new_table_at tables (slice_index world.table_of u)).at < length section = (written.each (slice_index world.table_of u) there).inside in
         let same : new.table ≡ (new_table_at tables (slice_index world.table_of u)).at = numbers.table_at in
         omega arith
+
+    -- it can be written with the sizes that its new numbers need
+    pub writable_anew : AreWritable world tables → u < length world.units → IsWritable unit old.table anew.columns.items anew.numbers.items (lens_anew unit.forest (new_values new))
+    writable_anew writable known =
+        there (λ h t n. IsWritable h t n.columns n.numbers (lens_anew h.forest (new_values new))) (writable u (lens_anew (unit_in world.units u).forest (new_values new)) known (anew_fits file world r tables places new_places u new holds numbers))
+
+    -- and stands at its places with them
+    pub placed_there : (start end : ℕ) → start ≡ (places_at places u).start → end ≡ (places_at places u).end → IsPlacedAt (unit_in world.units u) (table_for world u) (new_table_at tables (slice_index world.table_of u)).columns (new_table_at tables (slice_index world.table_of u)).numbers (lens_anew (unit_in world.units u).forest (new_values new)) (places_at places u).start (places_at places u).entries (places_at places u).ends (places_at places u).end → IsPlacedAt unit old.table anew.columns.items anew.numbers.items (lens_anew unit.forest (new_values new)) start (places_at places u).entries (places_at places u).ends end
+    placed_there start end start_is end_is placed =
+        there (λ h t n. IsPlacedAt h t n.columns n.numbers (lens_anew h.forest (new_values new)) start (places_at places u).entries (places_at places u).ends end) (subst (λ (z : ℕ). IsPlacedAt (unit_in world.units u) (table_for world u) (new_table_at tables (slice_index world.table_of u)).columns (new_table_at tables (slice_index world.table_of u)).numbers (lens_anew (unit_in world.units u).forest (new_values new)) z (places_at places u).entries (places_at places u).ends end) (sym start_is) (subst (IsPlacedAt (unit_in world.units u) (table_for world u) (new_table_at tables (slice_index world.table_of u)).columns (new_table_at tables (slice_index world.table_of u)).numbers (lens_anew (unit_in world.units u).forest (new_values new)) (places_at places u).start (places_at places u).entries (places_at places u).ends) (sym end_is) placed))

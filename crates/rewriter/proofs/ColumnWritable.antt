@@ -1,12 +1,12 @@
 -- A column in its least form can be written.
-use Rattle.std.proofs.Common.{◌≡◌, ◌≢◌, ◌≤◌, ◌<◌, ◌+◌, ◌-◌, ◌^◌, inl, inr, ◌∙◌, ℕ, suc, List, [], ◌∷◌, length, true, sym, subst, arith}
+use Rattle.std.proofs.Common.{◌≡◌, ◌≤◌, ◌<◌, ◌+◌, ◌-◌, ◌^◌, inl, inr, ◌∙◌, ℕ, suc, List, [], ◌∷◌, length, sym, subst, arith}
 use Rattle.std.specs.Prelude.{ℤ, FitsSigned}
 use Rattle.std.specs.Int.{w64}
-use Rattle.std.proofs.lemmas.Bool.{cases_Bool, cases_eq, cases_lt, both_ways}
+use Rattle.std.proofs.lemmas.Bool.{cases_eq, cases_lt}
 use Rattle.form_codec.specs.declared.form.Form.{Form}
 use Rattle.form_codec.specs.declared.form.Form.TheVariants as form
 use Rattle.form_codec.specs.Forms.{Meaning, SpellsShape, code_of, shape_of}
-use Rattle.form_codec.specs.Columns.{EntriesWithin, is_reference}
+use Rattle.form_codec.specs.Columns.{EntriesWithin}
 use Rattle.abbrev_tables.specs.declared.decl.Decl.{Decl}
 use Rattle.abbrev_tables.specs.declared.decl.Spec.{Spec}
 use Rattle.abbrev_tables.specs.Tables.{implicit_const}
@@ -24,21 +24,17 @@ constant_fits code c [] n is some within = absurd (omega arith)
 constant_fits code c (m ∷ ms) n is some (bytes, rest, s, more, sum) = constant_shape s.form c m bytes (s.known ∙ is) s.spelled
 
 pub chosen_writable : (old new : Spec) (meanings : List Meaning) → IsWritableColumn old → 0 < length meanings → IsChosen old meanings new → IsWritableColumn new
-chosen_writable old new meanings writable some chosen = elim (cases_Bool (is_reference old.form)) [
-  | inl kept ↦ subst IsWritableColumn (sym (chosen.least.kept kept)) writable
-  | inr moves ↦
-      let free : is_reference old.form ≢ true = both_ways (is_reference old.form) moves in
-      let within = (chosen.least.least free).enough in
-      record {
-        named = λ none. writable.named (sym chosen.least.name ∙ none);
-        narrow = subst (λ (n : ℕ). n < 2 ^ 32) (sym chosen.least.name) writable.narrow;
-        known = (within.choice.0, within.choice.1);
-        constant = elim (cases_eq new.form implicit_const) [
-          | inl is ↦ inl (is, constant_fits new.form new.constant meanings within.entries is some within.within)
-          | inr other ↦ inr (other, chosen.least.unused other free)
-        ];
-      }
-]
+chosen_writable old new meanings writable some chosen =
+    let within = chosen.least.least.enough in
+    record {
+      named = λ none. writable.named (sym chosen.least.name ∙ none);
+      narrow = subst (λ (n : ℕ). n < 2 ^ 32) (sym chosen.least.name) writable.narrow;
+      known = (within.choice.0, within.choice.1);
+      constant = elim (cases_eq new.form implicit_const) [
+        | inl is ↦ inl (is, constant_fits new.form new.constant meanings within.entries is some within.within)
+        | inr other ↦ inr (other, chosen.least.unused other)
+      ];
+    }
 
 -- a column is one of a declaration
 pub record HasOwner (decls : List Decl) (k : ℕ) : Type 0 where

@@ -5,8 +5,6 @@ pub mod Appends
 pub mod Arranged
 pub mod Assembled
 pub mod Behind
-pub mod BuiltTables
-pub mod BuiltUnits
 pub mod ChosenColumns
 pub mod Codes
 pub mod ColumnLaws
@@ -29,6 +27,7 @@ pub mod FrozenLists
 pub mod HeadsStay
 pub mod HeldExpressions
 pub mod LeastColumns
+pub mod LeastLayouts
 pub mod Links
 pub mod ListExpressions
 pub mod ListExpressionsAnew
@@ -52,6 +51,7 @@ pub mod MovedPlaces
 pub mod MovedValues
 pub mod MovedViews
 pub mod NamedOperations
+pub mod NamedSpots
 pub mod NewBodies
 pub mod NewExpressions
 pub mod OffsetSizes
@@ -68,6 +68,7 @@ pub mod SectionSizes
 pub mod SectionsAnew
 pub mod ShortestBytes
 pub mod SizedValues
+pub mod SpotNumbers
 pub mod Stand
 pub mod Standing
 pub mod TableSizes

@@ -1,5 +1,5 @@
 -- Units that stand one after the other.
-use Rattle.std.proofs.Common.{◌≡◌, ◌≤◌, ◌<◌, ◌+◌, ℕ, List, [], ◌∷◌, ◌++◌, length, take, get_or, ◌∙◌, sym, ap, refl, subst, arith, inl, inr}
+use Rattle.std.proofs.Common.{◌≡◌, ◌≤◌, ◌<◌, ◌+◌, ◌^◌, ℕ, List, [], ◌∷◌, ◌++◌, length, take, get_or, ◌∙◌, sym, ap, refl, subst, arith, inl, inr}
 use Rattle.std.specs.Prelude.{map}
 use Rattle.std.specs.List.{sum_by}
 use Rattle.std.proofs.lemmas.Bool.{cases_lt}
@@ -55,7 +55,7 @@ most_more : (world : World) (number : ℕ) → number < length world.units → s
 most_more world number known = sum_by_more most_bytes world.units number _ known
 
 -- there is room for the next
-pub room_next : (world : World) (tables : List NewTable) (places : List Places) (number end : ℕ) → IsWorldOf world.image Narrow world → ArePlacedUpTo world tables places number end → number < length world.units → end + most_bytes (unit_in world.units number) < least_reserved
+pub room_next : (world : World) (tables : List NewTable) (places : List Places) (number end : ℕ) → IsWorldOf world.image Narrow world → ArePlacedUpTo world tables places number end → number < length world.units → end + most_bytes (unit_in world.units number) < 2 ^ 31
 room_next world tables places number end is up known =
     let within = up.within in
     let more = most_more world number known in

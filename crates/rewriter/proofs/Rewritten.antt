@@ -1,5 +1,5 @@
--- A file that has its new sections is read, means what the old one means, is valid, has the codes and the forms of columns that
--- take the least bytes, and holds nothing else.
+-- A file that has its new sections is read, means what the old one means, is valid, has the codes, the forms of columns and the
+-- references within units that take the least bytes, and holds nothing else.
 use Rattle.std.proofs.Common.{◌≡◌, ◌≤◌, ◌<◌, ◌+◌, ◌^◌, ◌∙◌, ℕ, List, [], length, sym, ap, subst, arith}
 use Rattle.std.specs.Prelude.{map, slice_index}
 use Rattle.dw_base.specs.declared.fault.Reach.TheVariants.{Narrow, Wide}
@@ -25,6 +25,7 @@ use Rattle.rewriter.specs.declared.sections.NewSections.{NewSections}
 use Rattle.rewriter.specs.inside.Bodies.{NewBytes}
 use Rattle.rewriter.specs.inside.Sections.{HasSections}
 use Rattle.value_links.specs.Classes.{OfBoth, HasLeastCodes, HasOrderedCodes, HaveLeastCodes, HaveOrderedCodes, HaveColumns, HaveLeastColumns, HaveFirstColumns, HaveLeastLists}
+use Rattle.value_links.specs.Layouts.{HaveLeastLayouts}
 use Rattle.rewriter.specs.inside.Anew.{new_lists, AreAnew}
 use Rattle.rewriter.specs.inside.Follows.{AreReadAnew}
 use Rattle.value_links.specs.Tidy.{AreTidy, IsTidy}
@@ -39,6 +40,7 @@ use Rattle.rewriter.proofs.ViewsRead.{views_stay, tidy_views}
 use Rattle.rewriter.proofs.WideExpressions.{expressions_are_wide}
 use Rattle.rewriter.proofs.Tidied.{are_tidy}
 use Rattle.rewriter.proofs.LeastColumns.{least_columns, first_columns}
+use Rattle.rewriter.proofs.LeastLayouts.{least_layouts}
 use Rattle.rewriter.proofs.ValidImages.{image_in_order}
 
 -- the new sections of a file, one by one
@@ -125,7 +127,6 @@ module _ (file written : List ℕ) (world : World) (r s : Reading) (new : NewSec
   units_in_order = record {
     before = record { before = has.order; programs = reads_anew.links.programs; few = anew.programs.few };
     units = reads_anew.links.units;
-    built = anew.units.built;
     lists = parts_anew;
   }
 
@@ -150,6 +151,10 @@ module _ (file written : List ℕ) (world : World) (r s : Reading) (new : NewSec
 
   pub columns_in_order : HaveFirstColumns file written
   columns_in_order = of_both (HaveColumns IsFirstColumn) (first_columns all_anew)
+
+  -- the references within each unit are in the least sizes
+  pub layouts_anew : HaveLeastLayouts file written
+  layouts_anew = (r, s, read, reads_anew, least_layouts r s read holds anew.units anew.placed)
 
   -- each list is in the shortest bytes of its class
   pub lists_anew : HaveLeastLists file written
@@ -178,6 +183,7 @@ rewritten file image world new written law known few short is anew least order h
       columns_order = columns_in_order file written world known.r s new known.read known.holds all has;
       codes = codes_anew file written world known.r s new known.read known.holds all has;
       codes_order = codes_in_order file written world known.r s new known.read known.holds all has;
+      layouts = layouts_anew file written world known.r s new known.read known.holds all has;
       placed = has.placed;
     }
 

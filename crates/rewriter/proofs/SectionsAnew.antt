@@ -16,7 +16,6 @@ use Rattle.line_write.proofs.ReadBack.{bounds}
 use Rattle.companions.specs.declared.set.ArangeSet.{ArangeSet}
 use Rattle.companions.specs.Aranges.{IsOutside, SetsTile, HaveUnits}
 use Rattle.companions.proofs.Tiling.{follow_units}
-use Rattle.abbrev_tables.specs.ListingLaws.{DeclarationsStand}
 use Rattle.entry_read.specs.declared.head.UnitHead.{UnitHead}
 use Rattle.entry_read.specs.Heads.{Tile as UnitsTile}
 use Rattle.entry_read.specs.Units.{HeadAndForest}
@@ -40,7 +39,7 @@ use Rattle.rewriter.specs.declared.tables.NewTable.{NewTable}
 use Rattle.rewriter.specs.declared.new_places.NewPlaces.{NewPlaces}
 use Rattle.rewriter.specs.declared.sections.NewSections.{NewSections}
 use Rattle.rewriter.specs.inside.Tables.{TablesStand, table_anew, AreTablesWritten}
-use Rattle.rewriter.specs.inside.Placed.{PlacesAnew, places_anew, places_at, PlacesFollow, ArePlacesOf, AreWritable}
+use Rattle.rewriter.specs.inside.Placed.{PlacesAnew, places_anew, places_at, IsPlacedBy, PlacesFollow, ArePlacesOf, AreWritable}
 use Rattle.rewriter.specs.inside.Units.{AreUnitsWritten}
 use Rattle.rewriter.specs.inside.Bodies.{NewBytes, new_bytes}
 use Rattle.rewriter.specs.inside.Sections.{IsFor, AreFor}
@@ -129,13 +128,14 @@ pub record AreParts (file : List ℕ) (world : World) (r : Reading) (tables : Li
   pub views : AreMovedViews world.views location_views new_places.views.items
   pub written : AreTablesWritten world abbrevs tables
   pub count : length places ≡ length world.units
+  pub placed : (u : ℕ) → u < length world.units → IsPlacedBy world tables u (places_at places u)
   pub units : (units : List UnitRead) × AreUnitsWritten world r.links tables places new_places info abbrevs units
   pub tiled : SetsTile aranges (starts_of places) world.sets
   pub others : (k : ℕ) → IsOutside world.sets k → slice_index aranges k ≡ slice_index (debug_aranges file) k
   pub size : length aranges ≡ length (debug_aranges file)
 
-pub parts_of : {file : List ℕ} {world : World} {r : Reading} {tables : List NewTable} {places : List Places} {new_places : NewPlaces} {info abbrevs lines ranges locations aranges : List ℕ} {range_views location_views : List Moved} → Holds file world r → StandAnew (debug_line file) world.programs lines new_places.programs.items → AreListsWritten r places Ranges ranges new_places.ranges.parts.items new_places.ranges.lists.items range_views → AreListsWritten r places Locations locations new_places.locations.parts.items new_places.locations.lists.items location_views → AreMovedViews world.views location_views new_places.views.items → AreTablesWritten world abbrevs tables → length places ≡ length world.units → ((units : List UnitRead) × AreUnitsWritten world r.links tables places new_places info abbrevs units) → SetsTile aranges (starts_of places) world.sets → ((k : ℕ) → IsOutside world.sets k → slice_index aranges k ≡ slice_index (debug_aranges file) k) → length aranges ≡ length (debug_aranges file) → AreParts file world r tables places new_places info abbrevs lines ranges locations aranges range_views location_views
-parts_of {file} {world} {r} {tables} {places} {new_places} {info} {abbrevs} {lines} {ranges} {locations} {aranges} {range_views} {location_views} holds stand of_ranges of_locations views written count units tiled others size = record { holds = holds; stand = stand; lists = both; views = views; written = written; count = count; units = units; tiled = tiled; others = others; size = size }
+pub parts_of : {file : List ℕ} {world : World} {r : Reading} {tables : List NewTable} {places : List Places} {new_places : NewPlaces} {info abbrevs lines ranges locations aranges : List ℕ} {range_views location_views : List Moved} → Holds file world r → StandAnew (debug_line file) world.programs lines new_places.programs.items → AreListsWritten r places Ranges ranges new_places.ranges.parts.items new_places.ranges.lists.items range_views → AreListsWritten r places Locations locations new_places.locations.parts.items new_places.locations.lists.items location_views → AreMovedViews world.views location_views new_places.views.items → AreTablesWritten world abbrevs tables → length places ≡ length world.units → ((u : ℕ) → u < length world.units → IsPlacedBy world tables u (places_at places u)) → ((units : List UnitRead) × AreUnitsWritten world r.links tables places new_places info abbrevs units) → SetsTile aranges (starts_of places) world.sets → ((k : ℕ) → IsOutside world.sets k → slice_index aranges k ≡ slice_index (debug_aranges file) k) → length aranges ≡ length (debug_aranges file) → AreParts file world r tables places new_places info abbrevs lines ranges locations aranges range_views location_views
+parts_of {file} {world} {r} {tables} {places} {new_places} {info} {abbrevs} {lines} {ranges} {locations} {aranges} {range_views} {location_views} holds stand of_ranges of_locations views written count placed units tiled others size = record { holds = holds; stand = stand; lists = both; views = views; written = written; count = count; placed = placed; units = units; tiled = tiled; others = others; size = size }
   where
     both : (kind : ListKind) → AreListsWritten r places kind (list_bytes ranges locations kind) (moved_lists new_places kind).parts.items (moved_lists new_places kind).lists.items (list_views range_views location_views kind)
     both Ranges = of_ranges
@@ -272,6 +272,7 @@ module _ {file : List ℕ} {world : World} {r : Reading} {tables : List NewTable
         addresses = refl;
         contexts = refl;
         units = subst (λ (z : List ℕ). AreUnitsWritten world r.links tables places new_places z new.abbrevs.items parts.units.0) (sym i) (subst (λ (z : List ℕ). AreUnitsWritten world r.links tables places new_places info z parts.units.0) (sym a) parts.units.1);
+        placed = parts.placed;
         sets = record {
           same = refl;
           tiled = subst (λ (z : List ℕ). SetsTile z (unit_starts parts.units.0) r.sets) (sym g) sets_tile;
@@ -339,8 +340,8 @@ module _ {file : List ℕ} {world : World} {r : Reading} {tables : List NewTable
 
 -- WHAT THE STEPS ASK FOR
 
-pub writable : NumbersHaveSizes → ExpressionsHaveSizes → ShortestHaveSizes → DeclarationsStand → (world : World) → IsWorldOf world.image Narrow world → (abbrevs : List ℕ) (tables : List NewTable) → AreTablesWritten world abbrevs tables → AreWritable world tables
-writable numbers expressions others stand world is abbrevs tables written = chosen_columns_are_writable numbers expressions others stand world.image world is.r abbrevs tables is.read is.valid is.holds written
+pub writable : NumbersHaveSizes → ExpressionsHaveSizes → ShortestHaveSizes → (world : World) → IsWorldOf world.image Narrow world → (abbrevs : List ℕ) (tables : List NewTable) → AreTablesWritten world abbrevs tables → AreWritable world tables
+writable numbers expressions others world is abbrevs tables written = chosen_columns_are_writable numbers expressions others world.image world is.r abbrevs tables is.read is.valid is.holds written
 
 pub lines_read : (world : World) → IsWorldOf world.image Narrow world → (section : List ℕ) (heads : List Head) → section ≡ debug_line world.image → heads ≡ world.programs → AreRead section heads
 lines_read world is section heads e f =

@@ -12,13 +12,13 @@ use Rattle.entry_arena.specs.Arena.{entry_at}
 use Rattle.entry_arena.specs.Trees.{listed_to}
 use Rattle.entry_arena.proofs.TreeLaws.{trees_are_walks}
 use Rattle.entry_read.specs.Units.{HeadAndForest, entries_at, declarations_of}
-use Rattle.unit_write.specs.NewExpressions.{lens_of}
+use Rattle.unit_write.specs.Lens.{AreLensFor}
 use Rattle.unit_write.specs.Moved.{IsWritable}
 use Rattle.value_links.specs.Reading.{Reading, no_unit, unit_at}
 use Rattle.value_links.specs.World.{World, head_and_forest, table_at, Holds, IsWorldOf}
 use Rattle.rewriter.specs.declared.tables.NewTable.{NewTable}
 use Rattle.rewriter.specs.inside.Tables.{TableAnew, table_anew, new_table_at}
-use Rattle.rewriter.specs.inside.Placed.{AreWritable, AreEndsIn, unit_in}
+use Rattle.rewriter.specs.inside.Placed.{AreWritable, unit_in}
 use Rattle.rewriter.specs.inside.Held.{HasTable}
 
 -- some entry stands first, where there is one
@@ -60,6 +60,6 @@ has_table world tables u (reach, is) new known =
     let count : length world.table_of ≡ length is.r.links.units = is.holds.tables.count in
     record { known = known; numbered = omega arith; old = is.holds.tables.inside u (omega arith); new = new }
 
-pub has_written : (world : World) (tables : List NewTable) (u : ℕ) (ends : List ℕ) → ((reach : Reach) × IsWorldOf world.image reach world) → AreWritable world tables → u < length world.units → AreEndsIn world u ends → HasTable world tables u
-has_written world tables u ends is writable known are =
-    has_table world tables u is (writable_new tables (slice_index world.table_of u) (unit_in world.units u) (table_at world.tables (slice_index world.table_of u)).table (lens_of ends) (writable u ends known are)) known
+pub has_written : (world : World) (tables : List NewTable) (u : ℕ) (lens : List ℕ) → ((reach : Reach) × IsWorldOf world.image reach world) → AreWritable world tables → u < length world.units → AreLensFor (unit_in world.units u).forest lens → HasTable world tables u
+has_written world tables u lens is writable known fit =
+    has_table world tables u is (writable_new tables (slice_index world.table_of u) (unit_in world.units u) (table_at world.tables (slice_index world.table_of u)).table lens (writable u lens known fit)) known

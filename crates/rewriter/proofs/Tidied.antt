@@ -8,10 +8,12 @@ use Rattle.leb_codec.specs.Numbering.{IsUsed}
 use Rattle.abbrev_tables.specs.declared.decl.Spec.{Spec}
 use Rattle.abbrev_tables.specs.Tables.{Declared}
 use Rattle.abbrev_tables.specs.Listings.{decl_at, declared_in}
+use Rattle.abbrev_tables.specs.Written.{numbered_as}
 use Rattle.entry_arena.specs.Trees.{declared_at}
 use Rattle.entry_read.specs.Units.{HeadAndForest, declarations_of}
 use Rattle.entry_read.proofs.Declarations.{declared_is}
 use Rattle.unit_write.specs.declared.places.Places.{Places}
+use Rattle.unit_write.specs.Placing.{columns_of}
 use Rattle.value_links.specs.declared.units.NamedTable.{NamedTable}
 use Rattle.value_links.specs.Reading.{Reading, no_unit}
 use Rattle.value_links.specs.World.{World, table_at}
@@ -23,7 +25,6 @@ use Rattle.rewriter.specs.declared.tables.NewTable.{NewTable}
 use Rattle.rewriter.specs.declared.new_places.NewPlaces.{NewPlaces}
 use Rattle.rewriter.specs.inside.Tables.{TableAnew, table_anew, anew_at, new_table_at, IsTableWritten, TablesStand}
 use Rattle.rewriter.specs.inside.Follows.{AreReadAnew}
-use Rattle.rewriter.proofs.BuiltTables.{source}
 use Rattle.rewriter.proofs.Codes.{codes_by}
 use Rattle.rewriter.proofs.ColumnLaws.{AreNamedAlike, columns_named}
 use Rattle.rewriter.proofs.WideExpressions.{expressions_are_tidy}
@@ -62,11 +63,27 @@ module _ (units : List HeadAndForest) (section : List ℕ) (old : NamedTable) (n
         },
       )
 
+  -- the declaration from which the one with a number comes
+  record IsFrom (k : ℕ) : Type 0 where
+    number : ℕ
+    same : declared_at (declarations_of written.listing) k ≡ numbered_as (k + 1) (decl_at old.table.decls number) (columns_of old.table new.columns number)
+
+  source : (k : ℕ) → k < length (declarations_of written.listing) → IsFrom k
+  source k below =
+      let (number, used, is) = (written.first (k + 1)).0 (omega arith, omega (arith, below, written.only)) in
+      let inside : number < length old.table.decls = omega (arith, used.inside, written.used.count) in
+      let moved = (written.renumbered.each number inside (let e : get_or new.numbers number 0 ≡ k + 1 = is in λ none. absurd (omega (arith, e, none)))).1 in
+      let place : k + 1 - 1 ≡ k = omega arith in
+      record {
+        number = number;
+        same = subst (λ (m : ℕ). declared_at (declarations_of written.listing) m ≡ numbered_as (k + 1) (decl_at old.table.decls number) (columns_of old.table new.columns number)) place (subst (λ (n : ℕ). declared_at (declarations_of written.listing) (n - 1) ≡ numbered_as n (decl_at old.table.decls number) (columns_of old.table new.columns number)) is moved);
+      }
+
   -- the declarations stand by rising code: the one at k has the code k + 1
   pub codes_rise : (k l : ℕ) → k < l → l < length (declarations_of written.listing) → (declared_at (declarations_of written.listing) k).code < (declared_at (declarations_of written.listing) l).code
   codes_rise k l below inside =
-      let first : (declared_at ds k).code ≡ k + 1 = ap (λ (d : Declared). d.code) (source units section old new written k (omega (arith, below, inside))).same in
-      let second : (declared_at ds l).code ≡ l + 1 = ap (λ (d : Declared). d.code) (source units section old new written l inside).same in
+      let first : (declared_at ds k).code ≡ k + 1 = ap (λ (d : Declared). d.code) (source k (omega (arith, below, inside))).same in
+      let second : (declared_at ds l).code ≡ l + 1 = ap (λ (d : Declared). d.code) (source l inside).same in
       omega (arith, first, second, below)
 
 -- ALL TABLES

@@ -4,7 +4,6 @@ use Rattle.std.specs.List.{sum_by}
 use Rattle.std.proofs.lemmas.List.Sums.{sum_by-cons}
 use Rattle.dw_base.specs.declared.fault.Reach.{Reach}
 use Rattle.dw_base.specs.declared.fault.Reach.TheVariants.{Narrow}
-use Rattle.fixed_width.specs.InitialLengths.{least_reserved}
 use Rattle.entry_read.specs.Heads.{Follow as UnitsFollow}
 use Rattle.unit_write.specs.Most.{most_bytes}
 use Rattle.value_links.specs.Sections.{debug_info, debug_abbrev, info_name}
@@ -42,8 +41,8 @@ most_follow section (u ∷ units) a e (first, head, rest) =
     let values : sum_by values_in (u ∷ units) ≡ length u.forest.values + sum_by values_in units = sum_by-cons values_in u units in
     omega (arith, more, bytes, entries, values)
 
--- so those of a file within the narrow limits end below the lengths that are reserved
-pub units_have_room : (world : World) → IsWorldOf world.image Narrow world → sum_by most_bytes world.units < least_reserved
+-- so those of a file within the narrow limits end below 2^31
+pub units_have_room : (world : World) → IsWorldOf world.image Narrow world → sum_by most_bytes world.units < 2 ^ 31
 units_have_room world is =
     let all : 3 * 0 + sum_by most_bytes (map head_and_forest is.r.links.units) ≡ 3 * length (debug_info world.image) + 4 * sum_by entries_in is.r.links.units + 10 * sum_by values_in is.r.links.units = most_follow (debug_info world.image) is.r.links.units 0 (length (debug_info world.image)) is.read.links.units.tiled in
     let same : sum_by most_bytes world.units ≡ sum_by most_bytes (map head_and_forest is.r.links.units) = ap (sum_by most_bytes) is.holds.units in

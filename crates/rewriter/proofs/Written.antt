@@ -9,8 +9,7 @@ use Rattle.entry_arena.proofs.WalkLaws.{whole_once}
 use Rattle.entry_read.specs.Units.{HeadAndForest, entries_at, declarations_of, IsTable}
 use Rattle.entry_read.proofs.Declarations.{have_codes}
 use Rattle.unit_write.specs.Placing.{EntrySize, ArePlaced, OnePlacing}
-use Rattle.unit_write.specs.NewExpressions.{lens_of}
-use Rattle.unit_write.specs.Moved.{IsPlacedAt}
+use Rattle.unit_write.specs.Moved.{IsPlacedAt, new_values, lens_anew}
 use Rattle.unit_write.specs.declared.places.Places.{Places}
 use Rattle.unit_write.proofs.Placed.{one_placing}
 use Rattle.unit_write.proofs.ValueLaws.{one_size}
@@ -20,10 +19,9 @@ use Rattle.value_links.specs.World.{World, IsWorldOf}
 use Rattle.rewriter.specs.declared.tables.NewTable.{NewTable}
 use Rattle.rewriter.specs.declared.new_places.NewPlaces.{NewPlaces}
 use Rattle.rewriter.specs.inside.Tables.{AreTablesWritten}
-use Rattle.rewriter.specs.inside.Placed.{places_at, unit_in, AreEndsIn, ArePlacesOf}
+use Rattle.rewriter.specs.inside.Placed.{places_at, unit_in}
 use Rattle.rewriter.specs.inside.Held.{table_for, IsUnitBehind}
 use Rattle.rewriter.proofs.Standing.{held_count}
-use Rattle.rewriter.proofs.Behind.{placed_with}
 use Rattle.rewriter.proofs.Final.{table_known, unit_reads}
 
 -- the law of unit_write, that the items of a walk have one place each
@@ -45,11 +43,10 @@ table_coded world reach u is known =
     have_codes (table_for world u) (subst IsTable (sym (table_known world.image world is.r u is.holds (omega arith))) (debug_abbrev world.image, (unit_at is.r.links u).head.table, read.table))
 
 -- a unit that stands behind others ends where its places do
-pub unit_to : (world : World) (reach : Reach) (tables : List NewTable) (places : List Places) (new_places : NewPlaces) (abbrevs section : List ℕ) (whole u : ℕ) → IsWorldOf world.image reach world → AreTablesWritten world abbrevs tables → ArePlacesOf world tables places whole → u < length world.units → IsUnitBehind world tables places new_places u section → length section ≡ (places_at places u).end
-unit_to world reach tables places new_places abbrevs section whole u is written are known behind =
+pub unit_to : (world : World) (reach : Reach) (tables : List NewTable) (places : List Places) (new_places : NewPlaces) (abbrevs section : List ℕ) (u : ℕ) → IsWorldOf world.image reach world → AreTablesWritten world abbrevs tables → u < length world.units → IsUnitBehind world tables places new_places u section → length section ≡ (places_at places u).end
+unit_to world reach tables places new_places abbrevs section u is written known behind =
     let size : length world.units ≡ length is.r.links.units = held_count world.image world is.r is.holds in
     let old : slice_index world.table_of u < length world.tables = is.holds.tables.inside u (omega arith) in
     let table = written.each (slice_index world.table_of u) old in
     let anew = behind.written (declarations_of table.listing) table.renumbered in
-    let ends : AreEndsIn world u behind.numbers.ends.items = (behind.numbered world.image is.r is.holds).ends_are in
-    (one_place (unit_in world.units u) (table_for world u) _ _ (lens_of behind.numbers.ends.items) (places_at places u).start _ _ _ _ (length section) (places_at places u).end (table_coded world reach u is known) anew.placed (placed_with world tables u (places_at places u) behind.numbers.ends.items (are.each u known) ends)).2
+    (one_place (unit_in world.units u) (table_for world u) _ _ (lens_anew (unit_in world.units u).forest (new_values behind.numbers)) (places_at places u).start _ _ _ _ (length section) (places_at places u).end (table_coded world reach u is known) anew.placed behind.placed).2

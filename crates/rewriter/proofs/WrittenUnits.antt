@@ -7,7 +7,6 @@ use Rattle.std.proofs.lemmas.List.Elements.{All-from_get_or, length_all_zip}
 use Rattle.std.proofs.lemmas.List.Sums.{sum_by-cons}
 use Rattle.dw_base.specs.declared.fault.Reach.{Reach}
 use Rattle.abbrev_tables.specs.Listings.{Listing, IsTableAt}
-use Rattle.abbrev_tables.proofs.ListingStands.{declarations_stand}
 use Rattle.entry_arena.specs.declared.entry.Entry.{Entry}
 use Rattle.entry_arena.specs.declared.entry.ChainEnd.{ChainEnd}
 use Rattle.entry_arena.specs.Arena.{entry_at}
@@ -19,10 +18,8 @@ use Rattle.entry_read.specs.Units.{HeadAndForest, end_of, declarations_of, IsUni
 use Rattle.unit_write.specs.declared.places.Places.{Places}
 use Rattle.unit_write.specs.Placing.{IsRenumbered}
 use Rattle.entry_read.specs.Short.{StandsShort, EndsShort}
-use Rattle.unit_write.specs.Moved.{IsMovedEntry, IsMovedEnd, AreMovedValues, IsWrittenAnew, new_values}
-use Rattle.unit_write.specs.NewExpressions.{lens_of}
-use Rattle.value_links.specs.Reading.{UnitRead, Reading, no_unit, unit_heads, unit_among, unit_at, counts_of, AreWithin, declarations, IsUnitRead, AreUnitsIn}
-use Rattle.value_links.specs.Laws.{IsBuilt}
+use Rattle.unit_write.specs.Moved.{IsMovedEntry, IsMovedEnd, AreMovedValues, IsWrittenAnew, new_values, lens_anew}
+use Rattle.value_links.specs.Reading.{UnitRead, Reading, no_unit, unit_heads, unit_among, unit_at, counts_of, AreWithin, IsUnitRead, AreUnitsIn}
 use Rattle.value_links.specs.World.{World, head_and_forest, table_at, Holds, IsWorldOf}
 use Rattle.rewriter.specs.declared.tables.NewTable.{NewTable}
 use Rattle.rewriter.specs.declared.new_places.NewPlaces.{NewPlaces}
@@ -35,9 +32,6 @@ use Rattle.rewriter.proofs.HeadsStay.{head_stays}
 use Rattle.rewriter.proofs.UnitsStay.{unit_stays, moved_stay, short_stays, ends_stay, written_fills, written_read}
 use Rattle.rewriter.proofs.Standing.{held_count, held_unit}
 use Rattle.rewriter.proofs.Final.{table_known, unit_once}
-use Rattle.rewriter.proofs.BuiltTables.{built_anew}
-use Rattle.rewriter.proofs.BuiltUnits.{unit_built}
-use Rattle.rewriter.proofs.Behind.{placed_with}
 use Rattle.rewriter.proofs.Written.{one_place, table_coded}
 
 -- LISTS OF UNITS
@@ -93,7 +87,6 @@ module _ (world : World) (reach : Reach) (tables : List NewTable) (places : List
   record IsUnitAnew (u : ℕ) (new : UnitRead) : Type 0 where
     pub read : IsUnitRead info abbrevs new
     pub head : IsHead info new.head
-    pub built : All IsBuilt (declarations new)
     pub moved : IsUnitMoved world r.links tables places new_places u new
 
   -- ONE UNIT
@@ -142,12 +135,6 @@ module _ (world : World) (reach : Reach) (tables : List NewTable) (places : List
         let below : (places_at places u).start ≤ length (take (places_at places u).end info) = omega arith in
         omega (arith, at, len, size, below)
 
-    built_there : All IsBuilt (declarations_of anew.listing)
-    built_there =
-        let old : All IsBuilt (declarations (unit_at is.r.links u)) = unit_built declarations_stand world.image reach is.r is.valid is.read u valid_known in
-        let same : table_for world u ≡ (unit_at is.r.links u).table = table_known world.image world is.r u is.holds valid_known in
-        built_anew world.units abbrevs (table_at world.tables (slice_index world.table_of u)) (new_table_at tables (slice_index world.table_of u)) anew (subst (λ (t : Listing). All IsBuilt (declarations_of t)) (sym same) old)
-
     values_there : AreMovedValues (unit_at r.links u).forest (new_values behind.numbers) info (listed_to (read_in info).forest 0)
     values_there =
         let stay : AreMovedValues (unit_in world.units u).forest (new_values behind.numbers) (take (places_at places u).end info ++ drop (places_at places u).end info) w.forest = moved_stay (take (places_at places u).end info) (drop (places_at places u).end info) w.head (declarations_of anew.listing) w.forest w.is_unit (unit_in world.units u).forest (new_values behind.numbers) w.values in
@@ -172,7 +159,7 @@ module _ (world : World) (reach : Reach) (tables : List NewTable) (places : List
         subst (λ (place : ℕ). IsUnit info w.head (declarations_of anew.listing) (listed_to (read_in info).forest place)) (sym fills) here
 
     placed_there : (map (λ (e : Entry). e.at) w.forest.entries ≡ (places_at places u).entries) × (map (λ (e : ChainEnd). e.at) w.forest.ends ≡ (places_at places u).ends) × (length (take (places_at places u).end info) ≡ (places_at places u).end)
-    placed_there = one_place (unit_in world.units u) (table_for world u) (new_table_at tables (slice_index world.table_of u)).columns (new_table_at tables (slice_index world.table_of u)).numbers (lens_of behind.numbers.ends.items) (places_at places u).start (map (λ (e : Entry). e.at) w.forest.entries) (places_at places u).entries (map (λ (e : ChainEnd). e.at) w.forest.ends) (places_at places u).ends (length (take (places_at places u).end info)) (places_at places u).end (table_coded world reach u is known) w.placed (placed_with world tables u (places_at places u) behind.numbers.ends.items (are.each u known) numbered.ends_are)
+    placed_there = one_place (unit_in world.units u) (table_for world u) (new_table_at tables (slice_index world.table_of u)).columns (new_table_at tables (slice_index world.table_of u)).numbers (lens_anew (unit_in world.units u).forest (new_values behind.numbers)) (places_at places u).start (map (λ (e : Entry). e.at) w.forest.entries) (places_at places u).entries (map (λ (e : ChainEnd). e.at) w.forest.ends) (places_at places u).ends (length (take (places_at places u).end info)) (places_at places u).end (table_coded world reach u is known) w.placed behind.placed
 
     moved_there : IsUnitMoved world r.links tables places new_places u (read_in info)
     moved_there = record {
@@ -196,7 +183,7 @@ module _ (world : World) (reach : Reach) (tables : List NewTable) (places : List
     }
 
     unit_anew : (new : UnitRead) × IsUnitAnew u new
-    unit_anew = (read_in info, record { read = unit_read; head = head_there; built = built_there; moved = moved_there })
+    unit_anew = (read_in info, record { read = unit_read; head = head_there; moved = moved_there })
 
   -- ALL UNITS
 
@@ -234,7 +221,6 @@ module _ (world : World) (reach : Reach) (tables : List NewTable) (places : List
         let size : length world.units ≡ length r.links.units = held_count file world r holds in
         record {
           read = units_read stand;
-          built = All-from_get_or (λ (x : UnitRead). All IsBuilt (declarations x)) g.units no_unit (λ u inside. (g.each u (subst (λ (n : ℕ). u < n) g.count inside)).built);
           count = g.count ∙ size;
           each = λ u inside. (g.each u (subst (λ (n : ℕ). u < n) (sym size) inside)).moved;
         }

@@ -8,6 +8,7 @@ ghost use Rattle.value_links.specs.Same.{Same};
 ghost use Rattle.value_links.specs.World.{IsWorldOf};
 ghost use Rattle.value_links.specs.Placed.{IsPlaced};
 ghost use Rattle.value_links.specs.Classes.{HaveLeastCodes, HaveOrderedCodes, HaveLeastColumns, HaveFirstColumns, HaveLeastLists};
+ghost use Rattle.value_links.specs.Layouts.{HaveLeastLayouts};
 ghost use Rattle.value_links.specs.Tidy.{IsTidy};
 ghost use Rattle.rewriter.specs.inside.Rewritten.{IsRewritten};
 
@@ -42,12 +43,13 @@ fn write_anew(alloc: Global, world: &World<'_>) -> Result<Vec<u8>, NoMemory>
 /// written once, without unused declarations, with the codes that take the fewest bytes (DWARF 5 section 7.5.3).
 ///
 /// A column is what one attribute of a declaration has in all entries of the declaration, over all units that name its table. Each
-/// column of references to entries keeps its form. Every other column of a used declaration has the form in which its values and,
+/// column of a used declaration has the form in which its values and,
 /// for DW_FORM_implicit_const, the constant take the fewest bytes (DWARF 5 sections 7.5.5 and 7.5.6); among equals its own, else
-/// the one with the lowest code. So an entry may grow where its column as a whole shrinks.
+/// the one with the lowest code. So an entry may grow where its column as a whole shrinks. References within a unit have
+/// DW_FORM_ref_udata, in the least sizes under which each holds the place of what it names: these depend on each other, and no others
+/// have a smaller sum.
 ///
-/// Each number of a table, each code and each value in its form has its fewest bytes, but a reference in DW_FORM_ref_udata, which
-/// has five. An expression of an entry or a list keeps its operations, each reference at the new place of what it named: that to a base type in five bytes,
+/// Each number of a table, each code and each value in its form has its fewest bytes. An expression of an entry or a list keeps its operations, each reference at the new place of what it named: that to a base type in five bytes,
 /// and a call as DW_OP_call4; all else in it has its fewest bytes (sections 2.5 and 7.7.1). Bytes after a unit's entries are dropped.
 pub fn rewrite(alloc: Global, file: &[u8]) -> Result<Vec<u8>, Refusal>
     ensures valid { IfOk result (λ _. IsValid file.now Narrow) }
@@ -60,6 +62,7 @@ pub fn rewrite(alloc: Global, file: &[u8]) -> Result<Vec<u8>, Refusal>
     ensures columns_order { IfOk result (λ written. HaveFirstColumns file.now written.items) }
     ensures codes { IfOk result (λ written. HaveLeastCodes file.now written.items) }
     ensures codes_order { IfOk result (λ written. HaveOrderedCodes file.now written.items) }
+    ensures layouts { IfOk result (λ written. HaveLeastLayouts file.now written.items) }
     ensures tidy { IfOk result (λ written. IsTidy file.now written.items) }
     ensures placed { IfOk result (λ written. IsPlaced file.now written.items) }
     ensures refused { IfErr result (λ refusal. NamesFault file.now Narrow refusal) }

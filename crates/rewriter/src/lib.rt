@@ -19,6 +19,7 @@ mod places;
 #[cfg(test)]
 mod section_tests;
 mod sections;
+mod spots;
 mod table_maps;
 mod tables;
 #[cfg(test)]

@@ -19,19 +19,19 @@ fn numbers_of(alloc: Global, unit: u32) -> Result<NewNumbers, NoMemory> {
     new_numbers(alloc, &world, &tables.tables, &places, &new_places, unit)
 }
 
-// Of the compilation unit: the root's program; the base type, which stands at 17 as before; and the code 0, from 31 to 30. Of the
-// type unit: the base type `c`, from 29 to 28 of its unit; and the variable of the other unit, from 26 to 25 of the section.
+// Of the compilation unit: the root's program; the base type, which stands at 17 as before; and the code 0, from 31 to 24. Of the
+// type unit: the base type `c`, from 29 to 28 of its unit; and the variable of the other unit, from 26 to 22 of the section.
 // Names hold no number.
 #[test]
 fn numbers_follow_what_they_name(rt: HostRuntime) -> Result<(), Fail> {
     let alloc = rt.alloc();
     let first = numbers_of(alloc, 0).ok().ok_or("no memory")?;
-    assert_eq!(rt; (first.end, first.table, first.type_offset), (31, 0, 0));
+    assert_eq!(rt; (first.end, first.table, first.type_offset), (25, 0, 0));
     assert_eq!(rt; first.held.len(), 4);
-    assert_eq!(rt; (first.held[0], first.held[2], first.held[3]), (43, 17, 30));
+    assert_eq!(rt; (first.held[0], first.held[2], first.held[3]), (43, 17, 24));
     let second = numbers_of(alloc, 1).ok().ok_or("no memory")?;
-    assert_eq!(rt; (second.end, second.table, second.type_offset), (68, 0, 28));
+    assert_eq!(rt; (second.end, second.table, second.type_offset), (62, 0, 28));
     assert_eq!(rt; second.held.len(), 3);
-    assert_eq!(rt; second.held[2], 25);
+    assert_eq!(rt; second.held[2], 22);
     Ok(())
 }

@@ -48,7 +48,7 @@ fn entry_number(entries: &[Entry], place: u64) -> usize
 }
 
 // The number of the code 0 that stands at a place.
-fn end_number(ends: &[ChainEnd], place: u64) -> usize
+pub(crate) fn end_number(ends: &[ChainEnd], place: u64) -> usize
     requires rising { (i j : ℕ) → i < j → j < length ends.now → (chain_end_at ends.now i).at < (chain_end_at ends.now j).at }
     requires stands { (id : ℕ) × HasChainEnd ends.now id place }
     ensures inside { result < length ends.now }
@@ -79,7 +79,7 @@ fn new_place(unit: &Unit<'_>, places: &Places, target: Target, old: u64) -> u64
 }
 
 // A place of a unit, which counts from the unit's first byte, counted from the section's.
-fn place_in(unit: &Unit<'_>, offset: u64) -> u64
+pub(crate) fn place_in(unit: &Unit<'_>, offset: u64) -> u64
     requires { (target : Target) × IsTargetAt unit.now.forest target (unit.now.head.at + offset) }
     ensures { result ≡ unit.now.head.at + offset }
 {
@@ -90,7 +90,7 @@ fn place_in(unit: &Unit<'_>, offset: u64) -> u64
 }
 
 // What a value that is no expression refers to, where it means something.
-fn link_of(world: &World<'_>, unit: u32, id: u32, name: u64, value: &Value) -> Link
+pub(crate) fn link_of(world: &World<'_>, unit: u32, id: u32, name: u64, value: &Value) -> Link
     requires unit { unit < length world.now.units }
     requires id { id < length (unit_in world.now.units unit).forest.entries }
     requires plain { IsNoExpr value.now }
@@ -247,7 +247,7 @@ fn new_number(
 }
 
 // The name of an attribute of an entry.
-fn name_of(world: &World<'_>, unit: u32, id: u32, column: u32) -> u64
+pub(crate) fn name_of(world: &World<'_>, unit: u32, id: u32, column: u32) -> u64
     requires entry { EntryMeans world.now unit id }
     requires column { column < (entry_in world.now unit id).count }
     ensures { result ≡ name_in world.now unit id column }
@@ -259,7 +259,7 @@ fn name_of(world: &World<'_>, unit: u32, id: u32, column: u32) -> u64
 }
 
 // Its value.
-fn value_of(world: &World<'_>, unit: u32, id: u32, column: u32) -> Value
+pub(crate) fn value_of(world: &World<'_>, unit: u32, id: u32, column: u32) -> Value
     requires entry { EntryMeans world.now unit id }
     requires column { column < (entry_in world.now unit id).count }
     ensures { result ≡ value_in world.now unit id column }

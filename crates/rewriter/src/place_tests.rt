@@ -13,19 +13,20 @@ fn places_of(alloc: Global) -> Result<Vec<Places>, NoMemory> {
     place_units(alloc, &world, &tables.tables)
 }
 
-// Codes of two bytes have one, and the padding is dropped: the base types have 3 bytes for 4.
+// Codes of two bytes have one, references within the unit have one byte for 4, and the padding is dropped: the base types have 3
+// bytes for 4, and the variables of the first unit 2 for 5.
 #[test]
 fn units_follow_one_another(rt: HostRuntime) -> Result<(), Fail> {
     let alloc = rt.alloc();
     let places = places_of(alloc).ok().ok_or("no memory")?;
     assert_eq!(rt; places.len(), 2);
     assert_eq!(rt; places[0].start, 0);
-    assert_eq!(rt; places[0].entries.as_slice(), &[12u32, 17, 20, 25][..]);
-    assert_eq!(rt; places[0].ends.as_slice(), &[30u32][..]);
-    assert_eq!(rt; places[0].end, 31);
-    assert_eq!(rt; places[1].start, 31);
-    assert_eq!(rt; places[1].entries.as_slice(), &[55u32, 56, 59, 62][..]);
-    assert_eq!(rt; places[1].ends.as_slice(), &[67u32][..]);
-    assert_eq!(rt; places[1].end, 68);
+    assert_eq!(rt; places[0].entries.as_slice(), &[12u32, 17, 20, 22][..]);
+    assert_eq!(rt; places[0].ends.as_slice(), &[24u32][..]);
+    assert_eq!(rt; places[0].end, 25);
+    assert_eq!(rt; places[1].start, 25);
+    assert_eq!(rt; places[1].entries.as_slice(), &[49u32, 50, 53, 56][..]);
+    assert_eq!(rt; places[1].ends.as_slice(), &[61u32][..]);
+    assert_eq!(rt; places[1].end, 62);
     Ok(())
 }

@@ -1,16 +1,16 @@
 // Where units stand in the new .debug_info.
-ghost use Rattle.std.specs.Prelude.{◌≤◌, ◌<◌, ◌+◌, ℕ, length, IfOk};
+ghost use Rattle.std.specs.Prelude.{◌≤◌, ◌<◌, ◌+◌, ◌^◌, ℕ, length, IfOk};
 ghost use Rattle.dw_base.specs.declared.fault.Reach.TheVariants.{Narrow};
-ghost use Rattle.fixed_width.specs.InitialLengths.{least_reserved};
 ghost use Rattle.unit_write.specs.Most.{most_bytes};
 ghost use Rattle.value_links.specs.World.{IsWorldOf};
 ghost use Rattle.rewriter.specs.inside.Placed.{unit_in, AreWritable, ArePlacesOf};
 ghost use Rattle.rewriter.specs.inside.Held.{IsPlacedFrom};
 
+use crate::spots::spots_of;
 use crate::tables::NewTable;
 use dw_base::NoMemory;
 use std::alloc::Global;
-use unit_write::{Places, expression_ends, place_unit};
+use unit_write::{Places, expression_ends, lay_out, place_unit};
 use value_links::World;
 
 // Where the unit with a number stands, from a place on, which leaves room for it.
@@ -24,29 +24,33 @@ fn place_numbered(
     requires world { IsWorldOf world.now.image Narrow world.now }
     requires known { number < length world.now.units }
     requires writable { AreWritable world.now tables.now.items }
-    requires room { start + most_bytes (unit_in world.now.units number) < least_reserved }
+    requires room { start + most_bytes (unit_in world.now.units number) < 2 ^ 31 }
     ensures placed { IfOk result (IsPlacedFrom world.now tables.now.items number start) }
     ensures most { IfOk result (λ places. places.end ≤ start + most_bytes (unit_in world.now.units number)) }
 {
     let unit = &world.units()[number];
     let operations = &world.operations()[number];
     let ends = expression_ends(alloc, unit, operations)?;
+    let spots = spots_of(alloc, world, number as u32)?;
     let table = world.table_numbers()[number] as usize;
     let old = &world.tables()[table];
     let new = &tables[table];
-    place_unit(
+    let decls = &old.table;
+    let lens = lay_out(
         alloc,
         unit,
-        &old.table,
+        decls,
         &new.columns,
         &new.numbers,
         &ends,
-        start,
-    )
+        &spots,
+    )?;
+    place_unit(alloc, unit, decls, &new.columns, &new.numbers, &lens, start)
 }
 
 /// Where the units of a file stand in the new .debug_info, with their entries and the codes 0 that end chains, by the new columns
-/// and codes of their tables. There is room for them: the file is within the narrow limits. The only error is want of memory.
+/// and codes of their tables, the references within each unit in their least sizes. There is room for them: the file is within the
+/// narrow limits. The only error is want of memory.
 pub fn place_units(
     alloc: Global,
     world: &World<'_>,

@@ -16,7 +16,6 @@ use crate::places::place_units;
 use crate::table_maps::TableMaps;
 use crate::tables::write_tables;
 use crate::units::write_units;
-use abbrev_tables::listings;
 use dw_base::NoMemory;
 use list_model::ListKind;
 use loc_lists::locations_written;
@@ -52,10 +51,8 @@ pub fn write_sections(alloc: Global, world: &World<'_>) -> Result<NewSections, N
     ensures least { IfOk result (λ new. LeastLines (debug_line world.now.image) new.lines.items) }
     ensures order { IfOk result (λ new. OrderedLines (debug_line world.now.image) new.lines.items) }
 {
-    // Laws, which cost nothing: what was read of a unit can be written, declarations stand where they are listed, and lists that are
-    // written are read.
+    // Laws, which cost nothing: what was read of a unit can be written, and lists that are written are read.
     values_have_sizes();
-    listings();
     ranges_written();
     locations_written();
     let lines = write_lines(alloc, world)?;

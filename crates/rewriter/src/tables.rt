@@ -122,8 +122,8 @@ fn write_all(
 
 /// Writes the abbreviation tables of a file anew (DWARF 5 section 7.5.3), each of those that units name once, in the order of
 /// their places. A table has its used declarations, with codes that take the fewest bytes in the table and in the entries of
-/// all units that name it, and each column in the form that takes the fewest bytes in the same entries and the declaration; a
-/// column of references keeps its form. The section has fewer than 2^32 - 1 bytes, so that 4 bytes hold each place in it (DWARF 5
+/// all units that name it, and each column in the form that takes the fewest bytes in the same entries and the declaration.
+/// The section has fewer than 2^32 - 1 bytes, so that 4 bytes hold each place in it (DWARF 5
 /// section 7.4). The only error is want of memory.
 pub fn write_tables(alloc: Global, world: &World<'_>) -> Result<Tables, NoMemory>
     requires world { (reach : Reach) × IsWorldOf world.now.image reach world.now }

@@ -8,7 +8,6 @@ ghost use Rattle.rewriter.specs.inside.Held.{AreListPlaces, AreNewPlaces};
 
 use crate::new_places::{ListPlaces, NewPlaces};
 use crate::tables::{Tables, write_tables};
-use abbrev_tables::listings;
 use dw_base::{NoMemory, Reach};
 use list_model::ListKind;
 use std::alloc::Global;
@@ -61,27 +60,27 @@ pub const FILE: [u8; 784] = [
     1, 0, 0, 0, 0, 0, 0, 0, 0, 0, 0, 0, 0, 0, 0, 0,
 ];
 
-/// Its .debug_info anew: codes of two bytes have one, so that each base type has 3 bytes in place of 4, and the padding is gone.
-/// The units stand at 0 and at 31, and name the table at 0.
-pub const NEW_INFO: [u8; 68] = [
-    0x1b, 0, 0, 0, 5, 0, 1, 8, 0, 0, 0, 0, // the header of the compilation unit
+/// Its .debug_info anew: codes of two bytes have one, so that each base type has 3 bytes in place of 4; a reference within its unit has
+/// one in place of 4, as its number is below 128; and the padding is gone. The units stand at 0 and at 25, and name the table at 0.
+pub const NEW_INFO: [u8; 62] = [
+    0x15, 0, 0, 0, 5, 0, 1, 8, 0, 0, 0, 0, // the header of the compilation unit
     3, 43, 0, 0, 0, // the root, with the program at 43
     1, 0x61, 0, // the base type `a` at 17
-    2, 17, 0, 0, 0, // a variable of this type
-    2, 30, 0, 0, 0, // the variable at 25, whose type is the code 0 at 30
+    2, 17, // a variable of this type
+    2, 24, // the variable at 22, whose type is the code 0 at 24
     0, 0x21, 0, 0, 0, 5, 0, 2, 8, 0, 0, 0, 0, 1, 2, 3, 4, 5, 6, 7, 8, 28, 0, 0, 0, // the header of the type unit, with its type_offset
     5, // the root at 24
     1, 0x62, 0, // the base type `b`
     1, 0x63, 0, // the base type `c` at 28
-    4, 25, 0, 0, 0, // a variable whose type is the variable at 25 of .debug_info
+    4, 22, 0, 0, 0, // a variable whose type is the variable at 22 of .debug_info, in the 4 bytes of ref_addr
     0,
 ];
 
-/// Its .debug_abbrev anew. Three entries are base types, two are variables with ref4, and one has each of the others but the
-/// subprogram, which isn't written.
+/// Its .debug_abbrev anew. Three entries are base types, two are variables whose ref4 is ref_udata, and one has each of the others but
+/// the subprogram, which isn't written.
 pub const NEW_ABBREVS: [u8; 34] = [
     1, 0x24, 0, 3, 8, 0, 0, // base types
-    2, 0x34, 0, 0x49, 0x13, 0, 0, // variables with ref4
+    2, 0x34, 0, 0x49, 0x15, 0, 0, // variables with ref_udata
     3, 0x11, 1, 0x10, 0x17, 0, 0, // the compilation unit
     4, 0x34, 0, 0x49, 0x10, 0, 0, // the variable with ref_addr
     5, 0x41, 1, 0, 0, // the type unit
@@ -95,10 +94,10 @@ pub const NEW_LINES: [u8; 77] = [
     0, 1, 1, 1, 0xfb, 0x0e, 0x0d, 0, 1, 1, 1, 1, 0, 0, 0, 1, 0, 0, 1, 0, 0, 0, 0,
 ];
 
-/// Its .debug_aranges anew: the second set names the unit at 31.
+/// Its .debug_aranges anew: the second set names the unit at 25.
 pub const NEW_SETS: [u8; 64] = [
     0x1c, 0, 0, 0, 2, 0, 0, 0, 0, 0, 8, 0, 0, 0, 0, 0, 0, 0, 0, 0, 0, 0, 0, 0, 0, 0, 0, 0, 0, 0, 0,
-    0, 0x1c, 0, 0, 0, 2, 0, 31, 0, 0, 0, 8, 0, 0, 0, 0, 0, 0, 0, 0, 0, 0, 0, 0, 0, 0, 0, 0, 0, 0,
+    0, 0x1c, 0, 0, 0, 2, 0, 25, 0, 0, 0, 8, 0, 0, 0, 0, 0, 0, 0, 0, 0, 0, 0, 0, 0, 0, 0, 0, 0, 0,
     0, 0, 0,
 ];
 
@@ -119,9 +118,8 @@ pub fn tables_of(alloc: Global, world: &World<'_>) -> Result<Tables, NoMemory>
     ensures narrow { IfOk result (λ tables. length tables.bytes.items < 2 ^ 32) }
     ensures writable { IfOk result (λ tables. AreWritable world.now tables.tables.items) }
 {
-    // Laws, which cost nothing: what was read of a unit can be written, and declarations stand where they are listed.
+    // A law, which costs nothing: what was read of a unit can be written.
     values_have_sizes();
-    listings();
     write_tables(alloc, world)
 }
 

@@ -15,7 +15,7 @@ use crate::numbers::new_numbers;
 use crate::tables::Tables;
 use dw_base::NoMemory;
 use std::alloc::Global;
-use unit_write::{Places, write_unit};
+use unit_write::{Places, layouts_hold, write_unit};
 use value_links::World;
 
 // Appends the unit with a number, at its new place.
@@ -39,6 +39,8 @@ fn write_numbered(
     ensures written { OnOk result (IsUnitBehind world.now tables.now.tables.items places.now.items new_places.now number info.new.items) }
     ensures behind { OnOk result (Extends info.old.items info.new.items) }
 {
+    // A law, which costs nothing: the references have the sizes by which the unit has its places.
+    layouts_hold();
     let new = new_numbers(alloc, world, &tables.tables, places, new_places, number)?;
     let table = world.table_numbers()[number as usize] as usize;
     let unit = &world.units()[number as usize];

@@ -6,6 +6,7 @@ ghost use Rattle.dw_base.specs.Host.{Rose, AddsPart};
 ghost use Rattle.value_links.specs.Same.{Same};
 ghost use Rattle.value_links.specs.Placed.{IsPlaced};
 ghost use Rattle.value_links.specs.Classes.{HaveLeastCodes, HaveOrderedCodes, HaveLeastColumns, HaveFirstColumns, HaveLeastLists};
+ghost use Rattle.value_links.specs.Layouts.{HaveLeastLayouts};
 ghost use Rattle.value_links.specs.Tidy.{IsTidy};
 ghost use Rattle.shrink_app.specs.File.{IsValid, StaysValid, HasLeastLines, HasOrderedLines};
 ghost use Rattle.shrink_app.specs.Words.{asked};
@@ -74,6 +75,7 @@ pub fn run<H: Host>(alloc: Global, words: &Vec<String>, host: &mut H) -> u8
     ensures columns_order { result ≡ 0 → IsSomeAnd (asked words.now.items) (λ n. Writes HaveFirstColumns (H.bytes host.old) (H.bytes host.new) n.0 n.1) }
     ensures codes { result ≡ 0 → IsSomeAnd (asked words.now.items) (λ n. Writes HaveLeastCodes (H.bytes host.old) (H.bytes host.new) n.0 n.1) }
     ensures codes_order { result ≡ 0 → IsSomeAnd (asked words.now.items) (λ n. Writes HaveOrderedCodes (H.bytes host.old) (H.bytes host.new) n.0 n.1) }
+    ensures layouts { result ≡ 0 → IsSomeAnd (asked words.now.items) (λ n. Writes HaveLeastLayouts (H.bytes host.old) (H.bytes host.new) n.0 n.1) }
     ensures tidy { result ≡ 0 → IsSomeAnd (asked words.now.items) (λ n. Writes IsTidy (H.bytes host.old) (H.bytes host.new) n.0 n.1) }
     ensures placed { result ≡ 0 → IsSomeAnd (asked words.now.items) (λ n. Writes IsPlaced (H.bytes host.old) (H.bytes host.new) n.0 n.1) }
 

@@ -1,4 +1,5 @@
-// Two compiled files, in the manner of gcc and of clang. What their sections become was worked out by hand, byte for byte.
+// Two compiled files, in the manner of gcc and of clang. What their sections become was worked out by hand, byte for byte. A reference
+// within a unit becomes DW_FORM_ref_udata (DWARF 5 section 7.5.5), with one byte where its number is below 128.
 use crate::line_tests::{LEAST_SAMPLE, NO_ROWS, SAMPLE};
 use crate::test_files::{Answer, is_unwritten, is_written, shrunk};
 use std::alloc::Global;
@@ -52,22 +53,23 @@ const CLANG_ADDRESSES: [u8; 24] = [
     0x14, 0, 0, 0, 5, 0, 8, 0, 0, 0x10, 0x40, 0, 0, 0, 0, 0, 0, 0x20, 0x40, 0, 0, 0, 0, 0,
 ];
 
-// The DW_AT_high_pc of the root and of the function, 16, has one byte in place of 8. So the unit is 14 bytes shorter (0x53 for 0x61),
-// and the base type stands at 0x4f, where DW_AT_type (twice) and DW_AT_sibling name it. The list stands at 16, and the view pairs, (0, 1)
-// and (1, 0), directly before it, at 12.
-const LEAST_GCC_INFO_WITH_LISTS: [u8; 87] = [
-    0x53, 0, 0, 0, 5, 0, 1, 8, 0, 0, 0, 0, // the header
+// The DW_AT_high_pc of the root and of the function, 16, has one byte in place of 8, and DW_AT_type (twice) and DW_AT_sibling have one in
+// place of 4. So the unit is 23 bytes shorter (0x4a for 0x61), and the base type stands at 0x46, where these three name it. The list
+// stands at 16, and the view pairs, (0, 1) and (1, 0), directly before it, at 12.
+const LEAST_GCC_INFO_WITH_LISTS: [u8; 78] = [
+    0x4a, 0, 0, 0, 5, 0, 1, 8, 0, 0, 0, 0, // the header
     1, 0, 0, 0, 0, 0x1d, 0, 0, 0, 0, 4, 0, 0, 0, 0, 0x10, 0x40, 0, 0, 0, 0, 0, 0x10, 0, 0, 0, 0, // the root at 0x0c
-    2, 0x66, 0, 1, 0x4f, 0, 0, 0, 0, 0x10, 0x40, 0, 0, 0, 0, 0, 0x10, 1, 0x9c, 0x4f, 0, 0, 0, // the function at 0x27
-    3, 0x78, 0, 1, 0x4f, 0, 0, 0, 0x10, 0, 0, 0, 0x0c, 0, 0, 0, 0, // the parameter at 0x3e
-    4, 4, 5, 0x69, 0x6e, 0x74, 0, 0, // the base type at 0x4f
+    2, 0x66, 0, 1, 0x46, 0, 0x10, 0x40, 0, 0, 0, 0, 0, 0x10, 1, 0x9c, 0x46, // the function at 0x27
+    3, 0x78, 0, 1, 0x46, 0x10, 0, 0, 0, 0x0c, 0, 0, 0, 0, // the parameter at 0x38
+    4, 4, 5, 0x69, 0x6e, 0x74, 0, 0, // the base type at 0x46
 ];
 
-// The two DW_AT_high_pc (0x12) are data1 (0x0b) in place of data8 (7).
+// The two DW_AT_high_pc (0x12) are data1 (0x0b) in place of data8 (7), and DW_AT_type (0x49) and DW_AT_sibling (1) are ref_udata (0x15) in
+// place of ref4 (0x13).
 const LEAST_GCC_ABBREVS_WITH_LISTS: [u8; 71] = [
     1, 0x11, 1, 0x25, 0x0e, 0x13, 0x0b, 3, 0x1f, 0x1b, 0x1f, 0x11, 1, 0x12, 0x0b, 0x10, 0x17, 0, 0,
-    2, 0x2e, 1, 0x3f, 0x19, 3, 8, 0x3a, 0x21, 1, 0x3b, 0x0b, 0x49, 0x13, 0x11, 1, 0x12, 0x0b, 0x40,
-    0x18, 1, 0x13, 0, 0, 3, 5, 0, 3, 8, 0x3b, 0x0b, 0x49, 0x13, 2, 0x17, 0xb7, 0x42, 0x17, 0, 0, 4,
+    2, 0x2e, 1, 0x3f, 0x19, 3, 8, 0x3a, 0x21, 1, 0x3b, 0x0b, 0x49, 0x15, 0x11, 1, 0x12, 0x0b, 0x40,
+    0x18, 1, 0x15, 0, 0, 3, 5, 0, 3, 8, 0x3b, 0x0b, 0x49, 0x15, 2, 0x17, 0xb7, 0x42, 0x17, 0, 0, 4,
     0x24, 0, 0x0b, 0x0b, 0x3e, 0x0b, 3, 8, 0, 0, 0,
 ];
 
@@ -124,24 +126,25 @@ fn view_pairs_that_are_refused(rt: HostRuntime) -> Result<(), Fail> {
     Ok(())
 }
 
-// The DW_AT_language of the root, 29, has one byte in place of 2, and the DW_AT_high_pc of the function, 16, one in place of 4.
-// So the unit is 4 bytes shorter (0x45 for 0x49), and the base type stands at 0x44, where DW_AT_type (twice) names it. All else
+// The DW_AT_language of the root, 29, has one byte in place of 2, and the DW_AT_high_pc of the function, 16, and DW_AT_type (twice) have one
+// in place of 4. So the unit is 10 bytes shorter (0x3f for 0x49), and the base type stands at 0x3e, where DW_AT_type names it. All else
 // is as before: the one contribution of each kind of lists begins where it did.
-const LEAST_CLANG_INFO_WITH_LISTS: [u8; 73] = [
-    0x45, 0, 0, 0, 5, 0, 1, 8, 0, 0, 0, 0, // the header
+const LEAST_CLANG_INFO_WITH_LISTS: [u8; 67] = [
+    0x3f, 0, 0, 0, 5, 0, 1, 8, 0, 0, 0, 0, // the header
     1, 0, 0x1d, 1, 8, 0, 0, 0, 0, 0, 0, 0, 2, 0, 0, 0, 0, 0, 0, 0, 0, 0, // the root at 0x0c, up to DW_AT_ranges
     8, 0, 0, 0, 0x0c, 0, 0, 0, 0x0c, 0, 0, 0, // its bases
-    2, 0, 0x10, 1, 0x57, 3, 0, 1, 0x44, 0, 0, 0, // the function at 0x2e
-    3, 0, 4, 0, 1, 0x44, 0, 0, 0, 0, // the parameter at 0x3a
-    4, 5, 5, 4, 0, // the base type at 0x44
+    2, 0, 0x10, 1, 0x57, 3, 0, 1, 0x3e, // the function at 0x2e
+    3, 0, 4, 0, 1, 0x3e, 0, // the parameter at 0x37
+    4, 5, 5, 4, 0, // the base type at 0x3e
 ];
 
-// DW_AT_language (0x13) is data1 (0x0b) in place of data2 (5), and DW_AT_high_pc (0x12) in place of data4 (6).
+// DW_AT_language (0x13) is data1 (0x0b) in place of data2 (5), DW_AT_high_pc (0x12) in place of data4 (6), and the two DW_AT_type (0x49) are
+// ref_udata (0x15) in place of ref4 (0x13).
 const LEAST_CLANG_ABBREVS_WITH_LISTS: [u8; 76] = [
     1, 0x11, 1, 0x25, 0x25, 0x13, 0x0b, 3, 0x25, 0x72, 0x17, 0x10, 0x17, 0x1b, 0x25, 0x11, 1, 0x55,
     0x23, 0x73, 0x17, 0x74, 0x17, 0x8c, 1, 0x17, 0, 0, 2, 0x2e, 1, 0x11, 0x1b, 0x12, 0x0b, 0x40,
-    0x18, 3, 0x25, 0x3a, 0x0b, 0x3b, 0x0b, 0x49, 0x13, 0x3f, 0x19, 0, 0, 3, 5, 0, 2, 0x22, 3, 0x25,
-    0x3a, 0x0b, 0x3b, 0x0b, 0x49, 0x13, 0, 0, 4, 0x24, 0, 3, 0x25, 0x3e, 0x0b, 0x0b, 0x0b, 0, 0, 0,
+    0x18, 3, 0x25, 0x3a, 0x0b, 0x3b, 0x0b, 0x49, 0x15, 0x3f, 0x19, 0, 0, 3, 5, 0, 2, 0x22, 3, 0x25,
+    0x3a, 0x0b, 0x3b, 0x0b, 0x49, 0x15, 0, 0, 4, 0x24, 0, 3, 0x25, 0x3e, 0x0b, 0x0b, 0x0b, 0, 0, 0,
 ];
 
 // A list with as many bytes: of the entries of 3 bytes for the first location, up to 4 from the base, DW_LLE_startx_length has the
@@ -179,9 +182,9 @@ const CONVERTED_LOCATIONS: [u8; 34] = [
     0x10, 4, 0xa3, 1, 0x55, 0x9f, 0,
 ];
 
-// The base type stands at 0x44 now, and a reference to it has five bytes.
+// The base type stands at 0x3e now, and the reference of an expression to it has five bytes.
 const LEAST_CONVERTED_LOCATIONS: [u8; 38] = [
-    0x22, 0, 0, 0, 5, 0, 8, 0, 1, 0, 0, 0, 4, 0, 0, 0, 1, 0, 3, 0, 4, 7, 0x30, 0xa8, 0xc4, 0x80,
+    0x22, 0, 0, 0, 5, 0, 8, 0, 1, 0, 0, 0, 4, 0, 0, 0, 1, 0, 3, 0, 4, 7, 0x30, 0xa8, 0xbe, 0x80,
     0x80, 0x80, 0, 4, 4, 0x10, 4, 0xa3, 1, 0x55, 0x9f, 0,
 ];
 
@@ -311,24 +314,24 @@ const GCC_ABBREVS_WITHOUT_LISTS: [u8; 66] = [
     3, 8, 0, 0, 0,
 ];
 
-// The DW_AT_high_pc of the root and of the function, 16, has one byte in place of 8. So the unit is 14 bytes shorter (0x4b for
-// 0x59), and the base type stands at 0x47, where DW_AT_type (twice) and DW_AT_sibling name it. All else is as before: the codes,
-// since each declaration has one entry; the other numbers, which take one byte in any form, so that theirs stays; and
-// DW_AT_stmt_list, since the one program stands at 0.
-const LEAST_GCC_INFO: [u8; 79] = [
-    0x4b, 0, 0, 0, 5, 0, 1, 8, 0, 0, 0, 0, // the header
+// The DW_AT_high_pc of the root and of the function, 16, has one byte in place of 8, and DW_AT_type (twice) and DW_AT_sibling have one in
+// place of 4. So the unit is 23 bytes shorter (0x42 for 0x59), and the base type stands at 0x3e, where these three name it. All else is as
+// before: the codes, since each declaration has one entry; the other numbers, which take one byte in any form, so that theirs stays;
+// and DW_AT_stmt_list, since the one program stands at 0.
+const LEAST_GCC_INFO: [u8; 70] = [
+    0x42, 0, 0, 0, 5, 0, 1, 8, 0, 0, 0, 0, // the header
     1, 0, 0, 0, 0, 0x1d, 0, 0, 0, 0, 4, 0, 0, 0, 0, 0x10, 0x40, 0, 0, 0, 0, 0, 0x10, 0, 0, 0, 0, // the root at 0x0c
-    2, 0x66, 0, 1, 0x47, 0, 0, 0, 0, 0x10, 0x40, 0, 0, 0, 0, 0, 0x10, 1, 0x9c, 0x47, 0, 0, 0, // the function at 0x27
-    3, 0x78, 0, 1, 0x47, 0, 0, 0, 0, // the parameter at 0x3e
-    4, 4, 5, 0x69, 0x6e, 0x74, 0, 0, // the base type at 0x47
+    2, 0x66, 0, 1, 0x3e, 0, 0x10, 0x40, 0, 0, 0, 0, 0, 0x10, 1, 0x9c, 0x3e, // the function at 0x27
+    3, 0x78, 0, 1, 0x3e, 0, // the parameter at 0x38
+    4, 4, 5, 0x69, 0x6e, 0x74, 0, 0, // the base type at 0x3e
 ];
 
 // The two DW_AT_high_pc (0x12) are data1 (0x0b) in place of data8 (7): of data1, sdata, udata and implicit_const, with one byte
-// each, it has the lowest code.
+// each, it has the lowest code. DW_AT_type (0x49) and DW_AT_sibling (1) are ref_udata (0x15) in place of ref4 (0x13).
 const LEAST_GCC_ABBREVS: [u8; 66] = [
     1, 0x11, 1, 0x25, 0x0e, 0x13, 0x0b, 3, 0x1f, 0x1b, 0x1f, 0x11, 1, 0x12, 0x0b, 0x10, 0x17, 0, 0,
-    2, 0x2e, 1, 0x3f, 0x19, 3, 8, 0x3a, 0x21, 1, 0x3b, 0x0b, 0x49, 0x13, 0x11, 1, 0x12, 0x0b, 0x40,
-    0x18, 1, 0x13, 0, 0, 3, 5, 0, 3, 8, 0x3b, 0x0b, 0x49, 0x13, 0, 0, 4, 0x24, 0, 0x0b, 0x0b, 0x3e,
+    2, 0x2e, 1, 0x3f, 0x19, 3, 8, 0x3a, 0x21, 1, 0x3b, 0x0b, 0x49, 0x15, 0x11, 1, 0x12, 0x0b, 0x40,
+    0x18, 1, 0x15, 0, 0, 3, 5, 0, 3, 8, 0x3b, 0x0b, 0x49, 0x15, 0, 0, 4, 0x24, 0, 0x0b, 0x0b, 0x3e,
     0x0b, 3, 8, 0, 0, 0,
 ];
 
@@ -367,22 +370,23 @@ const CLANG_ABBREVS_WITHOUT_LISTS: [u8; 67] = [
     3, 0x25, 0x3e, 0x0b, 0x0b, 0x0b, 0, 0, 0,
 ];
 
-// The DW_AT_language of the root, 29, has one byte in place of 2, and the DW_AT_high_pc of the function, 16, one in place of 4.
-// So the unit is 4 bytes shorter (0x3b for 0x3f), and the base type stands at 0x3a, where DW_AT_type (twice) names it. All else
+// The DW_AT_language of the root, 29, has one byte in place of 2, and the DW_AT_high_pc of the function, 16, and DW_AT_type (twice) have one
+// in place of 4. So the unit is 10 bytes shorter (0x35 for 0x3f), and the base type stands at 0x34, where DW_AT_type names it. All else
 // is as before: indexes take one byte also in the other forms, so that theirs stays.
-const LEAST_CLANG_INFO: [u8; 63] = [
-    0x3b, 0, 0, 0, 5, 0, 1, 8, 0, 0, 0, 0, // the header
+const LEAST_CLANG_INFO: [u8; 57] = [
+    0x35, 0, 0, 0, 5, 0, 1, 8, 0, 0, 0, 0, // the header
     1, 0, 0x1d, 1, 8, 0, 0, 0, 0, 0, 0, 0, 2, 0, 0, 0, 0, 0, 0, 0, 0, 8, 0, 0, 0, // the root at 0x0c
-    2, 0, 0x10, 1, 0x57, 3, 0, 1, 0x3a, 0, 0, 0, // the function at 0x25
-    3, 4, 0, 1, 0x3a, 0, 0, 0, 0, // the parameter at 0x31
-    4, 5, 5, 4, 0, // the base type at 0x3a
+    2, 0, 0x10, 1, 0x57, 3, 0, 1, 0x34, // the function at 0x25
+    3, 4, 0, 1, 0x34, 0, // the parameter at 0x2e
+    4, 5, 5, 4, 0, // the base type at 0x34
 ];
 
-// DW_AT_language (0x13) is data1 (0x0b) in place of data2 (5), and DW_AT_high_pc (0x12) in place of data4 (6).
+// DW_AT_language (0x13) is data1 (0x0b) in place of data2 (5), DW_AT_high_pc (0x12) in place of data4 (6), and the two DW_AT_type (0x49) are
+// ref_udata (0x15) in place of ref4 (0x13).
 const LEAST_CLANG_ABBREVS: [u8; 67] = [
     1, 0x11, 1, 0x25, 0x25, 0x13, 0x0b, 3, 0x25, 0x72, 0x17, 0x10, 0x17, 0x1b, 0x25, 0x11, 1, 0x73,
     0x17, 0, 0, 2, 0x2e, 1, 0x11, 0x1b, 0x12, 0x0b, 0x40, 0x18, 3, 0x25, 0x3a, 0x0b, 0x3b, 0x0b,
-    0x49, 0x13, 0x3f, 0x19, 0, 0, 3, 5, 0, 3, 0x25, 0x3a, 0x0b, 0x3b, 0x0b, 0x49, 0x13, 0, 0, 4,
+    0x49, 0x15, 0x3f, 0x19, 0, 0, 3, 5, 0, 3, 0x25, 0x3a, 0x0b, 0x3b, 0x0b, 0x49, 0x15, 0, 0, 4,
     0x24, 0, 3, 0x25, 0x3e, 0x0b, 0x0b, 0x0b, 0, 0, 0,
 ];
 

@@ -5,6 +5,7 @@ ghost use Rattle.dw_base.specs.Host.{Rose};
 ghost use Rattle.value_links.specs.Same.{Same};
 ghost use Rattle.value_links.specs.Placed.{IsPlaced};
 ghost use Rattle.value_links.specs.Classes.{HaveLeastCodes, HaveOrderedCodes, HaveLeastColumns, HaveFirstColumns, HaveLeastLists};
+ghost use Rattle.value_links.specs.Layouts.{HaveLeastLayouts};
 ghost use Rattle.value_links.specs.Tidy.{IsTidy};
 ghost use Rattle.shrink_app.specs.File.{IsValid, StaysValid, HasLeastLines, HasOrderedLines};
 ghost use Rattle.shrink_app.specs.Run.{Writes};
@@ -29,6 +30,7 @@ pub fn shrink<H: Host>(alloc: Global, input: &str, output: &str, host: &mut H) -
     ensures columns_order { OnOk result (Writes HaveFirstColumns (H.bytes host.old) (H.bytes host.new) input.now output.now) }
     ensures codes { OnOk result (Writes HaveLeastCodes (H.bytes host.old) (H.bytes host.new) input.now output.now) }
     ensures codes_order { OnOk result (Writes HaveOrderedCodes (H.bytes host.old) (H.bytes host.new) input.now output.now) }
+    ensures layouts { OnOk result (Writes HaveLeastLayouts (H.bytes host.old) (H.bytes host.new) input.now output.now) }
     ensures tidy { OnOk result (Writes IsTidy (H.bytes host.old) (H.bytes host.new) input.now output.now) }
     ensures placed { OnOk result (Writes IsPlaced (H.bytes host.old) (H.bytes host.new) input.now output.now) }
     ensures refused { EndsByFault (H.bytes host.old input.now) result }

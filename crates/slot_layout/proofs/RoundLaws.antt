@@ -1,12 +1,13 @@
 -- The sizes after each round.
-use Rattle.std.proofs.Common.{◌≡◌, ◌≤◌, ◌<◌, ◌^◌, inl, inr, ℕ, zero, suc, max, List, [], ◌∷◌, length, get_or, sym, ap, ◌∙◌, refl, arith}
+use Rattle.std.proofs.Common.{◌≡◌, ◌≤◌, ◌<◌, ◌^◌, inl, inr, ℕ, zero, suc, max, map, List, [], ◌∷◌, length, get_or, sym, ap, ◌∙◌, refl, arith}
 use Rattle.std.proofs.lemmas.Bool.{cases_lt}
 use Rattle.std.proofs.lemmas.List.{ext_get_or, length-map, get_or-map}
 use Rattle.leb_codec.specs.LebLaws.{UnsignedLens}
 use Rattle.leb_codec.specs.Layout.{SlotForm, SlotRow, row_at, slot_number, need, IsSlotSize, IsSlotNumber, IsLayout, IsLeastLayout, size_after, uleb, call}
+use Rattle.slot_layout.specs.Rows.{IsTight}
 use Rattle.slot_layout.specs.inside.Rounds.{AreSlots, AreSmall, AreRaised, raised_size, smallest_of}
 use Rattle.slot_layout.proofs.SumLaws.{sum_rises}
-use Rattle.slot_layout.proofs.SizeLaws.{smallest_sized, smallest_least, smallest_few, need_rises, need_few, grown_sized, number_small, number_rises}
+use Rattle.slot_layout.proofs.SizeLaws.{smallest_sized, smallest_least, smallest_few, need_rises, need_few, grown_sized, need_sized, number_small, number_rises}
 
 -- a round, over sizes that stand for the rows' numbers
 abbrev pub raised_from : List ℕ → List SlotRow → List ℕ → List ℕ
@@ -105,22 +106,56 @@ module _ (laws : UnsignedLens) (rows : List SlotRow) (are : AreSlots rows) where
 
   -- where a round changes nothing
   module _ (t : ℕ) (still : rounds rows (suc t) ≡ rounds rows t) where
+    -- each number is below 2^32, and so one that its slot can hold
+    below : (i : ℕ) → i < length rows → slot_number (rounds rows t) (row_at rows i) < 2 ^ 32
+    below = number_below (rounds rows t) (rounds_small t) (rounds_length rows t)
+
+    narrow_form : (form : SlotForm) (v : ℕ) → v < 2 ^ 32 → IsSlotNumber form v
+    narrow_form uleb v small = tt
+    narrow_form call v small = small
+
     pub still_member : IsLayout rows (rounds rows t)
     still_member = record {
       same_length = rounds_length rows t;
       sized = rounds_sized t;
       holds = λ i inside. record {
         enough = omega (arith, rounds_next rows t i inside, ap (λ sizes. get_or sizes i 0) still);
-        narrow = narrow_form (row_at rows i).form (slot_number (rounds rows t) (row_at rows i)) (number_below (rounds rows t) (rounds_small t) (rounds_length rows t) i inside);
+        narrow = narrow_form (row_at rows i).form (slot_number (rounds rows t) (row_at rows i)) (below i inside);
       };
     }
-      where
-        narrow_form : (form : SlotForm) (v : ℕ) → v < 2 ^ 32 → IsSlotNumber form v
-        narrow_form uleb v small = tt
-        narrow_form call v small = small
 
     pub still_least : IsLeastLayout rows (rounds rows t)
     still_least = record {
       member = still_member;
       least = λ other member. sum_rises (rounds rows t) other (rounds_length rows t ∙ sym member.same_length) (λ i l. rounds_lowest t other member i (omega (arith, rounds_length rows t)));
     }
+
+    -- what the numbers need under the sizes
+    abbrev needs : List ℕ
+    needs = map (λ row. need row.form (slot_number (rounds rows t) row)) rows
+
+    need_at : (i : ℕ) → i < length rows → get_or needs i 0 ≡ need (row_at rows i).form (slot_number (rounds rows t) (row_at rows i))
+    need_at i inside = get_or-map (λ row. need row.form (slot_number (rounds rows t) row)) rows i (row_at [] 0) 0 inside
+
+    count_needs : length needs ≡ length rows
+    count_needs = length-map rows (λ row. need row.form (slot_number (rounds rows t) row))
+
+    number_falls : (i : ℕ) → slot_number needs (row_at rows i) ≤ slot_number (rounds rows t) (row_at rows i)
+    number_falls i =
+        number_rises needs (rounds rows t) (row_at rows i) (count_needs ∙ sym (rounds_length rows t))
+        (λ j l. let inside : j < length rows = omega (arith, count_needs) in omega (arith, need_at j inside, (still_member.holds j inside).enough))
+
+    -- it is a layout too, since it is slot by slot at most the sizes
+    needs_member : IsLayout rows needs
+    needs_member = record {
+      same_length = count_needs;
+      sized = λ i inside. rw (need_at i inside) (need_sized laws (row_at rows i).form (slot_number (rounds rows t) (row_at rows i)) (below i inside));
+      holds = λ i inside. record {
+        enough = omega (arith, need_at i inside, need_rises laws (row_at rows i).form (slot_number needs (row_at rows i)) (slot_number (rounds rows t) (row_at rows i)) (number_falls i));
+        narrow = narrow_form (row_at rows i).form (slot_number needs (row_at rows i)) (omega (arith, number_falls i, below i inside));
+      };
+    }
+
+    -- so no size is more than what the slot's number needs
+    pub still_tight : IsTight rows (rounds rows t)
+    still_tight i inside = omega (arith, rounds_lowest t needs needs_member i inside, need_at i inside, (still_member.holds i inside).enough)

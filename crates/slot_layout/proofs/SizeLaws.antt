@@ -63,6 +63,15 @@ module _ (laws : UnsignedLens) where
   need_some uleb v = (laws.is_least v).enough.some
   need_some call v = grind (arith, nat_tests)
 
+  -- what a number needs is a size
+  pub need_sized : (form : SlotForm) (v : ℕ) → v < 2 ^ 32 → IsSlotSize form (need form v)
+  need_sized uleb v small = (need_some uleb v, omega (arith, need_few uleb v small))
+  need_sized call v small =
+      elim (cases_lt v 65536) [
+        | inl narrow ↦ inl (cond-true {A = ℕ} (ltb v 65536) 2 4 (lt-ltb v 65536 narrow))
+        | inr wide ↦ inr (cond-false {A = ℕ} (ltb v 65536) 2 4 (le-ltb v 65536 wide))
+      ]
+
   -- the greater of a size and a need is a size
   pub grown_sized : (form : SlotForm) (s v : ℕ) → IsSlotSize form s → v < 2 ^ 32 → IsSlotSize form (max s (need form v))
   grown_sized uleb s v sized small =

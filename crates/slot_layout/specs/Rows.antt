@@ -1,9 +1,9 @@
 -- Slots as the rows of the layout's definition.
-use Rattle.std.specs.Prelude.{◌≤◌, ◌<◌, ◌^◌, ℕ, List, length, map}
+use Rattle.std.specs.Prelude.{◌≡◌, ◌≤◌, ◌<◌, ◌^◌, ℕ, List, length, map, slice_index}
 use Rattle.slot_layout.specs.declared.slots.SlotKind.{SlotKind}
 use Rattle.slot_layout.specs.declared.slots.SlotKind.TheVariants.{Uleb, Call}
 use Rattle.slot_layout.specs.declared.slots.Slot.{Slot}
-use Rattle.leb_codec.specs.Layout.{SlotForm, uleb, call, SlotRow, row_at}
+use Rattle.leb_codec.specs.Layout.{SlotForm, uleb, call, SlotRow, row_at, slot_number, need}
 
 abbrev pub form_of : SlotKind → SlotForm
 form_of Uleb = uleb
@@ -23,3 +23,7 @@ HasRangesInside rows =
 -- each fixed part is below 2^31
 abbrev pub HasSmallFixed : List SlotRow → Type 0
 HasSmallFixed rows = (i : ℕ) → i < length rows → (row_at rows i).fixed < 2 ^ 31
+
+-- each slot has just the bytes that its number needs under these sizes
+abbrev pub IsTight : List SlotRow → List ℕ → Type 0
+IsTight rows sizes = (i : ℕ) → i < length rows → slice_index sizes i ≡ need (row_at rows i).form (slot_number sizes (row_at rows i))

@@ -4,7 +4,7 @@
 
 ghost use Rattle.std.specs.Prelude.{◌≡◌, ◌<◌, ◌≤◌, ◌^◌, length, IfOk};
 ghost use Rattle.leb_codec.specs.Layout.{IsLayout, IsLowestLayout, IsLeastLayout, HasNarrowNumbers, AcceptsLayout, HasFirstRanks};
-ghost use Rattle.slot_layout.specs.Rows.{rows_of, HasRangesInside, HasSmallFixed};
+ghost use Rattle.slot_layout.specs.Rows.{rows_of, HasRangesInside, HasSmallFixed, IsTight};
 
 mod ranking;
 mod rounds;
@@ -33,6 +33,8 @@ pub struct Layout {
 /// Each slot starts at its smallest size. In round t, which counts from 0, every slot whose number under the sizes at
 /// the round's start needs more is raised to that need; these steps have rank t.
 ///
+/// So each slot has just the bytes that its number needs, and no LEB128 number in the layout is padded.
+///
 /// There are at most 2^28 slots, each range of slots lies in the list, and each fixed part is below 2^31. Then every
 /// number in the answered layout is below 2^32. The only error is want of memory.
 pub fn solve(alloc: Global, slots: &Vec<Slot>) -> Result<Layout, NoMemory>
@@ -42,6 +44,7 @@ pub fn solve(alloc: Global, slots: &Vec<Slot>) -> Result<Layout, NoMemory>
     ensures member { IfOk result (λ layout. IsLayout (rows_of slots.now.items) layout.sizes.items) }
     ensures lowest { IfOk result (λ layout. IsLowestLayout (rows_of slots.now.items) layout.sizes.items) }
     ensures least { IfOk result (λ layout. IsLeastLayout (rows_of slots.now.items) layout.sizes.items) }
+    ensures tight { IfOk result (λ layout. IsTight (rows_of slots.now.items) layout.sizes.items) }
     ensures narrow { IfOk result (λ layout. HasNarrowNumbers (rows_of slots.now.items) layout.sizes.items) }
     ensures accepted { IfOk result (λ layout. AcceptsLayout (rows_of slots.now.items) layout.sizes.items layout.ranks.items) }
     ensures first_ranks { IfOk result (λ layout. HasFirstRanks (rows_of slots.now.items) layout.sizes.items layout.ranks.items) }

@@ -1,7 +1,7 @@
 // The rounds in which slots grow.
 ghost use Rattle.std.specs.Prelude.{◌≡◌, ◌<◌, ◌≤◌, ◌+◌, ◌-◌, ◌^◌, ℕ, length, sum, slice_index, slice_index_or, [], IfOk, true, false};
 ghost use Rattle.leb_codec.specs.Layout.{IsLayout, IsLowestLayout, IsLeastLayout, HasNarrowNumbers, AcceptsLayout, HasFirstRanks};
-ghost use Rattle.slot_layout.specs.Rows.{rows_of};
+ghost use Rattle.slot_layout.specs.Rows.{rows_of, IsTight};
 ghost use Rattle.slot_layout.specs.inside.Rounds.{AreSlots, AreStarts, AreSmall, AreRaised, NotesSlot, joined, smallest_of};
 
 use crate::ranking::{StepRanks, note};
@@ -99,6 +99,7 @@ pub(crate) fn grow_fully(
     ensures member { IsLayout (rows_of slots.now) sizes.new }
     ensures lowest { IsLowestLayout (rows_of slots.now) sizes.new }
     ensures least { IsLeastLayout (rows_of slots.now) sizes.new }
+    ensures tight { IsTight (rows_of slots.now) sizes.new }
     ensures narrow { HasNarrowNumbers (rows_of slots.now) sizes.new }
     ensures accepted { AcceptsLayout (rows_of slots.now) sizes.new (joined (rows_of slots.now) sizes.new ranks.new) }
     ensures first_ranks { HasFirstRanks (rows_of slots.now) sizes.new (joined (rows_of slots.now) sizes.new ranks.new) }

@@ -1,11 +1,11 @@
 -- The items of a unit that are written anew: they are walked in the new section, and each is the old one with new numbers.
-use Rattle.std.proofs.Common.{◌≡◌, ◌≢◌, ◌≤◌, ◌<◌, ◌+◌, ◌-◌, ℕ, zero, suc, List, [], ◌∷◌, ◌++◌, length, take, drop, get_or, ◌∙◌, sym, ap, refl, subst, arith, inl, inr}
+use Rattle.std.proofs.Common.{◌≡◌, ◌≢◌, ◌≤◌, ◌<◌, ◌+◌, ◌-◌, ℕ, zero, suc, List, [], ◌∷◌, ◌++◌, length, drop, get_or, ◌∙◌, sym, ap, refl, subst, arith, inl, inr}
 use Rattle.std.specs.Prelude.{map, if◌then◌else◌, Bool}
 use Rattle.std.specs.List.{All, AllZip}
-use Rattle.std.proofs.lemmas.List.{append-nil, append_assoc, length-append, length-map, length-drop, length-take-le, get_or_append_left, get_or-append-add, get_or-map}
+use Rattle.std.proofs.lemmas.List.{append-nil, append_assoc, length-append, length-map, length-drop, length-take-le, get_or_append_left, get_or-append-add, get_or-map, get_or-take, get_or-drop}
 use Rattle.std.proofs.lemmas.List.Elements.{All-nil, All-cons}
 use Rattle.std.proofs.lemmas.Bool.{cases_lt}
-use Rattle.std.proofs.Common.{add-one, add-zero, drop-cons}
+use Rattle.std.proofs.Common.{add-one, add-zero}
 use Rattle.leb_codec.specs.Leb.{Uleb, ShortestUnsigned, least_unsigned_len}
 use Rattle.leb_codec.proofs.SpellingLaws.{leb_one}
 use Rattle.form_codec.specs.declared.value.Value.{Value}
@@ -25,13 +25,15 @@ use Rattle.entry_arena.proofs.SpellingLaws.{cut, values_found}
 use Rattle.entry_read.specs.Units.{declarations_of}
 use Rattle.unit_write.specs.Values.{HasSize, HaveSize}
 use Rattle.unit_write.specs.NewExpressions.{lens_of, made_of}
-use Rattle.unit_write.specs.Placing.{columns_of, values_in, EntrySize, ArePlaced, IsRenumbered}
+use Rattle.unit_write.specs.Placing.{columns_of, values_in, among_values, EntrySize, ArePlaced, IsRenumbered}
 use Rattle.entry_read.specs.Short.{WrittenBetween, StandsShort, EndsShort}
-use Rattle.unit_write.specs.Moved.{NewValues, IsMovedEntry, IsMovedEnd}
+use Rattle.unit_write.specs.Moved.{NewValues, IsMovedEntry, IsMovedEnd, lens_anew}
 use Rattle.unit_write.specs.inside.Puts.{AreNew, renewed_at, PutsValues, PutsEntry, PutsItems}
 use Rattle.entry_arena.proofs.Between.{length_between}
 use Rattle.entry_arena.proofs.OnwardLaws.{walks_go_on}
-use Rattle.unit_write.proofs.EndLaws.{lens_len, made_len}
+use Rattle.unit_write.proofs.EndLaws.{made_len}
+use Rattle.unit_write.proofs.LensLaws.{anew_at}
+use Rattle.unit_write.proofs.ValueLaws.{len_anew, size_written}
 use Rattle.unit_write.proofs.PutLaws.{values_as}
 use Rattle.unit_write.proofs.ShortLaws.{renamed, values_short, entry_short, first_short, end_short}
 
@@ -41,27 +43,29 @@ values_spelled section anew i [] (v ∷ vs) bytes p = absurd p
 values_spelled section anew i (c ∷ cs) [] bytes p = absurd p
 values_spelled section anew i (c ∷ cs) (v ∷ vs) bytes (first, rest, w, p, e) = (first, rest, w.0, values_spelled section anew (suc i) cs vs rest p, e)
 
-one_more : (lens : List ℕ) (i count : ℕ) → i < length lens → take (suc count) (drop i lens) ≡ get_or lens i 0 ∷ take count (drop (suc i) lens)
-one_more lens i count lt = rw (drop-cons lens i 0 lt) refl
+-- the lengths of values, of which the first has a number, are those of what is written
+abbrev AreLensOf : List ℕ → NewValues → ℕ → List Value → List ℕ → Type 0
+AreLensOf section anew i vs lens = (k : ℕ) → k < length vs → get_or lens k 0 ≡ len_anew (meant_in section (value_at vs k)) (get_or anew.held (i + k) 0) (get_or (lens_of anew.ends) (i + k) 0)
 
-values_sized : (section : List ℕ) (anew : NewValues) (count i : ℕ) (cs : List Spec) (vs : List Value) (bytes : List ℕ) → AreNew anew count → i + length vs ≤ count → PutsValues section anew i cs vs bytes → HaveSize section cs vs (take (length vs) (drop i (lens_of anew.ends))) (length bytes)
-values_sized section anew count i [] [] bytes new inside p = ap length p
-values_sized section anew count i [] (v ∷ vs) bytes new inside p = absurd p
-values_sized section anew count i (c ∷ cs) [] bytes new inside p = absurd p
-values_sized section anew count i (c ∷ cs) (v ∷ vs) bytes new inside (first, rest, w, p, e) =
-    let own : HasSize c (meant_in section v) (get_or (lens_of anew.ends) i 0) (length first) = record {
-      number = get_or anew.held i 0;
-      made = made_of anew.ends anew.expressions i;
-      long = made_len anew count i new (omega arith);
-      bytes = first;
-      written = w;
-      is = refl;
-    } in
-    let more = values_sized section anew count (suc i) cs vs rest new (omega arith) p in
-    let whole : HaveSize section (c ∷ cs) (v ∷ vs) (get_or (lens_of anew.ends) i 0 ∷ take (length vs) (drop (suc i) (lens_of anew.ends))) (length bytes) = (length first, length rest, own, more, ap length e ∙ length-append first rest) in
-    let size : length (lens_of anew.ends) ≡ length anew.ends = lens_len 0 anew.ends in
-    let each : length anew.ends ≡ count = new.each in
-    subst (λ (z : List ℕ). HaveSize section (c ∷ cs) (v ∷ vs) z (length bytes)) (sym (one_more (lens_of anew.ends) i (length vs) (omega arith))) whole
+later_lens : (section : List ℕ) (anew : NewValues) (i : ℕ) (v : Value) (vs : List Value) (len : ℕ) (lens : List ℕ) → AreLensOf section anew i (v ∷ vs) (len ∷ lens) → AreLensOf section anew (suc i) vs lens
+later_lens section anew i v vs len lens each k lt =
+    let same : i + suc k ≡ suc i + k = omega arith in
+    each (suc k) (omega arith) ∙ ap (λ (n : ℕ). len_anew (meant_in section (value_at vs k)) (get_or anew.held n 0) (get_or (lens_of anew.ends) n 0)) same
+
+values_sized : (section : List ℕ) (anew : NewValues) (count i : ℕ) (cs : List Spec) (vs : List Value) (lens bytes : List ℕ) (size : ℕ) → AreNew anew count → i + length vs ≤ count → AreLensOf section anew i vs lens → HaveSize section cs vs lens size → PutsValues section anew i cs vs bytes → HaveSize section cs vs lens (length bytes)
+values_sized section anew count i [] [] [] bytes size new inside each has p = ap length p
+values_sized section anew count i [] [] (n ∷ lens) bytes size new inside each has p = absurd has
+values_sized section anew count i [] (v ∷ vs) lens bytes size new inside each has p = absurd has
+values_sized section anew count i (c ∷ cs) [] lens bytes size new inside each has p = absurd has
+values_sized section anew count i (c ∷ cs) (v ∷ vs) [] bytes size new inside each has p = absurd has
+values_sized section anew count i (c ∷ cs) (v ∷ vs) (n ∷ lens) bytes size new inside each has (first, rest, w, p, e) =
+    let m = meant_in section v in
+    let len : n ≡ len_anew m (get_or anew.held i 0) (get_or (lens_of anew.ends) i 0) = each 0 (omega arith) ∙ ap (λ (j : ℕ). len_anew m (get_or anew.held j 0) (get_or (lens_of anew.ends) j 0)) (add-zero i) in
+    let old = subst (λ (z : ℕ). HasSize c m z has.0) len has.2 in
+    let written = size_written c m (get_or anew.held i 0) (get_or (lens_of anew.ends) i 0) has.0 (made_of anew.ends anew.expressions i) first old (made_len anew count i new (omega arith)) w in
+    let own : HasSize c m n (length first) = subst (λ (z : ℕ). HasSize c m z (length first)) (sym len) written in
+    let more = values_sized section anew count (suc i) cs vs lens rest has.1 new (omega arith) (later_lens section anew i v vs n lens each) has.3 p in
+    (length first, length rest, own, more, ap length e ∙ length-append first rest)
 
 -- values in a section that mean anew what others mean in theirs, of which the first has a number
 record AreRenamed (old new : List ℕ) (anew : NewValues) (i : ℕ) (vs ws : List Value) : Type 0 where
@@ -130,17 +134,29 @@ count_in f id inside =
     let rest : length (drop (entry_at f.entries id).first f.values) ≡ length f.values - (entry_at f.entries id).first = length-drop (entry_at f.entries id).first f.values in
     length-take-le (entry_at f.entries id).count (drop (entry_at f.entries id).first f.values) (omega arith)
 
-entry_sized : (table : Listing) (columns : List Spec) (numbers : List ℕ) (anew : NewValues) (f : Arena) (id : ℕ) (bytes : List ℕ) → AreNew anew (length f.values) → (entry_at f.entries id).first + (entry_at f.entries id).count ≤ length f.values → PutsEntry table columns numbers anew f id bytes → EntrySize table columns numbers f (lens_of anew.ends) id (length bytes)
-entry_sized table columns numbers anew f id bytes new inside p =
+-- the lengths of the values of an entry
+entry_lens : (f : Arena) (anew : NewValues) (id : ℕ) → AreNew anew (length f.values) → (entry_at f.entries id).first + (entry_at f.entries id).count ≤ length f.values → AreLensOf f.section anew (entry_at f.entries id).first (values_in f id) (among_values f (lens_anew f anew) id)
+entry_lens f anew id new inside k lt =
+    let first : ℕ = (entry_at f.entries id).first in
+    let count : ℕ = (entry_at f.entries id).count in
+    let own : length (values_in f id) ≡ count = count_in f id inside in
+    let below : k < count = omega arith in
+    let there : value_at f.values (first + k) ≡ value_at (values_in f id) k = sym (get_or-take count (drop first f.values) k _ below ∙ get_or-drop first f.values k _) in
+    get_or-take count (drop first (lens_anew f anew)) k 0 below ∙ get_or-drop first (lens_anew f anew) k 0 ∙ anew_at f anew new.numbers new.each (first + k) (omega arith) ∙ ap (λ (v : Value). len_anew (meant_in f.section v) (get_or anew.held (first + k) 0) (get_or (lens_of anew.ends) (first + k) 0)) there
+
+entry_sized : (table : Listing) (columns : List Spec) (numbers : List ℕ) (anew : NewValues) (f : Arena) (id size : ℕ) (bytes : List ℕ) → AreNew anew (length f.values) → (entry_at f.entries id).first + (entry_at f.entries id).count ≤ length f.values → EntrySize table columns numbers f (lens_anew f anew) id size → PutsEntry table columns numbers anew f id bytes → EntrySize table columns numbers f (lens_anew f anew) id (length bytes)
+entry_sized table columns numbers anew f id size bytes new inside has p =
     let cs : List Spec = columns_of table columns (entry_at f.entries id).decl in
     let first : ℕ = (entry_at f.entries id).first in
     let count : length (values_in f id) ≡ (entry_at f.entries id).count = count_in f id inside in
-    let sized = values_sized f.section anew (length f.values) first cs (values_in f id) p.rest new (omega arith) p.valued in
-    let own = subst (λ (n : ℕ). HaveSize f.section cs (values_in f id) (take n (drop first (lens_of anew.ends))) (length p.rest)) count sized in
+    let own = values_sized f.section anew (length f.values) first cs (values_in f id) (among_values f (lens_anew f anew) id) p.rest has.0 new (omega arith) (entry_lens f anew id new inside) has.1 p.valued in
     (length p.rest, own, ap length p.whole ∙ length-append p.code p.rest ∙ ap (λ n. n + length p.rest) p.shortest)
 
 zero_byte : Uleb 0 (0 ∷ [])
 zero_byte = ((leb_one 0 (omega arith), refl), omega arith)
+
+one_joined : (before : List ChainEnd) (end : ChainEnd) (more all : List ChainEnd) → all ≡ (before ++ end ∷ []) ++ more → all ≡ before ++ (end ∷ more)
+one_joined before end more all e = e ∙ append_assoc before (end ∷ []) more
 
 no_entries : (entries : List Entry) → length entries ≡ 0 → entries ≡ []
 no_entries [] e = refl
@@ -231,7 +247,7 @@ module _ (table : Listing) (columns : List Spec) (numbers : List ℕ) (anew : Ne
     pub entries_are : last.entries ≡ new.entries ++ entries
     pub values_are : last.values ≡ new.values ++ values
     pub ends_are : last.ends ≡ new.ends ++ ends
-    pub placed : ArePlaced (EntrySize table columns numbers f (lens_of anew.ends)) id items new.place (map (λ (e : Entry). e.at) entries) (map (λ (e : ChainEnd). e.at) ends) to
+    pub placed : ArePlaced (EntrySize table columns numbers f (lens_anew f anew)) id items new.place (map (λ (e : Entry). e.at) entries) (map (λ (e : ChainEnd). e.at) ends) to
     pub short : (k : ℕ) → k < length entries → StandsShort section ds last.values (entry_at entries k)
     pub ends_short : All (EndsShort section) ends
 
@@ -247,7 +263,7 @@ module _ (table : Listing) (columns : List Spec) (numbers : List ℕ) (anew : Ne
   opened_same number id new_id chains known used same =
       ap (λ (b : Bool). if b then id ∷ chains else chains) (children_same number known used) ∙ ap (λ (n : ℕ). if (declared_at ds (number_of number)).children then n ∷ chains else chains) same
 
-  module _ (start place : ℕ) (used : (id : ℕ) → id < length f.entries → get_or numbers (entry_at f.entries id).decl 0 ≢ 0) where
+  module _ (start place : ℕ) (used : (id : ℕ) → id < length f.entries → get_or numbers (entry_at f.entries id).decl 0 ≢ 0) (sized : (id : ℕ) → id < length f.entries → (size : ℕ) × EntrySize table columns numbers f (lens_anew f anew) id size) where
     abbrev HasCome : ℕ → ℕ → List Item → Listed → List ℕ → List Item → Type 0
     HasCome entries ends done now chains rest = HasWalked f.section (declarations_of table) start (listed_to f place) entries ends done now chains rest
 
@@ -290,7 +306,7 @@ module _ (table : Listing) (columns : List Spec) (numbers : List ℕ) (anew : Ne
           ends_are = r.ends_are ∙ ap (λ (z : List ChainEnd). z ++ r.ends) s.ended;
           short = first_short section ds r.last.values s.entry r.entries (subst (λ (z : List Value). StandsShort section ds z s.entry) (sym r.values_are) (s.short r.values)) r.short;
           ends_short = r.ends_short;
-          placed = (s.at, (length first, entry_sized table columns numbers anew f entries first new_ones (valued entries e.inside) p, subst (λ (z : ℕ). ArePlaced (EntrySize table columns numbers f (lens_of anew.ends)) (suc entries) rest z (map (λ (e : Entry). e.at) r.entries) (map (λ (e : ChainEnd). e.at) r.ends) to) there r.placed));
+          placed = (s.at, (length first, entry_sized table columns numbers anew f entries (sized entries e.inside).0 first new_ones (valued entries e.inside) (sized entries e.inside).1 p, subst (λ (z : ℕ). ArePlaced (EntrySize table columns numbers f (lens_anew f anew)) (suc entries) rest z (map (λ (e : Entry). e.at) r.entries) (map (λ (e : ChainEnd). e.at) r.ends) to) there r.placed));
         }
 
     -- the items of the rest of a walk
@@ -352,7 +368,6 @@ module _ (table : Listing) (columns : List Spec) (numbers : List ℕ) (anew : Ne
         } in
         let come = subst (λ (z : List Item). HasCome entries (ends + 1) (done ++ AnEnd ∷ []) e.mid e.outer z) same e.next in
         let r = stand_anew rest (done ++ AnEnd ∷ []) e.mid next e.outer entries (ends + 1) to more come onward q c.before inside c.second in
-        let joined : (new.ends ++ end ∷ []) ++ r.ends ≡ new.ends ++ (end ∷ r.ends) = append_assoc new.ends (end ∷ []) r.ends in
         record {
           items_anew = AnEnd ∷ r.items_anew;
           last = r.last;
@@ -364,8 +379,8 @@ module _ (table : Listing) (columns : List Spec) (numbers : List ℕ) (anew : Ne
           moved = r.moved;
           entries_are = r.entries_are;
           values_are = r.values_are;
-          ends_are = r.ends_are ∙ joined;
+          ends_are = one_joined new.ends end r.ends r.last.ends r.ends_are;
           short = r.short;
           ends_short = All-cons (EndsShort section) end r.ends (end_short section e.parent new.place c.mid one adds.coded) r.ends_short;
-          placed = (refl, subst (λ (z : ℕ). ArePlaced (EntrySize table columns numbers f (lens_of anew.ends)) entries rest z (map (λ (e : Entry). e.at) r.entries) (map (λ (e : ChainEnd). e.at) r.ends) to) one r.placed);
+          placed = (refl, subst (λ (z : ℕ). ArePlaced (EntrySize table columns numbers f (lens_anew f anew)) entries rest z (map (λ (e : Entry). e.at) r.entries) (map (λ (e : ChainEnd). e.at) r.ends) to) one r.placed);
         }

@@ -14,7 +14,7 @@ use Rattle.entry_read.specs.Heads.{IsHead}
 use Rattle.entry_read.specs.Units.{HeadAndForest, declarations_of, IsUnitHeld}
 use Rattle.entry_read.proofs.Declarations.{declared_is}
 use Rattle.entry_read.proofs.PlaceLaws.{entry_stands}
-use Rattle.unit_write.specs.NewExpressions.{AreEndsFor}
+use Rattle.unit_write.specs.Lens.{AreLensFor}
 use Rattle.unit_write.specs.Values.{HaveSize}
 use Rattle.unit_write.specs.Placing.{columns_of, values_in, EntrySize}
 use Rattle.unit_write.specs.Moved.{IsWritable}
@@ -53,17 +53,16 @@ module _ (unit : HeadAndForest) (table : Listing) (columns : List Spec) (numbers
     held = held;
     numbered = numbered;
     renewed = renewed;
-    roomy = λ k d lt. absurd (let size : length columns ≡ 0 = ap length none in omega arith);
     used = λ id inside. used (entry_at unit.forest.entries id).decl 0 (let known : (entry_at unit.forest.entries id).decl < length table.decls = entry_declared unit table held id inside in omega arith);
     sized = sized;
   }
 
--- where no value is held no expression is
-pub no_ends : (f : Arena) (ends : List ℕ) → ends ≡ [] → length f.values ≡ 0 → AreEndsFor f ends
-no_ends f ends is none =
-    let empty : length ends ≡ 0 = ap length is in
+-- where no value is held none takes any
+pub no_lens_fit : (f : Arena) (lens : List ℕ) → lens ≡ [] → length f.values ≡ 0 → AreLensFor f lens
+no_lens_fit f lens is none =
+    let empty : length lens ≡ 0 = ap length is in
     record {
-      rise = record { each = empty ∙ sym none; rising = λ k lt. absurd (omega arith); inside = λ k lt. absurd (omega arith) };
+      each = empty ∙ sym none;
       few = λ k span at. absurd (let lt : k < length f.values = at.inside in omega arith);
-      none = λ k lt other. absurd (omega arith);
+      narrow = λ k lt local. absurd (omega arith);
     }

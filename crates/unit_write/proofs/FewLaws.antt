@@ -1,5 +1,5 @@
--- Where the bytes of expressions end: there is one such list, and it gives no expression more than three times its bytes.
-use Rattle.std.proofs.Common.{◌≡◌, ◌≤◌, ◌<◌, ◌+◌, ◌-◌, ◌*◌, ◌⊎◌, ℕ, zero, suc, List, length, get_or, ◌∙◌, sym, refl, arith, inl, inr}
+-- Where the bytes of expressions end: there is one such list.
+use Rattle.std.proofs.Common.{◌≡◌, ◌≤◌, ◌<◌, ◌+◌, ◌⊎◌, ℕ, zero, suc, List, length, get_or, ◌∙◌, sym, refl, arith, inl, inr}
 use Rattle.std.proofs.lemmas.List.{ext_get_or}
 use Rattle.dw_base.specs.declared.fault.Span.{Span}
 use Rattle.expr_ops.specs.Ops.{all_meant}
@@ -10,15 +10,7 @@ use Rattle.form_codec.specs.Values.{bytes_in}
 use Rattle.entry_arena.specs.Arena.{Arena, value_at}
 use Rattle.entry_arena.specs.Operations.{HeldOps, ops_of}
 use Rattle.entry_read.specs.Expressions.{IsExprAt}
-use Rattle.unit_write.specs.NewExpressions.{begin_of, lens_of, AreEndsFor, ArePlainEnds, OnePlainEnds}
-use Rattle.unit_write.proofs.EndLaws.{len_at}
-use Rattle.unit_write.proofs.MostLaws.{AreFew}
-
-pub few_lens : (f : Arena) (ends : List ℕ) → AreEndsFor f ends → AreFew f (lens_of ends)
-few_lens f ends h k span is =
-    let len : get_or (lens_of ends) k 0 ≡ get_or ends k 0 - begin_of ends k = len_at ends k in
-    let few : get_or ends k 0 ≤ begin_of ends k + 3 * span.len = h.few k span is in
-    omega arith
+use Rattle.unit_write.specs.NewExpressions.{begin_of, ArePlainEnds, OnePlainEnds}
 
 expr_or_none : (v : Value) → ((span : Span) × (v ≡ value.Expr span)) ⊎ ((span : Span) → v ≡ value.Expr span → ⊥)
 expr_or_none (value.Expr span) = inl (span, refl)

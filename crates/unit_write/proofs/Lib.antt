@@ -1,6 +1,7 @@
 pub mod Bare
 pub mod ValueLaws
 pub mod EndLaws
+pub mod LensLaws
 pub mod Placed
 pub mod PlacingUnit
 pub mod MostLaws
@@ -16,3 +17,11 @@ pub mod Anew
 pub mod HeadLaws
 pub mod UnitLaws
 pub mod TestUnits
+pub mod SlotLists
+pub mod SlotSizes
+pub mod SlotLens
+pub mod SlotPlaces
+pub mod SlotWalks
+pub mod SlotCounts
+pub mod SlotRows
+pub mod SlotLayouts

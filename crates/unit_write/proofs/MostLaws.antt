@@ -1,5 +1,5 @@
 -- What is written of a value, and of an entry, has few bytes more than what was read of it.
-use Rattle.std.proofs.Common.{◌≡◌, ◌≤◌, ◌<◌, ◌+◌, ◌-◌, ◌*◌, ◌^◌, ℕ, List, [], ◌∷◌, ◌++◌, length, Bool, true, false, suc, take, drop, get_or, ◌∙◌, sym, ap, refl, subst, arith, inl, inr}
+use Rattle.std.proofs.Common.{◌≡◌, ◌≤◌, ◌<◌, ◌+◌, ◌-◌, ◌*◌, ◌^◌, ℕ, List, [], ◌∷◌, ◌++◌, length, Bool, true, false, suc, take, drop, get_or, ◌∙◌, sym, ap, refl, subst, arith}
 use Rattle.std.specs.Prelude.{ℤ, pos, negsuc, nat_le, if◌then◌else◌, slice_index, FitsSigned}
 use Rattle.std.specs.Int.{w64}
 use Prim.Native.Nat.{min}
@@ -33,8 +33,9 @@ use Rattle.entry_arena.specs.Trees.{Listed, AddsEntry, SpellsBetween, ValuesBetw
 use Rattle.entry_arena.proofs.Between.{length_between}
 use Rattle.entry_arena.proofs.StepLaws.{code_rises}
 use Rattle.entry_read.specs.Short.{IsWritten}
-use Rattle.entry_read.specs.Expressions.{IsExprAt}
-use Rattle.unit_write.specs.Values.{renewed, HasSize, HaveSize}
+use Rattle.entry_read.specs.Locals.{is_local}
+use Rattle.unit_write.specs.Lens.{AreLensFor}
+use Rattle.unit_write.specs.Values.{renewed, HasOwnSize, HasSize, HaveSize}
 use Rattle.unit_write.specs.Placing.{columns_of, values_in, among_values, EntrySize}
 use Rattle.unit_write.specs.inside.Puts.{is_expr}
 use Rattle.unit_write.proofs.ValueLaws.{is_made}
@@ -154,40 +155,44 @@ shortest_len ZeroEnded m bytes small p least =
 
 -- so have the bytes that are written for a value
 written_len : (column : Spec) (m : Meaning) (bytes : List ℕ) → IsWritten column m bytes → length bytes ≤ own_len m + 10
-written_len column m bytes (s, inl (leb, five)) = omega (arith, five)
-written_len column m bytes (s, inr (other, shortest)) =
+written_len column m bytes (s, shortest) =
     let t = shortest.spelled in
     shortest_len (shape_of t.form shortest.constant) m bytes t.small t.spelled (λ others small p. shortest.shortest shortest.constant others (record { form = t.form; known = t.known; small = small; spelled = p }))
 
 -- an expression
-expr_most : (column : Spec) (meaning : Meaning) (len size : ℕ) → is_expr meaning ≡ true → HasSize column meaning len size → size ≤ len + 10
+expr_most : (column : Spec) (meaning : Meaning) (len size : ℕ) → is_expr meaning ≡ true → HasOwnSize column meaning len size → size ≤ len + 10
 expr_most column meaning len size expr h =
     let same : renewed h.number h.made meaning ≡ Expression h.made = is_made h.number h.made meaning expr in
     let new : length h.bytes ≤ own_len (Expression h.made) + 10 = written_len column (Expression h.made) h.bytes (subst (λ (z : Meaning). IsWritten column z h.bytes) same h.written) in
     omega (arith, h.is, h.long)
 
 -- and what isn't one, which has at most ten bytes more than any bytes that spell it
-other_most : (column : Spec) (m : Meaning) (len size code : ℕ) (constant : ℤ) (old : List ℕ) → is_expr m ≡ false → HasSize column m len size → SpellsValue code constant m old → size ≤ length old + 10
+other_most : (column : Spec) (m : Meaning) (len size code : ℕ) (constant : ℤ) (old : List ℕ) → is_expr m ≡ false → HasOwnSize column m len size → SpellsValue code constant m old → size ≤ length old + 10
 other_most column m len size code constant old other h s =
     let new : length h.bytes ≤ own_len (renewed h.number h.made m) + 10 = written_len column (renewed h.number h.made m) h.bytes h.written in
     let same : own_len (renewed h.number h.made m) ≡ own_len m = renewed_len h.number h.made m other in
     let held : own_len m ≤ length old = spelled_len (shape_of s.form constant) m old s.spelled in
     omega (arith, h.is)
 
--- an expression gets at most three times its bytes
+-- an expression gets at most three times its bytes, and a reference within the unit ten
 abbrev IsFewOf : Value → ℕ → Type 0
-IsFewOf v len = (span : Span) → v ≡ value.Expr span → len ≤ 3 * span.len
+IsFewOf v len = ((span : Span) → v ≡ value.Expr span → len ≤ 3 * span.len) × ((n : ℕ) → v ≡ value.LocalRef n → len ≤ 10)
 
 -- at most three times the bytes of a value that stands in a section, and ten more
 value_most : (section : List ℕ) (column : Spec) (v : Value) (len size code : ℕ) (constant : ℤ) (from to : ℕ) → IsFewOf v len → HasSize column (meant_in section v) len size → SpellsBetween (SpellsValue code constant (meant_in section v)) section from to → IsPlaced v from to → size + 3 * from ≤ 3 * to + 10
 value_most section column (value.Expr span) len size code constant from to few h spelled placed =
     let most : size ≤ len + 10 = expr_most column (Expression (bytes_in section span)) len size refl h in
-    let three : len ≤ 3 * span.len = few span refl in
+    let three : len ≤ 3 * span.len = few.0 span refl in
     let held : length (bytes_in section span) ≤ length (bytes_between section from to) = spelled_len (shape_of spelled.spelled.form constant) (Expression (bytes_in section span)) (bytes_between section from to) spelled.spelled.spelled in
     let old : length (bytes_between section from to) ≡ to - from = length_between section from to spelled.inside in
     let end : span.at + span.len ≡ to = placed in
     let inside : to ≤ length section = spelled.inside in
     let own : length (bytes_in section span) ≡ span.len = length_part span.at span.len section (omega arith) in
+    let order : from ≤ to = spelled.order in
+    omega arith
+value_most section column (value.LocalRef n) len size code constant from to few h spelled placed =
+    let most : len ≤ 10 = few.1 n refl in
+    let same : size ≡ len = h.1 in
     let order : from ≤ to = spelled.order in
     omega arith
 value_most section column v len size code constant from to few h spelled placed =
@@ -210,24 +215,25 @@ values_most section (c ∷ cs) (d ∷ ds) (v ∷ vs) (n ∷ lens) size from to f
     let others : rest + 3 * next ≤ 3 * to + 10 * length vs = values_most section cs ds vs lens rest next to (λ k lt. few (suc k) (omega arith)) have more in
     omega (arith, sum)
 
--- each expression of a unit gets at most three times its bytes
-abbrev pub AreFew : Arena → List ℕ → Type 0
-AreFew f lens = (k : ℕ) (span : Span) → IsExprAt f k span → get_or lens k 0 ≤ 3 * span.len
-
--- so does each of an entry
-few_in : (f : Arena) (lens : List ℕ) (first count k : ℕ) → AreFew f lens → k < length (take count (drop first f.values)) → IsFewOf (value_at (take count (drop first f.values)) k) (get_or (take count (drop first lens)) k 0)
-few_in f lens first count k few lt = λ span is.
+-- the values of an entry get few
+few_in : (f : Arena) (lens : List ℕ) (first count k : ℕ) → AreLensFor f lens → k < length (take count (drop first f.values)) → IsFewOf (value_at (take count (drop first f.values)) k) (get_or (take count (drop first lens)) k 0)
+few_in f lens first count k few lt =
     let part : length (take count (drop first f.values)) ≡ min count (length (drop first f.values)) = length-take count (drop first f.values) in
     let rest : length (drop first f.values) ≡ length f.values - first = length-drop first f.values in
     let own : k < count = omega arith in
     let inside : first + k < length f.values = omega arith in
     let there : value_at (take count (drop first f.values)) k ≡ value_at f.values (first + k) = get_or-take count (drop first f.values) k _ own ∙ get_or-drop first f.values k _ in
-    let len : get_or (take count (drop first lens)) k 0 ≡ get_or lens (first + k) 0 = get_or-take count (drop first lens) k 0 own ∙ get_or-drop first lens k 0 in
-    let most : get_or lens (first + k) 0 ≤ 3 * span.len = few (first + k) span (record { inside = inside; is = sym there ∙ is }) in
-    omega arith
+    let len : get_or (take count (drop first lens)) k 0 ≡ get_or lens (first + k) 0 = get_or-take count (drop first lens) k 0 own ∙ get_or-drop first lens k 0 in (
+      λ span is.
+          let most : get_or lens (first + k) 0 ≤ 3 * span.len = few.few (first + k) span (record { inside = inside; is = sym there ∙ is }) in
+          omega arith,
+      λ n is.
+          let most : get_or lens (first + k) 0 ≤ 10 = few.narrow (first + k) inside (ap (λ (v : Value). is_local (meant_in f.section v)) (sym there ∙ is)) in
+          omega arith,
+    )
 
 -- an entry takes at most three times its bytes, four more, and ten for each value, where its new code has no more than five
-pub entry_most : (f : Arena) (table : Listing) (columns : List Spec) (numbers lens : List ℕ) (ds : List Declared) (depth number id size : ℕ) (now mid : Listed) → AreFew f lens → least_unsigned_len (slice_index numbers (entry_at f.entries id).decl) ≤ 5 → (adds : AddsEntry f.section ds depth number now mid) → values_in f id ≡ adds.values → EntrySize table columns numbers f lens id size → size + 3 * now.place ≤ 3 * mid.place + 4 + 10 * length adds.values
+pub entry_most : (f : Arena) (table : Listing) (columns : List Spec) (numbers lens : List ℕ) (ds : List Declared) (depth number id size : ℕ) (now mid : Listed) → AreLensFor f lens → least_unsigned_len (slice_index numbers (entry_at f.entries id).decl) ≤ 5 → (adds : AddsEntry f.section ds depth number now mid) → values_in f id ≡ adds.values → EntrySize table columns numbers f lens id size → size + 3 * now.place ≤ 3 * mid.place + 4 + 10 * length adds.values
 entry_most f table columns numbers lens ds depth number id size now mid few five adds same sized =
     let cs : List Spec = columns_of table columns (entry_at f.entries id).decl in
     let own : List ℕ = among_values f lens id in

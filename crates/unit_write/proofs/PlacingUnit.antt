@@ -25,7 +25,8 @@ use Rattle.unit_write.specs.inside.Most.{HasRoom}
 use Rattle.unit_write.specs.Placing.{EntrySize, ArePlaced}
 use Rattle.unit_write.specs.Moved.{IsWritable, IsPlacedAt}
 use Rattle.unit_write.specs.inside.Readings.{IsNext, HasItem, PutsItem}
-use Rattle.unit_write.proofs.MostLaws.{AreFew, entry_most}
+use Rattle.unit_write.specs.Lens.{AreLensFor}
+use Rattle.unit_write.proofs.MostLaws.{entry_most}
 use Rattle.unit_write.proofs.Placed.{placed_entry, placed_end}
 use Rattle.unit_write.proofs.Standing.{whole_walk}
 use Rattle.unit_write.proofs.ValueLaws.{five_bytes}
@@ -101,7 +102,7 @@ module _ (unit : HeadAndForest) (table : Listing) (columns : List Spec) (numbers
       EndIsNext unit.forest.section (declarations_of table) (entries_at unit.head) (listed_to unit.forest place) entries ends done now chains rest
 
   -- an entry and a code 0 keep to what they take at most
-  entry_keeps : (place entries ends : ℕ) (done : List Item) (now : Listed) (chains : List ℕ) (rest : List Item) (end size : ℕ) → (n : EntryNext place entries ends done now chains rest) → IsWritable unit table columns numbers lens → AreFew unit.forest lens → All (λ (number : ℕ). number < 2 ^ 32) numbers → EntrySize table columns numbers unit.forest lens entries size → IsAtMost unit start now end → IsAtMost unit start n.mid (end + size)
+  entry_keeps : (place entries ends : ℕ) (done : List Item) (now : Listed) (chains : List ℕ) (rest : List Item) (end size : ℕ) → (n : EntryNext place entries ends done now chains rest) → IsWritable unit table columns numbers lens → AreLensFor unit.forest lens → All (λ (number : ℕ). number < 2 ^ 32) numbers → EntrySize table columns numbers unit.forest lens entries size → IsAtMost unit start now end → IsAtMost unit start n.mid (end + size)
   entry_keeps place entries ends done now chains rest end size n writable few small sized most =
       let decl : ℕ = (entry_at unit.forest.entries entries).decl in
       let same : decl ≡ n.number = ap (λ (e : Entry). e.decl) n.here in
@@ -122,7 +123,7 @@ module _ (unit : HeadAndForest) (table : Listing) (columns : List Spec) (numbers
       omega (arith, most)
 
   -- there is room for what stands next
-  pub placing_room : (old new : Items) (places : Places) (next : Next) → (h : IsPlacing unit table columns numbers lens start old places) → IsNext unit.forest (declarations_of table) (entries_at unit.head) h.place h.done h.now h.chains h.rest old new (Some next) → IsWritable unit table columns numbers lens → AreFew unit.forest lens → All (λ (number : ℕ). number < 2 ^ 32) numbers → start + most_bytes unit < least_reserved → HasRoom (EntrySize table columns numbers unit.forest lens) next places.end
+  pub placing_room : (old new : Items) (places : Places) (next : Next) → (h : IsPlacing unit table columns numbers lens start old places) → IsNext unit.forest (declarations_of table) (entries_at unit.head) h.place h.done h.now h.chains h.rest old new (Some next) → IsWritable unit table columns numbers lens → AreLensFor unit.forest lens → All (λ (number : ℕ). number < 2 ^ 32) numbers → start + most_bytes unit < least_reserved → HasRoom (EntrySize table columns numbers unit.forest lens) next places.end
   placing_room old new places (TheEntry id) h n writable few small room =
       let Size = EntrySize table columns numbers unit.forest lens in
       let sized = writable.sized old.entries n.2.inside in
@@ -136,7 +137,7 @@ module _ (unit : HeadAndForest) (table : Listing) (columns : List Spec) (numbers
       omega arith
 
   -- what stands next is placed behind the front
-  pub placing_next : (old new : Items) (before after : Places) (next : Next) → (h : IsPlacing unit table columns numbers lens start old before) → IsNext unit.forest (declarations_of table) (entries_at unit.head) h.place h.done h.now h.chains h.rest old new (Some next) → IsWritable unit table columns numbers lens → AreFew unit.forest lens → All (λ (number : ℕ). number < 2 ^ 32) numbers → PutsItem (EntrySize table columns numbers unit.forest lens) next before after → after.start ≡ before.start → IsPlacing unit table columns numbers lens start new after
+  pub placing_next : (old new : Items) (before after : Places) (next : Next) → (h : IsPlacing unit table columns numbers lens start old before) → IsNext unit.forest (declarations_of table) (entries_at unit.head) h.place h.done h.now h.chains h.rest old new (Some next) → IsWritable unit table columns numbers lens → AreLensFor unit.forest lens → All (λ (number : ℕ). number < 2 ^ 32) numbers → PutsItem (EntrySize table columns numbers unit.forest lens) next before after → after.start ≡ before.start → IsPlacing unit table columns numbers lens start new after
   placing_next old new before after (TheEntry id) h n writable few small puts begun =
       let Size = EntrySize table columns numbers unit.forest lens in
       let at = start + (entries_at unit.head - unit.head.at) in

@@ -1,13 +1,14 @@
 -- Units of tests can be written.
-use Rattle.std.proofs.Common.{◌≡◌, ◌≢◌, ◌≤◌, ◌<◌, ◌+◌, ◌-◌, ◌*◌, ◌^◌, ℕ, suc, List, [], ◌∷◌, length, get_or, take, drop, ◌∙◌, sym, refl, arith, true, false, inl, inr}
+use Rattle.std.proofs.Common.{◌≡◌, ◌≢◌, ◌≤◌, ◌<◌, ◌+◌, ◌-◌, ◌^◌, ◌⊎◌, ℕ, suc, List, [], ◌∷◌, ◌++◌, length, get_or, take, drop, ◌∙◌, sym, ap, refl, arith, false, inl, inr}
 use Rattle.std.proofs.lemmas.Bool.{cases_lt}
-use Rattle.std.proofs.lemmas.List.{length-drop, length-take-le, get_or-take, get_or-drop, get_or_past}
+use Rattle.std.proofs.lemmas.List.{append-nil, append_assoc, length-drop, length-take-le, get_or_past}
+use Rattle.std.proofs.lemmas.List.Elements.{All-take, All-drop}
+use Rattle.std.specs.Prelude.{if◌then◌else◌}
 use Rattle.std.specs.List.{All}
 use Rattle.spelled.specs.Spelled.{AreBytes}
 use Rattle.leb_codec.specs.Leb.{least_unsigned_len}
 use Rattle.form_codec.specs.declared.value.Value.{Value}
-use Rattle.form_codec.specs.declared.form.Form.TheVariants.{Exprloc}
-use Rattle.form_codec.specs.Forms.{Meaning, code_of}
+use Rattle.form_codec.specs.Forms.{Meaning}
 use Rattle.form_codec.specs.Forms.Meaning.{Expression}
 use Rattle.form_codec.specs.Values.{meant_in, IsValueIn}
 use Rattle.abbrev_tables.specs.declared.decl.Spec.{Spec}
@@ -20,14 +21,14 @@ use Rattle.entry_read.specs.Heads.{IsHead}
 use Rattle.entry_read.specs.Units.{HeadAndForest, entries_at, declarations_of, IsUnitHeld}
 use Rattle.unit_write.specs.Values.{HasSize, HaveSize}
 use Rattle.entry_read.proofs.PlaceLaws.{units_lie}
-use Rattle.unit_write.specs.NewExpressions.{begin_of, lens_of, AreEndsFor}
+use Rattle.entry_read.specs.Locals.{is_local}
+use Rattle.unit_write.specs.NewExpressions.{lens_from, with_numbers}
 use Rattle.unit_write.specs.Placing.{columns_of, values_in, among_values}
-use Rattle.unit_write.specs.Moved.{IsRoomy, IsWritable}
-use Rattle.unit_write.proofs.EndLaws.{lens_len, len_at}
+use Rattle.unit_write.specs.Moved.{IsWritable}
+use Rattle.unit_write.proofs.EndLaws.{lens_len}
 use Rattle.unit_write.proofs.Anew.{count_in}
 use Rattle.unit_write.specs.Sizes.{IsExpr}
 use Rattle.unit_write.specs.inside.Puts.{is_expr}
-use Rattle.unit_write.proofs.ValueLaws.{expressions_have_sizes}
 use Rattle.unit_write.proofs.Sizing.{valued_between}
 
 -- something can be written for a value, whatever section it stands in and however many bytes it has as an expression
@@ -49,34 +50,31 @@ have_sizes (c ∷ cs) (v ∷ vs) same each section (n ∷ lens) few all long sma
     let rest = have_sizes cs vs (omega arith) (λ k lt. each (suc k) (omega arith)) section lens few (λ k d lt. all (suc k) d (omega arith)) (omega arith) (λ k. small (suc k)) in
     (first.0 + rest.0, (first.0, rest.0, first.1, rest.1, refl))
 
+-- one of a list of small numbers, or 0
+small_at : (lens : List ℕ) (k : ℕ) → All (λ (n : ℕ). n < 2 ^ 32) lens → get_or lens k 0 < 2 ^ 64
+small_at lens k all =
+    elim (cases_lt k (length lens)) [
+      | inl lt ↦ let own : get_or lens k 0 < 2 ^ 32 = all k 0 lt in omega arith
+      | inr past ↦ let none : get_or lens k 0 ≡ 0 = get_or_past lens k 0 past in omega arith
+    ]
+
 -- those of the values of an entry are as many, and small
-own_lens : (f : Arena) (ends : List ℕ) (id : ℕ) → AreEndsFor f ends → 3 * length f.section < 2 ^ 64 → (entry_at f.entries id).first + (entry_at f.entries id).count ≤ length f.values → (length (among_values f (lens_of ends) id) ≡ length (values_in f id)) × ((k : ℕ) → get_or (among_values f (lens_of ends) id) k 0 < 2 ^ 64)
-own_lens f ends id h room inside =
+own_lens : (f : Arena) (lens : List ℕ) (id : ℕ) → length lens ≡ length f.values → All (λ (n : ℕ). n < 2 ^ 32) lens → (entry_at f.entries id).first + (entry_at f.entries id).count ≤ length f.values → (length (among_values f lens id) ≡ length (values_in f id)) × ((k : ℕ) → get_or (among_values f lens id) k 0 < 2 ^ 64)
+own_lens f lens id each small inside =
     let first : ℕ = (entry_at f.entries id).first in
     let count : ℕ = (entry_at f.entries id).count in
-    let size : length (lens_of ends) ≡ length ends = lens_len 0 ends in
-    let each : length ends ≡ length f.values = h.rise.each in
-    let rest : length (drop first (lens_of ends)) ≡ length (lens_of ends) - first = length-drop first (lens_of ends) in
-    let own : length (take count (drop first (lens_of ends))) ≡ count = length-take-le count (drop first (lens_of ends)) (omega arith) in (
+    let rest : length (drop first lens) ≡ length lens - first = length-drop first lens in
+    let own : length (take count (drop first lens)) ≡ count = length-take-le count (drop first lens) (omega arith) in (
       own ∙ sym (count_in f id inside),
-      λ k. elim (cases_lt k count) [
-        | inl lt ↦
-            let at : get_or (take count (drop first (lens_of ends))) k 0 ≡ get_or ends (first + k) 0 - begin_of ends (first + k) = get_or-take count (drop first (lens_of ends)) k 0 lt ∙ get_or-drop first (lens_of ends) k 0 ∙ len_at ends (first + k) in
-            let most : get_or ends (first + k) 0 ≤ 3 * length f.section = h.rise.inside (first + k) (omega arith) in
-            omega arith
-        | inr past ↦
-            let none : get_or (take count (drop first (lens_of ends))) k 0 ≡ 0 = get_or_past (take count (drop first (lens_of ends))) k 0 (omega arith) in
-            omega arith
-      ],
+      λ k. small_at (take count (drop first lens)) k (All-take (λ (n : ℕ). n < 2 ^ 32) count (drop first lens) (All-drop (λ (n : ℕ). n < 2 ^ 32) first lens small)),
     )
 
-pub sized_writable : (unit : HeadAndForest) (table : Listing) (columns : List Spec) (numbers ends : List ℕ) → AreEndsFor unit.forest ends → IsHead unit.forest.section unit.head → IsUnitHeld unit.forest.section unit.head (declarations_of table) unit.forest → length numbers ≡ length table.decls → length columns ≡ length table.specs → All IsRoomy columns → All (λ (n : ℕ). n ≢ 0) numbers → AreBytes unit.forest.section → 3 * length unit.forest.section < 2 ^ 32 → ((id : ℕ) → id < length unit.forest.entries → ((entry_at unit.forest.entries id).decl < length table.decls) × AreSizedIn (columns_of table columns (entry_at unit.forest.entries id).decl) (values_in unit.forest id)) → IsWritable unit table columns numbers (lens_of ends)
-sized_writable unit table columns numbers ends fit head held numbered renewed roomy used small room each = record {
+pub sized_writable : (unit : HeadAndForest) (table : Listing) (columns : List Spec) (numbers lens : List ℕ) → length lens ≡ length unit.forest.values → All (λ (n : ℕ). n < 2 ^ 32) lens → IsHead unit.forest.section unit.head → IsUnitHeld unit.forest.section unit.head (declarations_of table) unit.forest → length numbers ≡ length table.decls → length columns ≡ length table.specs → All (λ (n : ℕ). n ≢ 0) numbers → AreBytes unit.forest.section → length unit.forest.section < 2 ^ 63 → ((id : ℕ) → id < length unit.forest.entries → ((entry_at unit.forest.entries id).decl < length table.decls) × AreSizedIn (columns_of table columns (entry_at unit.forest.entries id).decl) (values_in unit.forest id)) → IsWritable unit table columns numbers lens
+sized_writable unit table columns numbers lens count narrow head held numbered renewed used small few each = record {
   head = head;
   held = held;
   numbered = numbered;
   renewed = renewed;
-  roomy = roomy;
   used = λ id inside. used (entry_at unit.forest.entries id).decl 0 (let known : (entry_at unit.forest.entries id).decl < length table.decls = (each id inside).0 in omega arith);
   sized = λ id inside.
       let f = unit.forest in
@@ -84,11 +82,10 @@ sized_writable unit table columns numbers ends fit head held numbered renewed ro
       let e = entry_at f.entries id in
       let whole = (trees_are_walks f.section ds (entries_at unit.head) (listed_to f held.0)).0 held.1.tree in
       let s = entries_stand f.section ds (entries_at unit.head) (listed_to f held.0) id whole inside in
-      let few : length f.section < 2 ^ 63 = omega (arith, room) in
       let all = valued_between f.section small ((declared_at ds e.decl).columns) (values_in f id) s.values_at (e.at + e.len) s.valued in
       let lie = units_lie f.section unit.head ds f refl held in
-      let lens = own_lens f ends id fit (omega arith) (lie.order.valued.inside id inside) in
-      let size = (each id inside).1 f.section (among_values f (lens_of ends) id) few all lens.0 lens.1 in
+      let own = own_lens f lens id count narrow (lie.order.valued.inside id inside) in
+      let size = (each id inside).1 f.section (among_values f lens id) few all own.0 own.1 in
       (least_unsigned_len (get_or numbers e.decl 0) + size.0, (size.0, size.1, refl));
 }
 
@@ -96,7 +93,23 @@ pub none_expr : (m : Meaning) → is_expr m ≡ false → (¬ IsExpr m)
 none_expr (Expression bytes) e = absurd (cc (e))
 none_expr m e = λ none. none
 
--- an expression has a size in its form
-pub any_expr_size : (column : Spec) (m : Meaning) (len : ℕ) → is_expr m ≡ true → len < 2 ^ 64 → column.form ≡ code_of Exprloc → (size : ℕ) × HasSize column m len size
-any_expr_size column (Expression bytes) len e few is = expressions_have_sizes column bytes len few is
-any_expr_size column m len e few is = absurd (cc (e))
+-- after the next value so many lengths are found, and those of the values behind it are left
+pub lens_next : (section : List ℕ) (all done new : List ℕ) (begin len : ℕ) (vs others : List Value) (v : Value) (ns more : List ℕ) (n : ℕ) (es later : List ℕ) (e : ℕ) → all ≡ done ++ with_numbers section vs ns (lens_from begin es) → vs ≡ v ∷ others → ns ≡ n ∷ more → es ≡ e ∷ later → len ≡ (if is_local (meant_in section v) then least_unsigned_len n else e - begin) → new ≡ done ++ len ∷ [] → all ≡ new ++ with_numbers section others more (lens_from e later)
+lens_next section all done new begin len vs others v ns more n es later e h p q r is put =
+    let rest : List ℕ = with_numbers section others more (lens_from e later) in
+    let whole : with_numbers section vs ns (lens_from begin es) ≡ len ∷ rest = ap (λ (z : List Value). with_numbers section z ns (lens_from begin es)) p ∙ ap (λ (z : List ℕ). with_numbers section (v ∷ others) z (lens_from begin es)) q ∙ ap (λ (z : List ℕ). with_numbers section (v ∷ others) (n ∷ more) (lens_from begin z)) r ∙ ap (λ (z : ℕ). z ∷ rest) (sym is) in
+    h ∙ ap (λ (z : List ℕ). done ++ z) whole ∙ sym (append_assoc done (len ∷ []) rest) ∙ ap (λ (z : List ℕ). z ++ rest) (sym put)
+
+none_with : (section : List ℕ) (vs : List Value) (ns lens : List ℕ) → (length vs ≡ 0) ⊎ ((length ns ≡ 0) ⊎ (length lens ≡ 0)) → with_numbers section vs ns lens ≡ []
+none_with section [] ns lens h = refl
+none_with section (v ∷ vs) [] lens h = refl
+none_with section (v ∷ vs) (n ∷ ns) [] h = refl
+none_with section (v ∷ vs) (n ∷ ns) (len ∷ lens) (inl h) = absurd (omega arith)
+none_with section (v ∷ vs) (n ∷ ns) (len ∷ lens) (inr (inl h)) = absurd (omega arith)
+none_with section (v ∷ vs) (n ∷ ns) (len ∷ lens) (inr (inr h)) = absurd (omega arith)
+
+-- where nothing is left all are found
+pub lens_all : (section : List ℕ) (all done : List ℕ) (begin : ℕ) (vs : List Value) (ns es : List ℕ) → all ≡ done ++ with_numbers section vs ns (lens_from begin es) → (length vs ≡ 0) ⊎ ((length ns ≡ 0) ⊎ (length es ≡ 0)) → done ≡ all
+lens_all section all done begin vs ns es h none =
+    let ends : (length vs ≡ 0) ⊎ ((length ns ≡ 0) ⊎ (length (lens_from begin es) ≡ 0)) = elim none [ inl x ↦ inl x | inr x ↦ inr (elim x [ inl y ↦ inl y | inr y ↦ inr (lens_len begin es ∙ y) ]) ] in
+    sym (h ∙ ap (λ (z : List ℕ). done ++ z) (none_with section vs ns (lens_from begin es) ends) ∙ append-nil done)

@@ -20,10 +20,9 @@ use Rattle.fixed_width.specs.InitialLengths.{least_reserved}
 use Rattle.entry_read.specs.Heads.{IsUnitType, type_unit, header_size, unit_type}
 use Rattle.entry_read.specs.Units.{HeadAndForest, entries_at, declarations_of}
 use Rattle.entry_read.proofs.PlaceLaws.{units_lie}
-use Rattle.unit_write.specs.NewExpressions.{lens_of}
 use Rattle.unit_write.specs.Placing.{EntrySize, ArePlaced, IsRenumbered}
 use Rattle.entry_read.specs.Short.{StandsShort, EndsShort}
-use Rattle.unit_write.specs.Moved.{NewValues, IsMovedEntry, IsWritable, IsPlacedAt, IsWrittenAnew}
+use Rattle.unit_write.specs.Moved.{NewValues, IsMovedEntry, IsWritable, IsPlacedAt, IsWrittenAnew, lens_anew}
 use Rattle.unit_write.specs.inside.Puts.{AreNew, PutsEntry, PutsItems, header_bytes}
 use Rattle.unit_write.proofs.ValueLaws.{one_size}
 use Rattle.unit_write.proofs.Placed.{one_placing}
@@ -59,9 +58,9 @@ zip_some R (x ∷ xs) (y ∷ ys) a some = λ e. absurd (cc (e))
 pub from_header : (at size start : ℕ) → start + (at + size - at) ≡ start + size
 from_header at size start = omega arith
 
-module _ (unit : HeadAndForest) (table : Listing) (columns : List Spec) (numbers : List ℕ) (anew : NewValues) (writable : IsWritable unit table columns numbers (lens_of anew.ends)) where
+module _ (unit : HeadAndForest) (table : Listing) (columns : List Spec) (numbers : List ℕ) (anew : NewValues) (writable : IsWritable unit table columns numbers (lens_anew unit.forest anew)) where
   abbrev lens : List ℕ
-  lens = lens_of anew.ends
+  lens = lens_anew unit.forest anew
 
   abbrev kind : ℕ
   kind = unit.head.kind
@@ -97,7 +96,7 @@ module _ (unit : HeadAndForest) (table : Listing) (columns : List Spec) (numbers
       let order : start ≤ length section = omega arith in
       let bytes : bytes_between section start (length section) ≡ body = ap (λ (n : ℕ). bytes_between section n (length section)) (sym size) ∙ bytes_behind section front body whole in
       let come : HasWalked f.section (declarations_of table) (entries_at unit.head) (listed_to f p.place) 0 0 [] (nothing_from (entries_at unit.head)) [] p.whole.items = record { walked = (refl, refl); onward = p.whole.walked; entries_are = refl; ends_are = refl } in
-      let r = stand_anew table columns numbers anew f ds section renumbered new_ones lie.order.valued.inside (entries_at unit.head) p.place writable.used p.whole.items [] (nothing_from (entries_at unit.head)) (nothing_from start) [] 0 0 (length section) body come (nothing_moved numbers anew f.section section (entries_at unit.head) start) puts order (omega arith) bytes in
+      let r = stand_anew table columns numbers anew f ds section renumbered new_ones lie.order.valued.inside (entries_at unit.head) p.place writable.used writable.sized p.whole.items [] (nothing_from (entries_at unit.head)) (nothing_from start) [] 0 0 (length section) body come (nothing_moved numbers anew f.section section (entries_at unit.head) start) puts order (omega arith) bytes in
       let from : length old + (entries_at unit.head - unit.head.at) ≡ start = from_header unit.head.at (header_size kind) (length old) in
       let placed = subst (λ (z : ℕ). ArePlaced (EntrySize table columns numbers f lens) 0 p.whole.items z (map (λ (e : Entry). e.at) r.entries) (map (λ (e : ChainEnd). e.at) r.ends) (length section)) (sym from) r.placed in
       let same = one_placing one_size table columns numbers f lens 0 (length old + (entries_at unit.head - unit.head.at)) p.whole.items entries (map (λ (e : Entry). e.at) r.entries) ends (map (λ (e : ChainEnd). e.at) r.ends) end (length section) p.placed placed in

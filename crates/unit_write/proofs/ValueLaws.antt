@@ -5,7 +5,7 @@ use Rattle.std.proofs.lemmas.Bool.{cases_Bool}
 use Rattle.std.proofs.lemmas.List.{length-append}
 use Rattle.spelled.specs.Spelled.{AreBytes}
 use Rattle.spelled.proofs.Parts.{bytes_append, bytes_after}
-use Rattle.leb_codec.specs.Leb.{ShortestUnsigned, PaddedUnsigned, least_unsigned_len}
+use Rattle.leb_codec.specs.Leb.{ShortestUnsigned, least_unsigned_len}
 use Rattle.leb_codec.proofs.Lens.{unsigned_lens}
 use Rattle.leb_codec.proofs.SpellingLaws.{unsigned_spellings}
 use Rattle.form_codec.specs.declared.form.Form.{Form}
@@ -16,20 +16,24 @@ use Rattle.form_codec.specs.declared.form.Shape.{Shape}
 use Rattle.form_codec.specs.declared.form.Shape.TheVariants.{Constant, Present, Number, Uleb as ByUleb, Sleb as BySleb, Counted, UlebCounted, Sixteen, ZeroEnded}
 use Rattle.form_codec.specs.declared.form.Content.TheVariants as content
 use Rattle.form_codec.specs.declared.form.Width.{Width}
-use Rattle.form_codec.specs.declared.form.Width.TheVariants.{One, Two, Three, Four, Eight}
+use Rattle.form_codec.specs.declared.form.Width.TheVariants.{One, Four, Eight}
 use Rattle.fixed_width.specs.Numbers.{number}
 use Rattle.form_codec.specs.Forms.{Meaning, SpellsShape, SpellsValue, SpellsShortest, Admits, is_written, code_of, shape_of, size_of, in_role}
 use Rattle.form_codec.specs.Forms.Meaning.{Expression, InUnit, InSection, SectionPlace, Bits, Whole}
+use Rattle.form_codec.specs.declared.value.Value.{Value}
+use Rattle.form_codec.specs.declared.value.Value.TheVariants as value
+use Rattle.form_codec.specs.Values.{meant_in}
 use Rattle.form_codec.specs.Written.{low_bytes}
+use Rattle.dw_base.specs.declared.fault.Span.{Span}
 use Rattle.form_codec.proofs.Codes.{code_once}
 use Rattle.form_codec.proofs.WriteLaws.{low_len, number_low, low_small}
 use Rattle.form_codec.proofs.FormLaws.{in_form}
 use Rattle.abbrev_tables.specs.declared.decl.Spec.{Spec}
 use Rattle.entry_read.specs.Short.{IsWritten}
-use Rattle.unit_write.specs.Values.{is_moving, renewed, HasSize, OneSize}
-use Rattle.unit_write.specs.Moved.{IsRoomy}
+use Rattle.entry_read.specs.Locals.{is_local}
+use Rattle.unit_write.specs.Values.{is_moving, renewed, HasOwnSize, HasSize, OneSize}
 use Rattle.unit_write.specs.Sizes.{IsExpr, NumbersHaveSizes, ExpressionsHaveSizes, ShortestHaveSizes}
-use Rattle.unit_write.specs.inside.Puts.{role_moves, shape_moves, is_expr, shape_expr, PutsNumber}
+use Rattle.unit_write.specs.inside.Puts.{role_moves, shape_moves, is_expr, shape_expr}
 
 data_stays : (size n : ℕ) (test : Bool) → is_moving (if test then Bits size n else Whole (pos n)) ≡ false
 data_stays size n true = refl
@@ -92,35 +96,41 @@ pub no_expr_moves : (m : Meaning) → is_expr m ≡ true → is_moving m ≡ fal
 no_expr_moves (Expression bytes) e = refl
 no_expr_moves m e = absurd (cc (e))
 
-pub moving_none : (m : Meaning) → is_moving m ≡ true → is_expr m ≡ false
-moving_none (Expression bytes) e = absurd (cc (e))
-moving_none m e = refl
-
 pub is_made : (n : ℕ) (made : List ℕ) (m : Meaning) → is_expr m ≡ true → renewed n made m ≡ Expression made
 is_made n made (Expression bytes) e = refl
 is_made n made m e = absurd (cc (e))
 
--- a number in LEB128 that moves has DW_FORM_ref_udata
-number_or_leb : (f : Form) (c : ℤ) → shape_moves (shape_of f c) ≡ true → code_of f ≢ code_of form.RefUdata → (w : Width) × (r : Role) × (shape_of f c ≡ Number w r)
-number_or_leb form.Ref1 c e other = (One, role.LocalRef, refl)
-number_or_leb form.Ref2 c e other = (Two, role.LocalRef, refl)
-number_or_leb form.Ref4 c e other = (Four, role.LocalRef, refl)
-number_or_leb form.Ref8 c e other = (Eight, role.LocalRef, refl)
-number_or_leb form.RefUdata c e other = absurd (other refl)
-number_or_leb form.RefAddr c e other = (Four, role.SectionRef, refl)
-number_or_leb form.SecOffset c e other = (Four, role.Offset, refl)
-number_or_leb f c e other = absurd (cc (e))
+-- so does a reference within the unit
+pub local_still : (n : ℕ) (made : List ℕ) (m : Meaning) → is_local (renewed n made m) ≡ is_local m
+local_still n made (InUnit k) = refl
+local_still n made (InSection k) = refl
+local_still n made (SectionPlace k) = refl
+local_still n made (Expression bytes) = refl
+local_still n made m = refl
 
--- and one of fixed size that is roomy has four bytes or eight
-roomy_width : (f : Form) (c : ℤ) → shape_moves (shape_of f c) ≡ true → code_of f ≢ code_of form.RefUdata → code_of f ≢ code_of form.Ref1 → code_of f ≢ code_of form.Ref2 → (w : Width) × (r : Role) × (shape_of f c ≡ Number w r) × ((n : ℕ) → n < 2 ^ 32 → n < 256 ^ size_of w)
-roomy_width form.Ref1 c e other no_one no_two = absurd (no_one refl)
-roomy_width form.Ref2 c e other no_one no_two = absurd (no_two refl)
-roomy_width form.Ref4 c e other no_one no_two = (Four, role.LocalRef, refl, λ n lt. omega arith)
-roomy_width form.Ref8 c e other no_one no_two = (Eight, role.LocalRef, refl, λ n lt. omega arith)
-roomy_width form.RefUdata c e other no_one no_two = absurd (other refl)
-roomy_width form.RefAddr c e other no_one no_two = (Four, role.SectionRef, refl, λ n lt. omega arith)
-roomy_width form.SecOffset c e other no_one no_two = (Four, role.Offset, refl, λ n lt. omega arith)
-roomy_width f c e other no_one no_two = absurd (cc (e))
+pub no_local : (m : Meaning) → is_moving m ≡ false → is_local m ≡ false
+no_local (InUnit k) stays = absurd (cc (stays))
+no_local m stays = refl
+
+-- what is no such reference has a size of its own
+pub own_size : (column : Spec) (meaning : Meaning) (len size : ℕ) → is_local meaning ≡ false → HasSize column meaning len size → HasOwnSize column meaning len size
+own_size column (InUnit k) len size other h = absurd (cc (other))
+own_size column m len size other h = h
+
+has_own : (column : Spec) (meaning : Meaning) (len size : ℕ) → is_local meaning ≡ false → HasOwnSize column meaning len size → HasSize column meaning len size
+has_own column (InUnit k) len size other h = absurd (cc (other))
+has_own column m len size other h = h
+
+-- a reference into the section and a section offset are numbers of four bytes
+four_number : (f : Form) (c : ℤ) (m : Meaning) (bytes : List ℕ) → is_moving m ≡ true → is_local m ≡ false → SpellsShape (shape_of f c) m bytes → (r : Role) × (shape_of f c ≡ Number Four r) × (role_moves r ≡ true)
+four_number form.Ref1 c m bytes moves other p = absurd (let e : is_local m ≡ true = ap is_local p.1 in cc (e, other))
+four_number form.Ref2 c m bytes moves other p = absurd (let e : is_local m ≡ true = ap is_local p.1 in cc (e, other))
+four_number form.Ref4 c m bytes moves other p = absurd (let e : is_local m ≡ true = ap is_local p.1 in cc (e, other))
+four_number form.Ref8 c m bytes moves other p = absurd (let e : is_local m ≡ true = ap is_local p.1 in cc (e, other))
+four_number form.RefUdata c m bytes moves other p = absurd (let e : is_local m ≡ true = ap is_local p.2 in cc (e, other))
+four_number form.RefAddr c m bytes moves other p = (role.SectionRef, refl, refl)
+four_number form.SecOffset c m bytes moves other p = (role.Offset, refl, refl)
+four_number f c m bytes moves other p = absurd (let e : is_moving m ≡ false = shape_is (shape_of f c) m bytes p in cc (e, moves))
 
 -- a form of a value that doesn't move can be written
 form_written : (f : Form) (c : ℤ) → shape_moves (shape_of f c) ≡ false → is_written f ≡ true
@@ -141,7 +151,8 @@ renumbered role.Offset w v n k new old made m moves e = absurd (cc (e))
 renumbered r w v n k new old made m moves e = absurd (cc (moves))
 
 pub admits_kept : (column : Spec) (meaning : Meaning) (len size : ℕ) → is_moving meaning ≡ false → is_expr meaning ≡ false → HasSize column meaning len size → Admits column.form meaning
-admits_kept column meaning len size stays other h =
+admits_kept column meaning len size stays other has =
+    let h = own_size column meaning len size (no_local meaning stays) has in
     let same : renewed h.number h.made meaning ≡ meaning = kept h.number h.made meaning stays other in
     let bytes : List ℕ = h.bytes in
     let s : SpellsValue column.form column.constant meaning bytes = subst (λ (z : Meaning). SpellsValue column.form column.constant z bytes) same h.written.0 in
@@ -154,31 +165,24 @@ admits_kept column meaning len size stays other h =
       spelled = s;
     }
 
--- the form of a value that doesn't move isn't DW_FORM_ref_udata
-not_leb : (code : ℕ) (c : ℤ) (m : Meaning) (bytes : List ℕ) → is_moving m ≡ false → SpellsValue code c m bytes → code ≢ code_of form.RefUdata
-not_leb code c m bytes stays s leb =
-    let same : s.form ≡ form.RefUdata = code_once s.form form.RefUdata (s.known ∙ leb) in
-    let moves : is_moving m ≡ true = shape_is (shape_of s.form c) m bytes s.spelled ∙ ap (λ (z : Form). shape_moves (shape_of z c)) same in
-    absurd (cc (moves, stays))
-
 -- the constant is that of the column where nothing else spells the value
 with_constant : (f : Form) (c d : ℤ) (m : Meaning) (bytes others : List ℕ) → SpellsShape (shape_of f c) m bytes → SpellsShape (shape_of f d) m others → SpellsShape (shape_of f d) m bytes
 with_constant form.ImplicitConst c d m bytes others p q = (p.0, q.1, q.2)
 with_constant f c d m bytes others p q = p
 
--- what doesn't move is written by its shortest bytes
-written_least : (column : Spec) (meaning : Meaning) (bytes others : List ℕ) → is_moving meaning ≡ false → SpellsValue column.form column.constant meaning others → SpellsShortest column.form meaning bytes → IsWritten column meaning bytes
-written_least column meaning bytes others stays s shortest =
+-- a value is written by its shortest bytes
+written_least : (column : Spec) (meaning : Meaning) (bytes others : List ℕ) → SpellsValue column.form column.constant meaning others → SpellsShortest column.form meaning bytes → IsWritten column meaning bytes
+written_least column meaning bytes others s shortest =
     let shape = with_constant shortest.spelled.form shortest.constant column.constant meaning bytes others shortest.spelled.spelled (in_form column.form shortest.spelled.form column.constant meaning others shortest.spelled.known s) in
-    let spelled : SpellsValue column.form column.constant meaning bytes = record { form = shortest.spelled.form; known = shortest.spelled.known; small = shortest.spelled.small; spelled = shape } in
-    (spelled, inr (not_leb column.form column.constant meaning bytes stays spelled, shortest))
+    (record { form = shortest.spelled.form; known = shortest.spelled.known; small = shortest.spelled.small; spelled = shape }, shortest)
 
 pub written_shortest : (column : Spec) (meaning : Meaning) (n : ℕ) (made bytes others : List ℕ) → is_moving meaning ≡ false → is_expr meaning ≡ false → SpellsValue column.form column.constant meaning others → SpellsShortest column.form meaning bytes → IsWritten column (renewed n made meaning) bytes
 written_shortest column meaning n made bytes others stays other s shortest =
-    subst (λ (z : Meaning). IsWritten column z bytes) (sym (kept n made meaning stays other)) (written_least column meaning bytes others stays s shortest)
+    subst (λ (z : Meaning). IsWritten column z bytes) (sym (kept n made meaning stays other)) (written_least column meaning bytes others s shortest)
 
 pub written_kept : (column : Spec) (meaning : Meaning) (len size n : ℕ) (made bytes : List ℕ) → is_moving meaning ≡ false → is_expr meaning ≡ false → HasSize column meaning len size → SpellsShortest column.form meaning bytes → IsWritten column (renewed n made meaning) bytes
-written_kept column meaning len size n made bytes stays other h shortest =
+written_kept column meaning len size n made bytes stays other has shortest =
+    let h = own_size column meaning len size (no_local meaning stays) has in
     written_shortest column meaning n made bytes h.bytes stays other (subst (λ (z : Meaning). SpellsValue column.form column.constant z h.bytes) (kept h.number h.made meaning stays other) h.written.0) shortest
 
 -- so many bytes 0
@@ -200,28 +204,30 @@ not_expr (Expression bytes) none = absurd (none tt)
 not_expr m none = refl
 
 pub shortest_have_sizes : ShortestHaveSizes
-shortest_have_sizes column meaning len bytes others stays none s shortest = record {
-  number = 0;
-  made = zeros len;
-  long = zeros_len len;
-  bytes = bytes;
-  written = written_shortest column meaning 0 (zeros len) bytes others stays (not_expr meaning none) s shortest;
-  is = refl;
-}
+shortest_have_sizes column meaning len bytes others stays none s shortest =
+    has_own column meaning len (length bytes) (no_local meaning stays)
+    (record {
+      number = 0;
+      made = zeros len;
+      long = zeros_len len;
+      bytes = bytes;
+      written = written_shortest column meaning 0 (zeros len) bytes others stays (not_expr meaning none) s shortest;
+      is = refl;
+    })
 
--- what doesn't move is as long as its shortest bytes
-least_len : (column : Spec) (meaning : Meaning) (bytes others : List ℕ) → is_moving meaning ≡ false → IsWritten column meaning others → SpellsShortest column.form meaning bytes → length bytes ≡ length others
-least_len column meaning bytes others stays (spelled, inl (leb, len)) shortest = absurd (not_leb column.form column.constant meaning others stays spelled leb)
-least_len column meaning bytes others stays (spelled, inr (other, least)) shortest =
+-- what is written is as long as the shortest bytes
+least_len : (column : Spec) (meaning : Meaning) (bytes others : List ℕ) → IsWritten column meaning others → SpellsShortest column.form meaning bytes → length bytes ≡ length others
+least_len column meaning bytes others (spelled, least) shortest =
     let up : length bytes ≤ length others = shortest.shortest least.constant others least.spelled in
     let down : length others ≤ length bytes = least.shortest shortest.constant bytes shortest.spelled in
     omega arith
 
 pub size_kept : (column : Spec) (meaning : Meaning) (len size : ℕ) (bytes : List ℕ) → is_moving meaning ≡ false → is_expr meaning ≡ false → HasSize column meaning len size → SpellsShortest column.form meaning bytes → length bytes ≡ size
-size_kept column meaning len size bytes stays other h shortest =
+size_kept column meaning len size bytes stays other has shortest =
+    let h = own_size column meaning len size (no_local meaning stays) has in
     let same : renewed h.number h.made meaning ≡ meaning = kept h.number h.made meaning stays other in
     let written = subst (λ (z : Meaning). IsWritten column z h.bytes) same h.written in
-    least_len column meaning bytes h.bytes stays written shortest ∙ sym h.is
+    least_len column meaning bytes h.bytes written shortest ∙ sym h.is
 
 -- EXPRESSIONS
 
@@ -269,7 +275,7 @@ module _ (column : Spec) (made head : List ℕ) (is : column.form ≡ code_of fo
   }
 
   pub written_expr : IsWritten column (Expression made) (head ++ made)
-  written_expr = written_least column (Expression made) (head ++ made) (head ++ made) refl expr_spelled expr_shortest
+  written_expr = (expr_spelled, expr_shortest)
 
 some_head : (n : ℕ) → (head : List ℕ) × ShortestUnsigned n head
 some_head n = let b = unsigned_spellings.each_len n (least_unsigned_len n) (omega arith) in (b.0, (b.1, b.2))
@@ -285,16 +291,18 @@ expr_size column made bytes w =
     let small : AreBytes made = subst (λ (z : List ℕ). AreBytes z) (sym body) after in
     let head = some_head (length made) in
     let least = expr_shortest column made head.0 is small few head.1 in
-    sym (least_len column (Expression made) (head.0 ++ made) bytes refl w least) ∙ length-append head.0 made ∙ ap (λ (z : ℕ). z + length made) head.1.1
+    sym (least_len column (Expression made) (head.0 ++ made) bytes w least) ∙ length-append head.0 made ∙ ap (λ (z : ℕ). z + length made) head.1.1
 
 pub size_made : (column : Spec) (meaning : Meaning) (len size : ℕ) → is_expr meaning ≡ true → HasSize column meaning len size → least_unsigned_len len + len ≡ size
-size_made column meaning len size expr h =
+size_made column meaning len size expr has =
+    let h = own_size column meaning len size (no_local meaning (no_expr_moves meaning expr)) has in
     let written = subst (λ (z : Meaning). IsWritten column z h.bytes) (is_made h.number h.made meaning expr) h.written in
     sym (h.is ∙ expr_size column h.made h.bytes written ∙ ap (λ (z : ℕ). least_unsigned_len z + z) h.long)
 
 -- other bytes can stand in their place
 pub written_made : (column : Spec) (meaning : Meaning) (len size n : ℕ) (made head : List ℕ) → is_expr meaning ≡ true → HasSize column meaning len size → AreBytes made → length made < 2 ^ 64 → ShortestUnsigned (length made) head → IsWritten column (renewed n made meaning) (head ++ made)
-written_made column meaning len size n made head expr h small few short =
+written_made column meaning len size n made head expr has small few short =
+    let h = own_size column meaning len size (no_local meaning (no_expr_moves meaning expr)) has in
     let written = subst (λ (z : Meaning). IsWritten column z h.bytes) (is_made h.number h.made meaning expr) h.written in
     let is : column.form ≡ code_of form.Exprloc = expr_form column.form column.constant h.made h.bytes written.0 in
     subst (λ (z : Meaning). IsWritten column z (head ++ made)) (sym (is_made n made meaning expr)) (written_expr column made head is small few short)
@@ -315,7 +323,97 @@ expressions_have_sizes column bytes len few is =
       },
     )
 
--- NUMBERS
+-- ONE SIZE
+
+-- a value that moves, and is no reference within the unit, has four bytes
+four_bytes : (column : Spec) (meaning : Meaning) (bytes : List ℕ) → is_moving meaning ≡ true → is_local meaning ≡ false → IsWritten column meaning bytes → length bytes ≡ 4
+four_bytes column meaning bytes moves other (s, least) =
+    let four = four_number s.form column.constant meaning bytes moves other s.spelled in
+    (subst (λ (z : Shape). SpellsShape z meaning bytes) four.1 s.spelled).0
+
+pub moving_size : (column : Spec) (meaning : Meaning) (len size : ℕ) → is_moving meaning ≡ true → is_local meaning ≡ false → HasSize column meaning len size → size ≡ 4
+moving_size column meaning len size moves other has =
+    let h = own_size column meaning len size other has in
+    h.is ∙ four_bytes column (renewed h.number h.made meaning) h.bytes (moving_still h.number h.made meaning ∙ moves) (local_still h.number h.made meaning ∙ other) h.written
+
+-- and what is neither a number nor an expression has one size
+one_kept : (column : Spec) (meaning : Meaning) (len m n : ℕ) → is_moving meaning ≡ false → is_expr meaning ≡ false → HasSize column meaning len m → HasSize column meaning len n → m ≡ n
+one_kept column meaning len m n stays other has has2 =
+    let g = own_size column meaning len n (no_local meaning stays) has2 in
+    let written = subst (λ (z : Meaning). IsWritten column z g.bytes) (kept g.number g.made meaning stays other) g.written in
+    sym (size_kept column meaning len m g.bytes stays other has written.1) ∙ sym g.is
+
+local_form : (column : Spec) (meaning : Meaning) (len size : ℕ) → is_local meaning ≡ true → HasSize column meaning len size → (column.form ≡ code_of form.RefUdata) × (size ≡ len)
+local_form column (InUnit k) len size local h = h
+local_form column m len size local h = absurd (cc (local))
+
+pub one_size : OneSize
+one_size column meaning len m n h g =
+    elim (cases_Bool (is_local meaning)) [
+      | inl local ↦ (local_form column meaning len m local h).1 ∙ sym (local_form column meaning len n local g).1
+      | inr other ↦ elim (cases_Bool (is_moving meaning)) [
+        | inl moves ↦ moving_size column meaning len m moves other h ∙ sym (moving_size column meaning len n moves other g)
+        | inr stays ↦ elim (cases_Bool (is_expr meaning)) [
+          | inl expr ↦ sym (size_made column meaning len m expr h) ∙ size_made column meaning len n expr g
+          | inr kept ↦ one_kept column meaning len m n stays kept h g
+        ]
+      ]
+    ]
+
+-- REFERENCES WITHIN THE UNIT
+
+abbrev LocalShape : ℕ → List ℕ → Type 0
+LocalShape n bytes = SpellsShape (ByUleb role.LocalRef) (InUnit n) bytes
+
+local_shape : (code : ℕ) (c : ℤ) (n : ℕ) (bytes : List ℕ) → code ≡ code_of form.RefUdata → SpellsValue code c (InUnit n) bytes → LocalShape n bytes
+local_shape code c n bytes is s = in_form code form.RefUdata c (InUnit n) bytes (sym is) s
+
+same_local : (m n : ℕ) → InUnit m ≡ InUnit n → m ≡ n
+same_local m n e = cc
+
+local_least : (n : ℕ) (bytes : List ℕ) → LocalShape n bytes → least_unsigned_len n ≤ length bytes
+local_least n bytes p =
+    let same : n ≡ p.0 = same_local n p.0 p.2 in
+    let least : least_unsigned_len p.0 ≤ length bytes = unsigned_spellings.no_shorter bytes p.0 p.1.0 in
+    let here : least_unsigned_len n ≡ least_unsigned_len p.0 = ap least_unsigned_len same in
+    omega arith
+
+-- a number in its shortest LEB128 bytes
+pub written_local : (column : Spec) (n : ℕ) (bytes : List ℕ) → column.form ≡ code_of form.RefUdata → n < 2 ^ 64 → ShortestUnsigned n bytes → IsWritten column (InUnit n) bytes
+written_local column n bytes is few short =
+    let shape : LocalShape n bytes = (n, (short.0, few), refl) in
+    let spelled : SpellsValue column.form column.constant (InUnit n) bytes = record { form = form.RefUdata; known = sym is; small = short.0.0.byte; spelled = shape } in (
+      spelled,
+      record {
+        constant = column.constant;
+        spelled = spelled;
+        shortest = λ constant others s.
+            let least : least_unsigned_len n ≤ length others = local_least n others (local_shape column.form constant n others is s) in
+            omega (arith, short.1);
+        flag = λ flag. absurd (let no : code_of form.RefUdata ≡ code_of form.Flag = sym is ∙ flag in omega arith);
+      },
+    )
+
+-- which are all that can be written in that form
+local_len : (column : Spec) (n : ℕ) (bytes : List ℕ) → column.form ≡ code_of form.RefUdata → IsWritten column (InUnit n) bytes → length bytes ≡ least_unsigned_len n
+local_len column n bytes is w =
+    let shape = local_shape column.form column.constant n bytes is w.0 in
+    let same : n ≡ shape.0 = same_local n shape.0 shape.2 in
+    let few : shape.0 < 2 ^ 64 = shape.1.1 in
+    let head = some_head n in
+    let least = written_local column n head.0 is (omega arith) head.1 in
+    sym (least_len column (InUnit n) head.0 bytes w least.1) ∙ head.1.1
+
+-- how many bytes a value has that gets a number, where an expression has so many
+abbrev pub len_anew : Meaning → ℕ → ℕ → ℕ
+len_anew meaning n len = if is_local meaning then least_unsigned_len n else len
+
+-- the bytes of a value have its size
+pub size_written : (column : Spec) (meaning : Meaning) (n len size : ℕ) (made bytes : List ℕ) → HasSize column meaning (len_anew meaning n len) size → length made ≡ len → IsWritten column (renewed n made meaning) bytes → HasSize column meaning (len_anew meaning n len) (length bytes)
+size_written column (InUnit k) n len size made bytes h long w = (h.0, local_len column n bytes h.0 w)
+size_written column m n len size made bytes h long w = record { number = n; made = made; long = long; bytes = bytes; written = w; is = refl }
+
+-- NUMBERS OF FOUR BYTES
 
 number_any : (f : Form) (c d : ℤ) (w : Width) (r : Role) → shape_of f c ≡ Number w r → shape_of f d ≡ Number w r
 number_any form.ImplicitConst c d w r e = absurd (cc (e))
@@ -327,138 +425,72 @@ fixed_len code f c d w r m bytes known fixed s =
     let p = subst (λ (z : Shape). SpellsShape z m bytes) (number_any f c d w r fixed) (in_form code f d m bytes known s) in
     p.0
 
-moves_shape : (column : Spec) (meaning : Meaning) (k : ℕ) (made bytes : List ℕ) (f : Form) → is_moving meaning ≡ true → SpellsValue column.form column.constant (renewed k made meaning) bytes → code_of f ≡ column.form → shape_moves (shape_of f column.constant) ≡ true
-moves_shape column meaning k made bytes f moves s known =
-    sym (shape_is (shape_of f column.constant) (renewed k made meaning) bytes (in_form column.form f column.constant (renewed k made meaning) bytes known s)) ∙ moving_still k made meaning ∙ moves
-
--- a value that moves has one size
-moving_len : (column : Spec) (meaning : Meaning) (k l : ℕ) (old made a b : List ℕ) → is_moving meaning ≡ true → IsWritten column (renewed k old meaning) a → IsWritten column (renewed l made meaning) b → length a ≡ length b
-moving_len column meaning k l old made a b moves (p, inl (leb, five)) (q, inl (leb2, five2)) = five ∙ sym five2
-moving_len column meaning k l old made a b moves (p, inl (leb, five)) (q, inr (other, least)) = absurd (other leb)
-moving_len column meaning k l old made a b moves (p, inr (other, least)) (q, inl (leb, five)) = absurd (other leb)
-moving_len column meaning k l old made a b moves (p, inr (other, least)) (q, inr (other2, least2)) =
-    let f : Form = p.form in
-    let fixed = number_or_leb f column.constant (moves_shape column meaning k old a f moves p p.known) (λ (leb : code_of f ≡ code_of form.RefUdata). other (sym p.known ∙ leb)) in
-    fixed_len column.form f column.constant column.constant fixed.0 fixed.1 (renewed k old meaning) a p.known fixed.2 p ∙ sym (fixed_len column.form f column.constant column.constant fixed.0 fixed.1 (renewed l made meaning) b p.known fixed.2 q)
-
--- and so has one that is neither a number nor an expression
-kept_len : (column : Spec) (meaning : Meaning) (a b : List ℕ) → is_moving meaning ≡ false → IsWritten column meaning a → IsWritten column meaning b → length a ≡ length b
-kept_len column meaning a b stays p (q, inl (leb, five)) = absurd (not_leb column.form column.constant meaning b stays q leb)
-kept_len column meaning a b stays p (q, inr (other, least)) = sym (least_len column meaning b a stays p least)
-
-one_kept : (column : Spec) (meaning : Meaning) (len m n : ℕ) → is_moving meaning ≡ false → is_expr meaning ≡ false → HasSize column meaning len m → HasSize column meaning len n → m ≡ n
-one_kept column meaning len m n stays other h g =
-    let first = subst (λ (z : Meaning). IsWritten column z h.bytes) (kept h.number h.made meaning stays other) h.written in
-    let second = subst (λ (z : Meaning). IsWritten column z g.bytes) (kept g.number g.made meaning stays other) g.written in
-    h.is ∙ kept_len column meaning h.bytes g.bytes stays first second ∙ sym g.is
-
-pub one_size : OneSize
-one_size column meaning len m n h g =
-    elim (cases_Bool (is_moving meaning)) [
-      | inl moves ↦ h.is ∙ moving_len column meaning h.number g.number h.made g.made h.bytes g.bytes moves h.written g.written ∙ sym g.is
-      | inr stays ↦ elim (cases_Bool (is_expr meaning)) [
-        | inl expr ↦ sym (size_made column meaning len m expr h) ∙ size_made column meaning len n expr g
-        | inr other ↦ one_kept column meaning len m n stays other h g
-      ]
-    ]
-
--- a number in five bytes of LEB128
-written_leb : (column : Spec) (meaning : Meaning) (n : ℕ) (bytes : List ℕ) → column.form ≡ code_of form.RefUdata → meaning ≡ InUnit n → n < 2 ^ 32 → PaddedUnsigned 5 n bytes → IsWritten column meaning bytes
-written_leb column meaning n bytes leb means few put =
-    (record { form = form.RefUdata; known = sym leb; small = put.0.0.byte; spelled = (n, (put.0, omega arith), means) }, inl (leb, put.1))
-
-module _ (column : Spec) (meaning : Meaning) (n : ℕ) (bytes : List ℕ) (f : Form) (w : Width) (r : Role) (known : code_of f ≡ column.form) (fixed : shape_of f column.constant ≡ Number w r) where
-  -- a number of fixed size spells the value
-  number_spelled : meaning ≡ in_role r w n → n < 256 ^ size_of w → bytes ≡ low_bytes w n → SpellsValue column.form column.constant meaning bytes
-  number_spelled means few put =
-      let back : number (size_of w) bytes ≡ n = ap (number (size_of w)) put ∙ number_low w n few in
-      let shape : SpellsShape (Number w r) meaning bytes = (ap length put ∙ low_len w n, means ∙ ap (in_role r w) (sym back)) in
+module _ (column : Spec) (meaning : Meaning) (n : ℕ) (f : Form) (r : Role) (known : code_of f ≡ column.form) (fixed : shape_of f column.constant ≡ Number Four r) (means : meaning ≡ in_role r Four n) (few : n < 2 ^ 32) where
+  -- a number of four bytes spells the value
+  number_spelled : SpellsValue column.form column.constant meaning (low_bytes Four n)
+  number_spelled =
+      let back : number 4 (low_bytes Four n) ≡ n = number_low Four n (omega arith) in
+      let shape : SpellsShape (Number Four r) meaning (low_bytes Four n) = (low_len Four n, means ∙ ap (in_role r Four) (sym back)) in
       record {
         form = f;
         known = known;
-        small = subst (λ (z : List ℕ). AreBytes z) (sym put) (low_small 0 (size_of w) n);
-        spelled = subst (λ (z : Shape). SpellsShape z meaning bytes) (sym fixed) shape;
+        small = low_small 0 4 n;
+        spelled = subst (λ (z : Shape). SpellsShape z meaning (low_bytes Four n)) (sym fixed) shape;
       }
 
   -- which is no flag, as it moves
   no_flag : role_moves r ≡ true → column.form ≢ code_of form.Flag
   no_flag moves is =
       let same : f ≡ form.Flag = code_once f form.Flag (known ∙ is) in
-      let flag : Number One role.Truth ≡ Number w r = sym (ap (λ (z : Form). shape_of z column.constant) same) ∙ fixed in
-      let truth : shape_moves (Number w r) ≡ false = sym (ap shape_moves flag) in
+      let flag : Number One role.Truth ≡ Number Four r = sym (ap (λ (z : Form). shape_of z column.constant) same) ∙ fixed in
+      let truth : shape_moves (Number Four r) ≡ false = sym (ap shape_moves flag) in
       absurd (cc (truth, moves))
 
-  written_number : role_moves r ≡ true → column.form ≢ code_of form.RefUdata → meaning ≡ in_role r w n → n < 256 ^ size_of w → bytes ≡ low_bytes w n → IsWritten column meaning bytes
-  written_number moves other means few put =
-      let spelled = number_spelled means few put in (
-        spelled,
-        inr (
-          other,
-          record {
-            constant = column.constant;
-            spelled = spelled;
-            shortest = λ constant more t. omega (arith, fixed_len column.form f column.constant constant w r meaning more known fixed t, ap length put ∙ low_len w n);
-            flag = λ is. absurd (no_flag moves is);
-          },
-        ),
-      )
+  written_number : role_moves r ≡ true → IsWritten column meaning (low_bytes Four n)
+  written_number moves = (
+    number_spelled,
+    record {
+      constant = column.constant;
+      spelled = number_spelled;
+      shortest = λ constant more t. omega (arith, fixed_len column.form f column.constant constant Four r meaning more known fixed t, low_len Four n);
+      flag = λ is. absurd (no_flag moves is);
+    },
+  )
 
-moved_as : (column : Spec) (meaning : Meaning) (k n : ℕ) (old made : List ℕ) (f : Form) (bytes others : List ℕ) → is_moving meaning ≡ true → IsWritten column (renewed k old meaning) others → code_of f ≡ column.form → IsRoomy column → n < 2 ^ 32 → PutsNumber (shape_of f column.constant) n bytes → IsWritten column (renewed n made meaning) bytes
-moved_as column meaning k n old made f bytes others moves (s, inl (leb, five)) known roomy few put =
-    let same : f ≡ form.RefUdata = code_once f form.RefUdata (known ∙ leb) in
-    let shape = in_form column.form form.RefUdata column.constant (renewed k old meaning) others (sym leb) s in
-    let means : renewed n made meaning ≡ InUnit n = renumbered role.LocalRef Eight Eight shape.0 k n old made meaning refl shape.2 in
-    written_leb column (renewed n made meaning) n bytes leb means few (subst (λ (z : Form). PutsNumber (shape_of z column.constant) n bytes) same put)
-moved_as column meaning k n old made f bytes others moves (s, inr (other, least)) known roomy few put =
-    let shape = moves_shape column meaning k old others f moves s known in
-    let fixed = roomy_width f column.constant shape (λ (is : code_of f ≡ code_of form.RefUdata). other (sym known ∙ is)) (λ (is : code_of f ≡ code_of form.Ref1). roomy.0 (sym known ∙ is)) (λ (is : code_of f ≡ code_of form.Ref2). roomy.1 (sym known ∙ is)) in
-    let role : role_moves fixed.1 ≡ true = sym (ap shape_moves fixed.2) ∙ shape in
-    let low : bytes ≡ low_bytes fixed.0 n = subst (λ (z : Shape). PutsNumber z n bytes) fixed.2 put in
-    let before = subst (λ (z : Shape). SpellsShape z (renewed k old meaning) others) fixed.2 (in_form column.form f column.constant (renewed k old meaning) others known s) in
-    let means : renewed n made meaning ≡ in_role fixed.1 fixed.0 n = renumbered fixed.1 fixed.0 fixed.0 (number (size_of fixed.0) others) k n old made meaning role before.1 in
-    written_number column (renewed n made meaning) n bytes f fixed.0 fixed.1 known fixed.2 role other means (fixed.3 n few) low
-
-pub written_moved : (column : Spec) (meaning : Meaning) (len size n : ℕ) (made : List ℕ) (f : Form) (bytes : List ℕ) → is_moving meaning ≡ true → HasSize column meaning len size → code_of f ≡ column.form → IsRoomy column → n < 2 ^ 32 → PutsNumber (shape_of f column.constant) n bytes → IsWritten column (renewed n made meaning) bytes
-written_moved column meaning len size n made f bytes moves h known roomy few put =
-    moved_as column meaning h.number n h.made made f bytes h.bytes moves h.written known roomy few put
+-- the number of a value that moves can be replaced
+pub written_moved : (column : Spec) (meaning : Meaning) (len size n : ℕ) (made : List ℕ) → is_moving meaning ≡ true → is_local meaning ≡ false → HasSize column meaning len size → n < 2 ^ 32 → IsWritten column (renewed n made meaning) (low_bytes Four n)
+written_moved column meaning len size n made moves other has few =
+    let h = own_size column meaning len size other has in
+    let s = h.written.0 in
+    let four = four_number s.form column.constant (renewed h.number h.made meaning) h.bytes (moving_still h.number h.made meaning ∙ moves) (local_still h.number h.made meaning ∙ other) s.spelled in
+    let before = subst (λ (z : Shape). SpellsShape z (renewed h.number h.made meaning) h.bytes) four.1 s.spelled in
+    let means : renewed n made meaning ≡ in_role four.0 Four n = renumbered four.0 Four Four (number 4 h.bytes) h.number n h.made made meaning four.2 before.1 in
+    written_number column (renewed n made meaning) n s.form four.0 s.known four.1 means few four.2
 
 pub five_bytes : (n : ℕ) → n < 2 ^ 32 → least_unsigned_len n ≤ 5
 five_bytes n few = (unsigned_lens.enough n 5).0 (record { some = omega arith; below = omega arith })
 
--- a number of fixed size that moves has the size of its form
-fixed_has_size : (column : Spec) (meaning : Meaning) (len : ℕ) (f : Form) (w : Width) (r : Role) → column.form ≡ code_of f → shape_of f column.constant ≡ Number w r → role_moves r ≡ true → code_of f ≢ code_of form.RefUdata → renewed 0 (zeros len) meaning ≡ in_role r w 0 → HasSize column meaning len (size_of w)
-fixed_has_size column meaning len f w r known fixed moves other means = record {
+-- a number of four bytes that moves has the size of its form
+four_has_size : (column : Spec) (meaning : Meaning) (len : ℕ) (f : Form) (r : Role) → column.form ≡ code_of f → shape_of f column.constant ≡ Number Four r → role_moves r ≡ true → renewed 0 (zeros len) meaning ≡ in_role r Four 0 → HasOwnSize column meaning len 4
+four_has_size column meaning len f r known fixed moves means = record {
   number = 0;
   made = zeros len;
   long = zeros_len len;
-  bytes = low_bytes w 0;
-  written = written_number column (renewed 0 (zeros len) meaning) 0 (low_bytes w 0) f w r (sym known) fixed moves (λ (is : column.form ≡ code_of form.RefUdata). other (sym known ∙ is)) means (some_room w) refl;
-  is = sym (low_len w 0);
+  bytes = low_bytes Four 0;
+  written = written_number column (renewed 0 (zeros len) meaning) 0 f r (sym known) fixed means (omega arith) moves;
+  is = sym (low_len Four 0);
 }
-  where
-    some_room : (w : Width) → 0 < 256 ^ size_of w
-    some_room One = omega arith
-    some_room Two = omega arith
-    some_room Three = omega arith
-    some_room Four = omega arith
-    some_room Eight = omega arith
-
-leb_has_size : (column : Spec) (n len : ℕ) → column.form ≡ code_of form.RefUdata → HasSize column (InUnit n) len 5
-leb_has_size column n len e =
-    let b = unsigned_spellings.each_len 0 5 (five_bytes 0 (omega arith)) in
-    record {
-      number = 0;
-      made = zeros len;
-      long = zeros_len len;
-      bytes = b.0;
-      written = written_leb column (InUnit 0) 0 b.0 e refl (omega arith) (b.1, b.2);
-      is = sym b.2;
-    }
 
 pub numbers_have_sizes : NumbersHaveSizes
-numbers_have_sizes column (InUnit n) len (inl e) = (4, fixed_has_size column (InUnit n) len form.Ref4 Four role.LocalRef e refl refl (λ is. absurd (omega (arith, is))) refl)
-numbers_have_sizes column (InUnit n) len (inr (inl e)) = (8, fixed_has_size column (InUnit n) len form.Ref8 Eight role.LocalRef e refl refl (λ is. absurd (omega (arith, is))) refl)
-numbers_have_sizes column (InUnit n) len (inr (inr e)) = (5, leb_has_size column n len e)
-numbers_have_sizes column (InSection n) len e = (4, fixed_has_size column (InSection n) len form.RefAddr Four role.SectionRef e refl refl (λ is. absurd (omega (arith, is))) refl)
-numbers_have_sizes column (SectionPlace n) len e = (4, fixed_has_size column (SectionPlace n) len form.SecOffset Four role.Offset e refl refl (λ is. absurd (omega (arith, is))) refl)
+numbers_have_sizes column (InUnit n) len e = (len, (e, refl))
+numbers_have_sizes column (InSection n) len e = (4, four_has_size column (InSection n) len form.RefAddr role.SectionRef e refl refl refl)
+numbers_have_sizes column (SectionPlace n) len e = (4, four_has_size column (SectionPlace n) len form.SecOffset role.Offset e refl refl refl)
 numbers_have_sizes column meaning len none = absurd none
+
+-- what is no number and no expression
+pub other_value : (section : List ℕ) (v : Value) → ((span : Span) → v ≡ value.Expr span → ⊥) → ((n : ℕ) → v ≡ value.LocalRef n → ⊥) → ((n : ℕ) → v ≡ value.SectionRef n → ⊥) → ((n : ℕ) → v ≡ value.Offset n → ⊥) → (is_moving (meant_in section v) ≡ false) × (is_expr (meant_in section v) ≡ false)
+other_value section (value.Expr span) a b c d = absurd (a span refl)
+other_value section (value.LocalRef n) a b c d = absurd (b n refl)
+other_value section (value.SectionRef n) a b c d = absurd (c n refl)
+other_value section (value.Offset n) a b c d = absurd (d n refl)
+other_value section v a b c d = (refl, refl)

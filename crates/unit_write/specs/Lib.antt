@@ -4,4 +4,6 @@ pub mod Placing
 pub mod Moved
 pub mod Sizes
 pub mod Most
+pub mod Lens
+pub mod Slots
 pub mod inside

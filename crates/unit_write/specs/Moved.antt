@@ -1,8 +1,6 @@
 -- A unit that is written anew behind other bytes of .debug_info.
 use Rattle.std.specs.Prelude.{◌≡◌, ◌≢◌, ◌<◌, ◌+◌, ◌-◌, ℕ, List, length, map, slice_index}
 use Rattle.std.specs.List.{All, AllZip}
-use Rattle.form_codec.specs.declared.form.Form.TheVariants.{Ref1, Ref2}
-use Rattle.form_codec.specs.Forms.{code_of}
 use Rattle.form_codec.specs.Values.{meant_in}
 use Rattle.abbrev_tables.specs.declared.decl.Spec.{Spec}
 use Rattle.abbrev_tables.specs.Tables.{Declared}
@@ -18,7 +16,7 @@ use Rattle.entry_read.specs.Units.{HeadAndForest, entries_at, declarations_of, I
 use Rattle.entry_read.specs.Short.{StandsShort, EndsShort}
 use Rattle.unit_write.specs.declared.write.NewNumbers.{NewNumbers}
 use Rattle.unit_write.specs.Values.{renewed}
-use Rattle.unit_write.specs.NewExpressions.{lens_of, made_of}
+use Rattle.unit_write.specs.NewExpressions.{lens_of, made_of, with_numbers}
 use Rattle.unit_write.specs.Placing.{EntrySize, ArePlaced}
 
 -- an entry is where it was among the entries, with the declaration that has its new number
@@ -42,24 +40,24 @@ pub record NewValues : Type 0 where
 abbrev pub new_values : NewNumbers → NewValues
 new_values new = record { held = new.held.items; ends = new.ends.items; expressions = new.expressions.items }
 
+-- how many bytes each value has that is an expression or a reference within the unit
+abbrev pub lens_anew : Arena → NewValues → List ℕ
+lens_anew f anew = with_numbers f.section f.values anew.held (lens_of anew.ends)
+
 -- There are as many values. Each means what it meant, but that references and section offsets have these numbers, and expressions
 -- these bytes.
 pub record AreMovedValues (f : Arena) (anew : NewValues) (section : List ℕ) (new : Listed) : Type 0 where
   pub count : length new.values ≡ length f.values
   pub each : (k : ℕ) → k < length f.values → meant_in section (value_at new.values k) ≡ renewed (slice_index anew.held k) (made_of anew.ends anew.expressions k) (meant_in f.section (value_at f.values k))
 
--- a reference of this form has room for any number that fits 32 bits
-abbrev pub IsRoomy : Spec → Type 0
-IsRoomy column = (column.form ≢ code_of Ref1) × (column.form ≢ code_of Ref2)
-
 -- What is needed of a unit that is to be written: it is held of its section, by the declarations of a table; the declaration of
--- each entry is used; and something can be written for each value in its new column, where expressions have so many bytes.
+-- each entry is used; and something can be written for each value in its new column, where expressions and references within the unit
+-- are taken to have so many bytes.
 pub record IsWritable (unit : HeadAndForest) (table : Listing) (columns : List Spec) (numbers lens : List ℕ) : Type 0 where
   pub head : IsHead unit.forest.section unit.head
   pub held : IsUnitHeld unit.forest.section unit.head (declarations_of table) unit.forest
   pub numbered : length numbers ≡ length table.decls
   pub renewed : length columns ≡ length table.specs
-  pub roomy : All IsRoomy columns
   pub used : (id : ℕ) → id < length unit.forest.entries → slice_index numbers (entry_at unit.forest.entries id).decl ≢ 0
   pub sized : (id : ℕ) → id < length unit.forest.entries → (size : ℕ) × EntrySize table columns numbers unit.forest lens id size
 
@@ -92,4 +90,4 @@ pub record IsWrittenAnew (unit : HeadAndForest) (table : Listing) (columns : Lis
   pub ends : AllZip IsMovedEnd unit.forest.ends forest.ends
   pub short : (id : ℕ) → id < length forest.entries → StandsShort section ds forest.values (entry_at forest.entries id)
   pub ends_short : All (EndsShort section) forest.ends
-  pub placed : IsPlacedAt unit table columns numbers (lens_of anew.ends) start (map (λ (e : Entry). e.at) forest.entries) (map (λ (e : ChainEnd). e.at) forest.ends) (length section)
+  pub placed : IsPlacedAt unit table columns numbers (lens_anew unit.forest anew) start (map (λ (e : Entry). e.at) forest.entries) (map (λ (e : ChainEnd). e.at) forest.ends) (length section)

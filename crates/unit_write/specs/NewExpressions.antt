@@ -5,7 +5,10 @@ use Rattle.expr_ops.specs.declared.op.Op.{Op}
 use Rattle.expr_ops.specs.Ops.{all_meant}
 use Rattle.expr_ops.specs.Drafts.{has_reference}
 use Rattle.expr_ops.specs.Plain.{plain_length, IsWrittenPlain}
-use Rattle.form_codec.specs.Values.{bytes_in}
+use Rattle.form_codec.specs.Values.{bytes_in, meant_in}
+use Rattle.form_codec.specs.declared.value.Value.{Value}
+use Rattle.leb_codec.specs.Leb.{least_unsigned_len}
+use Rattle.entry_read.specs.Locals.{is_local}
 use Rattle.entry_arena.specs.Arena.{Arena}
 use Rattle.entry_arena.specs.Operations.{HeldOps, ops_of, for_value}
 use Rattle.entry_read.specs.Expressions.{IsExprAt}
@@ -26,6 +29,13 @@ lens_of ends = lens_from 0 ends
 -- the bytes of the expression of a value
 abbrev pub made_of : List ℕ → List ℕ → ℕ → List ℕ
 made_of ends bytes k = take (slice_index ends k - begin_of ends k) (drop (begin_of ends k) bytes)
+
+-- Each reference within the unit, of which these are the new numbers, has as many bytes as its number needs; each other value has what
+-- this list of lengths says.
+abbrev pub with_numbers : List ℕ → List Value → List ℕ → List ℕ → List ℕ
+with_numbers section [] numbers lens = []
+with_numbers section (v ∷ vs) (n ∷ ns) (len ∷ lens) = (if is_local (meant_in section v) then least_unsigned_len n else len) ∷ with_numbers section vs ns lens
+with_numbers section (v ∷ vs) numbers lens = []
 
 -- they rise, one for each of so many values, up to so many bytes
 pub record EndsRise (ends : List ℕ) (count most : ℕ) : Type 0 where

@@ -25,7 +25,7 @@ abbrev pub among_values : {A : Type 0} → Arena → List A → ℕ → List A
 among_values f items id = take (entry_at f.entries id).count (drop (entry_at f.entries id).first items)
 
 -- So many bytes are written for an entry: the new code of its declaration, and its values in the new columns. `lens` has the bytes of
--- each value's expression.
+-- each value that is an expression or a reference within the unit.
 abbrev pub EntrySize : Listing → List Spec → List ℕ → Arena → List ℕ → ℕ → ℕ → Type 0
 EntrySize table columns numbers f lens id size =
     (rest : ℕ) × HaveSize f.section (columns_of table columns (entry_at f.entries id).decl) (values_in f id) (among_values f lens id) rest × (size ≡ least_unsigned_len (slice_index numbers (entry_at f.entries id).decl) + rest)

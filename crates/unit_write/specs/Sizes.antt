@@ -1,6 +1,6 @@
 -- In which columns something can be written for a value: what callers show of a unit that is to be written.
-use Rattle.std.specs.Prelude.{◌≡◌, ◌<◌, ◌^◌, ◌⊎◌, ℕ, List, length, false}
-use Rattle.form_codec.specs.declared.form.Form.TheVariants.{Exprloc, Ref4, Ref8, RefUdata, RefAddr, SecOffset}
+use Rattle.std.specs.Prelude.{◌≡◌, ◌<◌, ◌^◌, ℕ, List, length, false}
+use Rattle.form_codec.specs.declared.form.Form.TheVariants.{Exprloc, RefUdata, RefAddr, SecOffset}
 use Rattle.form_codec.specs.Forms.{Meaning, code_of, SpellsValue, SpellsShortest}
 use Rattle.form_codec.specs.Forms.Meaning.{Expression, InUnit, InSection, SectionPlace}
 use Rattle.abbrev_tables.specs.declared.decl.Spec.{Spec}
@@ -10,9 +10,9 @@ abbrev pub IsExpr : Meaning → Type 0
 IsExpr (Expression bytes) = Unit {0}
 IsExpr meaning = ⊥
 
--- a reference or a section offset in a form that has room for it (DWARF 5 sections 7.5.5 and 7.5.6)
+-- a reference or a section offset in the form in which it is written (DWARF 5 sections 7.5.5 and 7.5.6)
 abbrev pub HoldsNumber : ℕ → Meaning → Type 0
-HoldsNumber form (InUnit n) = (form ≡ code_of Ref4) ⊎ ((form ≡ code_of Ref8) ⊎ (form ≡ code_of RefUdata))
+HoldsNumber form (InUnit n) = form ≡ code_of RefUdata
 HoldsNumber form (InSection n) = form ≡ code_of RefAddr
 HoldsNumber form (SectionPlace n) = form ≡ code_of SecOffset
 HoldsNumber form meaning = ⊥

@@ -3,3 +3,4 @@ pub mod Most
 pub mod Puts
 pub mod Readings
 pub mod Expressions
+pub mod Marks

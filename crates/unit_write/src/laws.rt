@@ -4,9 +4,11 @@ ghost use Rattle.spelled.specs.Spelled.{AreBytes};
 ghost use Rattle.unit_write.specs.Values.{OneSize};
 ghost use Rattle.unit_write.specs.Placing.{OnePlacing};
 ghost use Rattle.unit_write.specs.NewExpressions.{OnePlainEnds};
+ghost use Rattle.unit_write.specs.Slots.{LayoutsHold};
 ghost use Rattle.unit_write.specs.Sizes.{NumbersHaveSizes, ExpressionsHaveSizes, ShortestHaveSizes};
 
-/// A law: the bytes that are written for a value in a column have one size, whatever number stands in the value.
+/// A law: the bytes that are written for a value in a column have one size, whatever number stands in the value. That of a reference
+/// within the unit is the one that it is given.
 pub fn one_size()
     ensures { OneSize }
 {}
@@ -17,12 +19,18 @@ pub fn one_placing()
     ensures { OnePlacing }
 {}
 
+/// A law: in a least layout each reference within a unit has as many bytes as its number needs. So what `lay_out` gives is how long the
+/// references are that are written with the numbers of their places.
+pub fn layouts_hold()
+    ensures { LayoutsHold }
+{}
+
 /// A law: where the new bytes of a unit's expressions end is one list.
 pub fn one_ends()
     ensures { OnePlainEnds }
 {}
 
-/// Laws: something can be written for a reference or a section offset in a form that has room for it, whatever its number, for an
+/// Laws: something can be written for a reference or a section offset in the form in which it is written, whatever its number, for an
 /// expression in DW_FORM_exprloc, whatever its bytes, and for another value that its column's form and constant spell. So callers show
 /// that a unit can be written.
 pub fn values_have_sizes()

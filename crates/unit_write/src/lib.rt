@@ -8,12 +8,14 @@ mod parts;
 #[cfg(test)]
 mod place_tests;
 mod places;
+mod slots;
 mod values;
 mod write;
 #[cfg(test)]
 mod write_tests;
 
 pub use expressions::{expression_ends, write_expressions};
-pub use laws::{bytes_are_small, one_ends, one_placing, one_size, values_have_sizes};
+pub use laws::{bytes_are_small, layouts_hold, one_ends, one_placing, one_size, values_have_sizes};
 pub use places::{Places, place_unit};
+pub use slots::{Spot, lay_out, slots_of};
 pub use write::{NewNumbers, write_unit};

@@ -45,10 +45,9 @@ fn values_have_sizes(rt: HostRuntime) {
         (0x08, Value::Text(span), 0, 4),
         (0x18, Value::Expr(span), 127, 128),
         (0x18, Value::Expr(span), 128, 130),
-        // references have the bytes of their forms whatever their numbers, and DW_FORM_ref_udata has five
-        (0x13, Value::LocalRef(0), 0, 4),
-        (0x14, Value::LocalRef(0), 0, 8),
-        (0x15, Value::LocalRef(0), 0, 5),
+        // a reference in DW_FORM_ref_udata has the bytes that it is given, and others have four
+        (0x15, Value::LocalRef(0), 1, 1),
+        (0x15, Value::LocalRef(0), 3, 3),
         (0x10, Value::SectionRef(1), 0, 4),
         (0x17, Value::Offset(1), 0, 4),
     ];
@@ -102,8 +101,8 @@ fn place_bare(
     if !has_room(unit, start) {
         return Err("no room")?;
     }
-    let ends = Vec::new(alloc);
-    Ok(place_unit(alloc, unit, table, &Vec::new(alloc), &numbers, &ends, start))
+    let lens = Vec::new(alloc);
+    Ok(place_unit(alloc, unit, table, &Vec::new(alloc), &numbers, &lens, start))
 }
 
 // The places of a unit of a section.

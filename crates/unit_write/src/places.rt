@@ -5,7 +5,7 @@ ghost use Rattle.leb_codec.specs.Leb.{least_unsigned_len};
 ghost use Rattle.form_codec.specs.Values.{IsValueIn};
 ghost use Rattle.entry_arena.specs.Arena.{entry_at};
 ghost use Rattle.fixed_width.specs.InitialLengths.{least_reserved};
-ghost use Rattle.unit_write.specs.NewExpressions.{AreEndsFor, lens_from, lens_of};
+ghost use Rattle.unit_write.specs.Lens.{AreLensFor};
 ghost use Rattle.unit_write.specs.Values.{HaveSize};
 ghost use Rattle.unit_write.specs.Placing.{EntrySize, values_in};
 ghost use Rattle.unit_write.specs.Most.{most_bytes};
@@ -15,7 +15,7 @@ ghost use Rattle.unit_write.specs.inside.Readings.{AreStanding, HasItem, PutsIte
 
 use crate::items::{Items, Next};
 use crate::laws::bytes_are_small;
-use crate::parts::{begin_of, new_columns, part, values_of};
+use crate::parts::{new_columns, part, values_of};
 use crate::values::written_size;
 use abbrev_tables::{Spec, Table};
 use dw_base::NoMemory;
@@ -38,25 +38,22 @@ pub struct Places {
     pub end: u64,
 }
 
-// Contracts see the new codes as a list of numbers. Each is below 2^32.
-fn numbers_are_small(numbers: &Vec<u32>)
+// Contracts see new codes, and how many bytes values take, as lists of numbers. Each is below 2^32.
+pub(crate) fn numbers_are_small(numbers: &Vec<u32>)
     ensures { All (λ number. number < 2 ^ 32) numbers.now.items }
 {
     let _numbers = numbers;
 }
 
-/// The place after the values of columns, which are written from a place on (DWARF 5 section 7.5.2). Both count from the
-/// section's first byte. `ends` says of each value where the new bytes of its expression end, and those of the first one begin at
-/// `begin`.
-fn after_values(columns: &[Spec], values: &[Value], ends: &[u32], begin: u32, at: u64) -> u64
-    requires { HaveRoom columns.now values.now (lens_from begin ends.now) at }
-    ensures { (section : List ℕ) (size : ℕ) → length section < 2 ^ 63 → All (IsValueIn section) values.now → HaveSize section columns.now values.now (lens_from begin ends.now) size → result ≡ at + size }
+// The place after the values of columns, which are written from a place on (DWARF 5 section 7.5.2). Both count from the
+// section's first byte. `lens` has the bytes of each value that is an expression or a reference within the unit.
+fn after_values(columns: &[Spec], values: &[Value], lens: &[u32], at: u64) -> u64
+    requires { HaveRoom columns.now values.now lens.now at }
+    ensures { (section : List ℕ) (size : ℕ) → length section < 2 ^ 63 → All (IsValueIn section) values.now → HaveSize section columns.now values.now lens.now size → result ≡ at + size }
 {
     let mut to = at;
-    let mut from = begin;
-    for ((column, value), end) in columns.iter().zip(values).zip(ends) {
-        to += written_size(*column, value, end.saturating_sub(from));
-        from = *end;
+    for ((column, value), len) in columns.iter().zip(values).zip(lens) {
+        to += written_size(*column, value, *len);
     }
     to
 }
@@ -75,31 +72,24 @@ fn after_entry(
     decls: &Table,
     specs: &Vec<Spec>,
     numbers: &Vec<u32>,
-    ends: &Vec<u32>,
+    lens: &Vec<u32>,
     id: u32,
     at: u64,
 ) -> u64
     requires id { id < length forest.now.entries }
     requires declared { (entry_at forest.now.entries id).decl < length decls.now.decls }
     requires numbered { length numbers.now.items ≡ length decls.now.decls }
-    requires ends { length ends.now.items ≡ length forest.now.values }
     requires stands { AreStanding forest.now.section (values_in forest.now id) }
-    requires room { (size : ℕ) × EntrySize decls.now specs.now.items numbers.now.items forest.now (lens_of ends.now.items) id size × (at + size < least_reserved) }
-    ensures { (size : ℕ) → EntrySize decls.now specs.now.items numbers.now.items forest.now (lens_of ends.now.items) id size → result ≡ at + size }
+    requires room { (size : ℕ) × EntrySize decls.now specs.now.items numbers.now.items forest.now lens.now.items id size × (at + size < least_reserved) }
+    ensures { (size : ℕ) → EntrySize decls.now specs.now.items numbers.now.items forest.now lens.now.items id size → result ≡ at + size }
 {
     bytes_are_small(forest.section());
     let entry = forest.entry(id);
     let values_at = at + code_size(numbers, entry.decl);
     let columns = new_columns(decls, specs, entry.decl);
     let values = values_of(forest, id);
-    let begin = begin_of(ends, entry.first as usize);
-    after_values(
-        columns,
-        values,
-        part(ends, entry.first, entry.count),
-        begin,
-        values_at,
-    )
+    let own = part(lens, entry.first, entry.count);
+    after_values(columns, values, own, values_at)
 }
 
 // Puts what stands next behind all that has its place.
@@ -109,22 +99,21 @@ fn place_next(
     decls: &Table,
     specs: &Vec<Spec>,
     numbers: &Vec<u32>,
-    ends: &Vec<u32>,
+    lens: &Vec<u32>,
     next: Next,
 ) -> Result<(), NoMemory>
     requires fits { places.old.end < least_reserved }
-    requires writable { IsWritable unit.now decls.now specs.now.items numbers.now.items (lens_of ends.now.items) }
-    requires ends { length ends.now.items ≡ length unit.now.forest.values }
+    requires writable { IsWritable unit.now decls.now specs.now.items numbers.now.items lens.now.items }
     requires item { HasItem unit.now.forest next }
-    requires room { HasRoom (EntrySize decls.now specs.now.items numbers.now.items unit.now.forest (lens_of ends.now.items)) next places.old.end }
+    requires room { HasRoom (EntrySize decls.now specs.now.items numbers.now.items unit.now.forest lens.now.items) next places.old.end }
     ensures start { places.new.start ≡ places.old.start }
-    ensures put { OnOk result (PutsItem (EntrySize decls.now specs.now.items numbers.now.items unit.now.forest (lens_of ends.now.items)) next places.old places.new) }
+    ensures put { OnOk result (PutsItem (EntrySize decls.now specs.now.items numbers.now.items unit.now.forest lens.now.items) next places.old places.new) }
 {
     let place = places.end as u32;
     match next {
         Next::Entry(id) => {
             places.entries.push(place)?;
-            places.end = after_entry(unit.forest(), decls, specs, numbers, ends, id, places.end);
+            places.end = after_entry(unit.forest(), decls, specs, numbers, lens, id, places.end);
         }
         Next::End => {
             places.ends.push(place)?;
@@ -138,26 +127,26 @@ fn place_next(
 /// counted from the first byte of the section, with the unit's table `decls`, a new column in place of each of the table's,
 /// and the new code of each declaration, which is 0 where no entry has it.
 ///
-/// `ends` says of each value where the new bytes of its expression end, as `expression_ends` does.
+/// `lens` has for each value how many bytes it takes where it is an expression, without the count before them, or a reference within the
+/// unit, as `lay_out` says; for another value any number.
 ///
-/// Every LEB128 number has its fewest bytes, but those of DW_FORM_ref_udata, which have five. A code takes at most 4 bytes
-/// more than the old one, an expression three times its old bytes, and a value besides at most 10 more than the old bytes: the caller
-/// shows that even so the unit would end below 0xffff_fff0, as a section of the 32-bit format does (DWARF 5 section 7.4). The only
-/// error is want of memory.
+/// Every other LEB128 number has its fewest bytes. A code takes at most 4 bytes more than the old one, an expression three times its
+/// old bytes, and a value besides at most 10 more than the old bytes: the caller shows that even so the unit would end below
+/// 0xffff_fff0, as a section of the 32-bit format does (DWARF 5 section 7.4). The only error is want of memory.
 pub fn place_unit(
     alloc: Global,
     unit: &Unit<'_>,
     decls: &Table,
     specs: &Vec<Spec>,
     numbers: &Vec<u32>,
-    ends: &Vec<u32>,
+    lens: &Vec<u32>,
     start: u64,
 ) -> Result<Places, NoMemory>
-    requires writable { IsWritable unit.now decls.now specs.now.items numbers.now.items (lens_of ends.now.items) }
-    requires ends { AreEndsFor unit.now.forest ends.now.items }
+    requires writable { IsWritable unit.now decls.now specs.now.items numbers.now.items lens.now.items }
+    requires lens { AreLensFor unit.now.forest lens.now.items }
     requires room { start + most_bytes unit.now < least_reserved }
     ensures start { IfOk result (λ places. places.start ≡ start) }
-    ensures placed { IfOk result (λ places. IsPlacedAt unit.now decls.now specs.now.items numbers.now.items (lens_of ends.now.items) start places.entries.items places.ends.items places.end) }
+    ensures placed { IfOk result (λ places. IsPlacedAt unit.now decls.now specs.now.items numbers.now.items lens.now.items start places.entries.items places.ends.items places.end) }
     ensures most { IfOk result (λ places. places.end ≤ start + most_bytes unit.now) }
     ensures fits { IfOk result (λ places. places.end < least_reserved) }
 {
@@ -170,7 +159,7 @@ pub fn place_unit(
     };
     let mut items = Items::new();
     while let Some(next) = items.next(unit.forest()) {
-        place_next(&mut places, unit, decls, specs, numbers, ends, next)?;
+        place_next(&mut places, unit, decls, specs, numbers, lens, next)?;
     }
     Ok(places)
 }

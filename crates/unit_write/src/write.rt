@@ -11,8 +11,8 @@ ghost use Rattle.fixed_width.specs.InitialLengths.{least_reserved};
 ghost use Rattle.entry_read.specs.Heads.{type_unit};
 ghost use Rattle.unit_write.specs.Values.{HaveSize};
 ghost use Rattle.unit_write.specs.Placing.{IsRenumbered};
-ghost use Rattle.unit_write.specs.NewExpressions.{lens_of, AreEndsFor};
-ghost use Rattle.unit_write.specs.Moved.{IsRoomy, IsWritable, IsPlacedAt, IsWrittenAnew, new_values};
+ghost use Rattle.unit_write.specs.NewExpressions.{AreEndsFor};
+ghost use Rattle.unit_write.specs.Moved.{IsWritable, IsPlacedAt, IsWrittenAnew, new_values, lens_anew};
 ghost use Rattle.unit_write.specs.inside.Readings.{HasItem};
 ghost use Rattle.unit_write.specs.inside.Puts.{AreNew, PutsValues, PutsEntry, PutsItems, PutsNext, own_bytes, header_bytes};
 
@@ -92,7 +92,6 @@ fn put_values(
 ) -> Result<(), NoMemory>
     requires sized { (lens : List ℕ) × (size : ℕ) × HaveSize section.now columns.now values.now lens size }
     requires inside { All (LiesIn (length section.now)) values.now }
-    requires roomy { All IsRoomy columns.now }
     requires new { (count : ℕ) × AreNew (new_values new.now) count × (first + length values.now ≤ count) }
     ensures ok { OnOk result (Appends (PutsValues section.now (new_values new.now) first columns.now) values.now out.old.items out.new.items) }
     ensures err { OnErr result (Extends out.old.items out.new.items) }
@@ -122,7 +121,7 @@ fn put_entry(
     new: &NewNumbers,
     id: u32,
 ) -> Result<(), NoMemory>
-    requires writable { IsWritable unit.now decls.now specs.now numbers.now (lens_of new.now.ends.items) }
+    requires writable { IsWritable unit.now decls.now specs.now numbers.now (lens_anew unit.now.forest (new_values new.now)) }
     requires new { AreNew (new_values new.now) (length unit.now.forest.values) }
     requires inside { id < length unit.now.forest.entries }
     ensures ok { OnOk result (Appends (PutsEntry decls.now specs.now numbers.now (new_values new.now) unit.now.forest) id out.old.items out.new.items) }
@@ -151,7 +150,7 @@ fn put_next(
     new: &NewNumbers,
     next: Next,
 ) -> Result<(), NoMemory>
-    requires writable { IsWritable unit.now decls.now specs.now numbers.now (lens_of new.now.ends.items) }
+    requires writable { IsWritable unit.now decls.now specs.now numbers.now (lens_anew unit.now.forest (new_values new.now)) }
     requires new { AreNew (new_values new.now) (length unit.now.forest.values) }
     requires inside { HasItem unit.now.forest next }
     ensures ok { OnOk result (Appends (PutsNext (PutsEntry decls.now specs.now numbers.now (new_values new.now) unit.now.forest)) next out.old.items out.new.items) }
@@ -175,7 +174,7 @@ fn put_items(
     numbers: &[u32],
     new: &NewNumbers,
 ) -> Result<(), NoMemory>
-    requires writable { IsWritable unit.now decls.now specs.now numbers.now (lens_of new.now.ends.items) }
+    requires writable { IsWritable unit.now decls.now specs.now numbers.now (lens_anew unit.now.forest (new_values new.now)) }
     requires new { AreNew (new_values new.now) (length unit.now.forest.values) }
     ensures ok { (ds : List Declared) (start place : ℕ) (whole : IsWhole unit.now.forest.section ds start (listed_to unit.now.forest place)) → OnOk result (Appends (PutsItems (PutsEntry decls.now specs.now numbers.now (new_values new.now) unit.now.forest) 0) whole.items out.old.items out.new.items) }
     ensures grows { Extends out.old.items out.new.items }
@@ -196,8 +195,8 @@ fn put_unit(
     numbers: &[u32],
     new: &NewNumbers,
 ) -> Result<(), NoMemory>
-    requires writable { IsWritable unit.now decls.now specs.now numbers.now (lens_of new.now.ends.items) }
-    requires ends { (entries : List ℕ) × (ends : List ℕ) × IsPlacedAt unit.now decls.now specs.now numbers.now (lens_of new.now.ends.items) (length out.old.items) entries ends new.now.end }
+    requires writable { IsWritable unit.now decls.now specs.now numbers.now (lens_anew unit.now.forest (new_values new.now)) }
+    requires ends { (entries : List ℕ) × (ends : List ℕ) × IsPlacedAt unit.now decls.now specs.now numbers.now (lens_anew unit.now.forest (new_values new.now)) (length out.old.items) entries ends new.now.end }
     requires fits { new.now.end < least_reserved }
     requires new { AreNew (new_values new.now) (length unit.now.forest.values) }
     requires narrow { (new.now.table < 2 ^ 32) × (new.now.type_offset < 2 ^ 32) }
@@ -214,9 +213,9 @@ fn put_unit(
 /// new column in place of each of the table's, the new code of each declaration, and new numbers, each below 2^32.
 ///
 /// The entries keep their order and their values, but that references and section offsets have their new numbers. Every
-/// LEB128 number has its fewest bytes, but those of DW_FORM_ref_udata, which have five. An expression has its new bytes. No
-/// byte follows the tree. The unit ends at `new.end`, as `place_unit` says. The only error is want of memory; it leaves `out`
-/// as it was.
+/// LEB128 number has its fewest bytes. An expression has its new bytes. No byte follows the tree. The unit ends at `new.end`, as
+/// `place_unit` says where each reference within the unit is as long as its number needs. The only error is want of memory; it leaves
+/// `out` as it was.
 pub fn write_unit(
     out: &mut Vec<u8>,
     unit: &Unit<'_>,
@@ -225,8 +224,8 @@ pub fn write_unit(
     numbers: &Vec<u32>,
     new: &NewNumbers,
 ) -> Result<(), NoMemory>
-    requires writable { IsWritable unit.now decls.now specs.now.items numbers.now.items (lens_of new.now.ends.items) }
-    requires ends { (entries : List ℕ) × (ends : List ℕ) × IsPlacedAt unit.now decls.now specs.now.items numbers.now.items (lens_of new.now.ends.items) (length out.old.items) entries ends new.now.end }
+    requires writable { IsWritable unit.now decls.now specs.now.items numbers.now.items (lens_anew unit.now.forest (new_values new.now)) }
+    requires ends { (entries : List ℕ) × (ends : List ℕ) × IsPlacedAt unit.now decls.now specs.now.items numbers.now.items (lens_anew unit.now.forest (new_values new.now)) (length out.old.items) entries ends new.now.end }
     requires fits { new.now.end < least_reserved }
     requires held { (length new.now.held.items ≡ length unit.now.forest.values) × All (λ number. number < 2 ^ 32) new.now.held.items }
     requires expressions { AreEndsFor unit.now.forest new.now.ends.items × ((k : ℕ) → k < length unit.now.forest.values → slice_index new.now.ends.items k ≤ length new.now.expressions.items) }

@@ -1,64 +1,35 @@
 // Bytes of units, written by hand from DWARF 5 sections 7.5 and 7.6.
-ghost use Rattle.std.specs.Prelude.{◌≡◌, ◌≢◌, ◌<◌, ◌*◌, ◌^◌, ℕ, List, length, slice_index, IsTrue};
+ghost use Rattle.std.specs.Prelude.{◌≡◌, ◌≢◌, ◌<◌, ◌-◌, ◌^◌, ℕ, List, length, slice_index, if◌then◌else◌, IfOk, IsTrue};
 ghost use Rattle.std.specs.List.{All};
+ghost use Rattle.leb_codec.specs.Leb.{least_unsigned_len};
 ghost use Rattle.form_codec.specs.Values.{meant_in, IsValueIn};
 ghost use Rattle.entry_arena.specs.Arena.{entry_at};
 ghost use Rattle.dw_base.specs.declared.fault.Reach.TheVariants.{Narrow};
 ghost use Rattle.entry_read.specs.Expressions.{HasOperations};
+ghost use Rattle.entry_read.specs.Locals.{is_local};
 ghost use Rattle.entry_read.specs.Heads.{IsHead};
 ghost use Rattle.entry_read.specs.Units.{declarations_of, IsTable, IsUnitHeld};
 ghost use Rattle.unit_write.specs.Values.{HasSize, HaveSize};
 ghost use Rattle.unit_write.specs.Placing.{columns_of, values_in};
-ghost use Rattle.unit_write.specs.NewExpressions.{AreEndsFor, lens_of};
-ghost use Rattle.unit_write.specs.Moved.{IsRoomy, IsWritable};
-ghost use Rattle.unit_write.specs.Sizes.{HoldsNumber};
+ghost use Rattle.unit_write.specs.Lens.{AreLensFor};
+ghost use Rattle.unit_write.specs.NewExpressions.{lens_of, with_numbers};
+ghost use Rattle.unit_write.specs.Moved.{IsWritable};
 
 use crate::laws::bytes_are_small;
 use crate::parts::{new_columns, values_of};
 use crate::place_tests::has_room;
-use crate::values::{is_expression, moves, put_number};
+use crate::places::numbers_are_small;
 use crate::write::put_head;
 use crate::{NewNumbers, expression_ends, place_unit, write_expressions, write_unit};
 use abbrev_tables::{Spec, Table};
 use dw_base::{NoMemory, Reach};
 use entry_arena::Operations;
 use entry_read::{Counts, Unit, UnitHead, heads, read_expressions, read_unit};
-use form_codec::{Form, Value, admits, spelled_size};
+use form_codec::{Value, admits, spelled_size};
+use leb_codec::len_u;
 use std::alloc::Global;
 use std::process::Abort;
 use std::test::Fail;
-
-// A reference or a section offset in the form with a code.
-fn number_in(alloc: Global, form: u64, number: u64) -> Result<Vec<u8>, NoMemory> {
-    let mut out = Vec::new(alloc);
-    let Some(form) = Form::from_code(form) else {
-        return Ok(out);
-    };
-    if number < 1 << 32 {
-        put_number(&mut out, form, number)?;
-    }
-    Ok(out)
-}
-
-#[test]
-fn numbers_have_the_bytes_of_their_forms(rt: HostRuntime) -> Result<(), NoMemory> {
-    let rows: [(u64, u64, &[u8]); 7] = [
-        // DW_FORM_ref4, DW_FORM_ref8, DW_FORM_ref_addr and DW_FORM_sec_offset
-        (0x13, 0x1234, &[0x34, 0x12, 0, 0]),
-        (0x14, 0x1234, &[0x34, 0x12, 0, 0, 0, 0, 0, 0]),
-        (0x10, 0xffff_ffef, &[0xef, 0xff, 0xff, 0xff]),
-        (0x17, 7, &[7, 0, 0, 0]),
-        // DW_FORM_ref_udata has five bytes
-        (0x15, 0x2c, &[0xac, 0x80, 0x80, 0x80, 0]),
-        (0x15, 300, &[0xac, 0x82, 0x80, 0x80, 0]),
-        (0x15, 0xffff_ffff, &[0xff, 0xff, 0xff, 0xff, 0x0f]),
-    ];
-    for (form, number, bytes) in rows.iter() {
-        let out = number_in(rt.alloc(), *form, *number)?;
-        assert_eq!(rt; out.as_slice(), *bytes);
-    }
-    Ok(())
-}
 
 // The header of a unit of a kind.
 fn header_of(alloc: Global, kind: u8) -> Result<Vec<u8>, NoMemory> {
@@ -105,30 +76,20 @@ fn headers_have_the_fields_of_their_kinds(rt: HostRuntime) -> Result<(), NoMemor
     Ok(())
 }
 
-// Whether a reference or a section offset has room in a form.
-fn holds_number(form: u64, value: &Value) -> bool
-    ensures { IsTrue result → (section : List ℕ) → HoldsNumber form (meant_in section value.now) }
-{
-    match *value {
-        Value::LocalRef(_) => form == 0x13 || form == 0x14 || form == 0x15,
-        Value::SectionRef(_) => form == 0x10,
-        Value::Offset(_) => form == 0x17,
-        _ => false,
-    }
-}
-
 // Whether something can be written for a value in a column, other than a constant of the declaration.
 fn is_sized(column: Spec, value: &Value) -> bool
     ensures { IsTrue result → (section : List ℕ) (len : ℕ) → length section < 2 ^ 63 → IsValueIn section value.now → len < 2 ^ 64 → (size : ℕ) × HasSize column (meant_in section value.now) len size }
 {
-    if is_expression(value) {
-        return column.form == 0x18;
+    match *value {
+        Value::Expr(_) => column.form == 0x18,
+        Value::LocalRef(_) => column.form == 0x15,
+        Value::SectionRef(_) => column.form == 0x10,
+        Value::Offset(_) => column.form == 0x17,
+        _ => {
+            let _size = spelled_size(column.form, value);
+            column.form != 0x21 && admits(column.form, value)
+        }
     }
-    if moves(value) {
-        return holds_number(column.form, value);
-    }
-    let _size = spelled_size(column.form, value);
-    column.form != 0x21 && admits(column.form, value)
 }
 
 // Whether it can for the values of an entry.
@@ -163,14 +124,6 @@ fn entries_are_sized(unit: &Unit<'_>, table: &Table, specs: &[Spec]) -> bool
     true
 }
 
-fn are_roomy(columns: &[Spec]) -> bool
-    ensures { IsTrue result → All IsRoomy columns.now }
-{
-    columns
-        .iter()
-        .all(|column| column.form != 0x11 && column.form != 0x12)
-}
-
 fn are_used(numbers: &[u32]) -> bool
     ensures { IsTrue result → All (λ number. number ≢ 0) numbers.now }
 {
@@ -183,19 +136,16 @@ fn is_writable(
     table: &Table,
     specs: &Vec<Spec>,
     numbers: &Vec<u32>,
-    ends: &Vec<u32>,
+    lens: &Vec<u32>,
 ) -> bool
     requires head { IsHead unit.now.forest.section unit.now.head }
     requires held { IsUnitHeld unit.now.forest.section unit.now.head (declarations_of table.now) unit.now.forest }
-    requires ends { AreEndsFor unit.now.forest ends.now.items }
-    requires room { 3 * length unit.now.forest.section < 2 ^ 32 }
-    ensures { IsTrue result → IsWritable unit.now table.now specs.now.items numbers.now.items (lens_of ends.now.items) }
+    requires lens { AreLensFor unit.now.forest lens.now.items }
+    ensures { IsTrue result → IsWritable unit.now table.now specs.now.items numbers.now.items lens.now.items }
 {
     bytes_are_small(unit.forest().section());
+    numbers_are_small(lens);
     if specs.len() != table.specs().len() || numbers.len() != table.len() as usize {
-        return false;
-    }
-    if !are_roomy(specs) {
         return false;
     }
     if !are_used(numbers) {
@@ -210,6 +160,35 @@ fn are_narrow(numbers: &Vec<u64>, count: usize) -> bool
     ensures narrow { IsTrue result → All (λ number. number < 2 ^ 32) numbers.now.items }
 {
     numbers.len() == count && numbers.iter().all(|number| *number < 1 << 32)
+}
+
+// How many bytes a value takes that gets a number, where its expression, if it is one, stands between two places.
+fn len_for(value: &Value, number: u64, begin: u32, end: u32) -> u32
+    ensures { (section : List ℕ) → result ≡ (if is_local (meant_in section value.now) then least_unsigned_len number else end - begin) }
+{
+    match *value {
+        Value::LocalRef(_) => len_u(number),
+        _ => end.saturating_sub(begin),
+    }
+}
+
+// How many bytes each value of a unit takes that its column doesn't tell, where these are the new numbers of the values and the ends
+// of their expressions.
+fn lens_for(
+    alloc: Global,
+    unit: &Unit<'_>,
+    held: &Vec<u64>,
+    ends: &Vec<u32>,
+) -> Result<Vec<u32>, NoMemory>
+    ensures { IfOk result (λ lens. lens.items ≡ with_numbers unit.now.forest.section unit.now.forest.values held.now.items (lens_of ends.now.items)) }
+{
+    let mut lens: Vec<u32> = Vec::new(alloc);
+    let mut begin = 0u32;
+    for ((value, number), end) in unit.forest().values().iter().zip(held).zip(ends) {
+        lens.push(len_for(value, *number, begin, *end))?;
+        begin = *end;
+    }
+    Ok(lens)
 }
 
 // What stands in a unit that is written: the numbers of its values, and those of its operations.
@@ -247,13 +226,14 @@ fn write_sized(
         return Err("too long")?;
     }
     let ends = expression_ends(alloc, unit, operations)?;
-    if !is_writable(unit, table, &specs, &numbers, &ends) {
+    let lens = lens_for(alloc, unit, &held, &ends)?;
+    if !is_writable(unit, table, &specs, &numbers, &lens) {
         return Err("not writable")?;
     }
     if !has_room(unit, 2) {
         return Err("no room")?;
     }
-    let places = place_unit(alloc, unit, table, &specs, &numbers, &ends, 2)?;
+    let places = place_unit(alloc, unit, table, &specs, &numbers, &lens, 2)?;
     let expressions = write_expressions(alloc, unit, operations, &ends, &references)?;
     let new = NewNumbers {
         end: places.end,
@@ -337,20 +317,20 @@ const TABLE: [u8; 21] = [
 
 #[test]
 fn units_are_written_anew(rt: HostRuntime) -> Result<(), Fail> {
-    // the first reference is written in DW_FORM_ref_udata
+    // the references within the unit are written in DW_FORM_ref_udata: 300 in two bytes, and 0x13 in one
     let specs = [
         column(0x10, 0x17),
         column(0x13, 0x0f),
         column(0x49, 0x15),
-        column(0x01, 0x13),
+        column(0x01, 0x15),
         column(0x18, 0x10),
     ];
-    let bytes: [u8; 35] = [
-        0xaa, 0xbb, 0x1d, 0, 0, 0, 5, 0, 1, 8, 0x30, 0, 0, 0, 2, 0x40, 0, 0, 0, 5, 1, 0x92, 0x80,
-        0x80, 0x80, 0, 0x13, 0, 0, 0, 0x0e, 0, 0, 0, 0,
+    let bytes: [u8; 29] = [
+        0xaa, 0xbb, 0x17, 0, 0, 0, 5, 0, 1, 8, 0x30, 0, 0, 0, 2, 0x40, 0, 0, 0, 5, 1, 0xac, 0x02,
+        0x13, 0xef, 0xff, 0xff, 0xff, 0,
     ];
     let named = Named {
-        held: &[0x40, 99, 0x12, 0x13, 0x0e],
+        held: &[0x40, 99, 300, 0x13, 0xffff_ffef],
         references: &[],
     };
     let out = written(rt.alloc(), &UNIT, &TABLE, &specs, &[2, 1], named)?;

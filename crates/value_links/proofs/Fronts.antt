@@ -1,6 +1,6 @@
 -- The front of the units of a section: what is held of it, one unit more, the faults after it, and the end.
 use Rattle.std.proofs.Common.{◌≡◌, ◌≤◌, ◌<◌, ◌+◌, ◌∙◌, ◌++◌, inl, inr, ℕ, suc, List, [], ◌∷◌, length, get_or, take, drop, map, sym, ap, subst, refl, add-one, arith}
-use Rattle.std.specs.List.{All, Contains, sum_by}
+use Rattle.std.specs.List.{Contains, sum_by}
 use Rattle.std.proofs.Math.Seq.{take-suc, take-length, drop-cons, get_or-append_seam}
 use Rattle.std.proofs.lemmas.Bool.{cases_lt}
 use Rattle.std.proofs.lemmas.Grind.{get_or_default_zero}
@@ -11,6 +11,7 @@ use Rattle.dw_base.specs.declared.fault.Fault.{Fault}
 use Rattle.dw_base.specs.declared.fault.Kind.{Kind}
 use Rattle.dw_base.specs.declared.fault.Kind.TheVariants.{Limit, Pointer}
 use Rattle.dw_base.specs.Refusals.{IsFaultOf}
+use Rattle.abbrev_tables.specs.Faults.{FaultTable}
 use Rattle.abbrev_tables.specs.Listings.{IsTableAt}
 use Rattle.entry_read.specs.declared.head.UnitHead.{UnitHead}
 use Rattle.entry_read.specs.declared.unit.Counts.{Counts}
@@ -19,9 +20,8 @@ use Rattle.entry_read.specs.Units.{HeadAndForest, declarations_of, IsUnitHeld, I
 use Rattle.entry_read.specs.Faults.{FaultUnit}
 use Rattle.value_links.specs.declared.units.NamedTable.{NamedTable}
 use Rattle.value_links.specs.declared.units.Units.{Units}
-use Rattle.value_links.specs.Reading.{UnitRead, no_unit, unit_heads, unit_among, counts_of, declarations, AreWithin, IsUnitRead}
-use Rattle.value_links.specs.Faults.{IsUnitOf, FaultOffset, FaultRest, FaultEntries, FaultUnits, InfoFault}
-use Rattle.value_links.specs.Laws.{IsBuilt}
+use Rattle.value_links.specs.Reading.{UnitRead, no_unit, unit_heads, unit_among, counts_of, AreWithin, IsUnitRead}
+use Rattle.value_links.specs.Faults.{IsUnitOf, FaultOffset, FaultEntries, FaultUnits, InfoFault}
 use Rattle.value_links.specs.World.{head_and_forest, table_at, named_by, AreTablesOf}
 use Rattle.value_links.specs.Parts.{AreUnitsHeld, IsUnitsFault}
 use Rattle.value_links.specs.inside.Tabled.{AreTablePlaces, AreNumbers, IsNamed, HoldFront, named_places, places_of}
@@ -61,7 +61,6 @@ nothing_held info abbrevs heads tables numbers units none = record {
   within = record { entries = omega arith; values = omega arith };
   counted = refl;
   tabled = λ u inside. absurd (omega arith);
-  built = All-nil (λ (u : UnitRead). All IsBuilt (declarations u));
 }
 
 -- what is read of the unit after a front, by the table that its header names
@@ -135,7 +134,6 @@ module _ (info abbrevs : List ℕ) (heads : List UnitHead) (tables : List NamedT
         within = within_push h.read r counts h.counted few;
         counted = summed ∙ counts_push h.read r counts h.counted;
         tabled = tabled_push tables numbers h.read r i h.size h.tabled (ap (λ (z : ℕ). record { place = z; table = named.table }) next.names);
-        built = All-push (λ (u : UnitRead). All IsBuilt (declarations u)) h.read r h.built next.table.built;
       }
 
   -- a fault of the next unit is one of the units
@@ -217,7 +215,6 @@ units_held info abbrevs heads places held counts tile are same numbered h =
       read = h.read;
       units = record { tiled = subst (λ (z : List UnitHead). Follow info z 0 (length info)) (sym all) tile; each = h.each; within = h.within };
       holds = record { units = h.held; tables = tables_are info abbrevs heads places held.tables.items held.table_of.items held.units.items counts are same numbered h };
-      built = h.built;
     }
 
 -- FAULTS
@@ -230,7 +227,7 @@ offset_fault info abbrevs heads u origin fault tile inside past is =
     subst (IsFaultOf (InfoFault info abbrevs) origin) (sym is) here
 
 -- a fault of a table that a unit names
-pub named_fault : (info abbrevs : List ℕ) (heads : List UnitHead) (places : List ℕ) (info_origin origin : ℕ) (fault : Fault) → Tile info heads → AreTablePlaces heads places → ((u : ℕ) → u < length heads → (head_numbered heads u).table < length abbrevs) → (place : ℕ) × Contains places place × IsFaultOf (FaultRest (drop place abbrevs)) (origin + place) fault → IsUnitsFault info abbrevs info_origin origin fault
+pub named_fault : (info abbrevs : List ℕ) (heads : List UnitHead) (places : List ℕ) (info_origin origin : ℕ) (fault : Fault) → Tile info heads → AreTablePlaces heads places → ((u : ℕ) → u < length heads → (head_numbered heads u).table < length abbrevs) → (place : ℕ) × Contains places place × IsFaultOf (λ kind at. FaultTable kind at (drop place abbrevs)) (origin + place) fault → IsUnitsFault info abbrevs info_origin origin fault
 named_fault info abbrevs heads places info_origin origin fault tile are offsets (place, among, (inner, here, rest)) =
     let (u, u_in, is) = are.named place among in
     let names : length (named_places heads) ≡ length heads = length-map heads (λ (head : UnitHead). head.table) in

@@ -1,8 +1,7 @@
--- The faults of a table, where they stand: no further than the bytes go, and none of them is that a table can't be written yet.
+-- The faults of a table, where they stand: no further than the bytes go.
 use Rattle.std.proofs.Common.{◌≡◌, ◌≤◌, ◌<◌, ◌+◌, ◌-◌, ◌^◌, ◌∙◌, ◌++◌, inl, inr, ℕ, List, length, drop, ap, arith}
 use Rattle.std.proofs.lemmas.List.{length-append, length-drop}
-use Rattle.dw_base.specs.declared.fault.Kind.{Kind}
-use Rattle.dw_base.specs.declared.fault.Kind.TheVariants.{Limit, LebWide, Short, FormUnknown, CodeTwice, Unbuilt}
+use Rattle.dw_base.specs.declared.fault.Kind.TheVariants.{Limit, LebWide, Short, FormUnknown, CodeTwice}
 use Rattle.dw_base.specs.declared.fault.Refusal.{Refusal}
 use Rattle.dw_base.specs.declared.fault.Refusal.TheVariants.{Refused, NoMemory}
 use Rattle.dw_base.specs.Refusals.{IsFaultOf, IsRefusedFor}
@@ -11,7 +10,6 @@ use Rattle.leb_codec.specs.Leb.{Uleb}
 use Rattle.abbrev_tables.specs.Tables.{SpellsName, SpellsColumn, SpellsChildren, SpellsDeclared}
 use Rattle.abbrev_tables.specs.Faults.{FaultNumber, FaultName, FaultForm, FaultCode, FaultColumn, FaultColumns, FaultChildren, FaultFlagged, FaultTagged, FaultWithin, FaultDeclared, FaultTable}
 use Rattle.abbrev_tables.specs.Readings.{IsRefusal}
-use Rattle.value_links.specs.Faults.{FaultRest}
 
 -- each fault stands no further than the bytes go
 abbrev LiesInside : {K : Type 0} → (K → ℕ → List ℕ → Type 0) → Type 0
@@ -78,33 +76,11 @@ table_inside CodeTwice at rest f =
     omega arith
 table_inside kind at rest f = until_inside SpellsDeclared FaultDeclared declared_inside kind at rest f
 
--- NO TABLE IS UNBUILT FOR ITS READER
-
-abbrev IsNever : (ℕ → List ℕ → Type 0) → Type 0
-IsNever F = (at : ℕ) (rest : List ℕ) → F at rest → ⊥
-
-then_never : {V K : Type 0} (S : V → List ℕ → Type 0) (F : K → ℕ → List ℕ → Type 0) (G : V → K → ℕ → List ℕ → Type 0) (kind : K) → IsNever (F kind) → ((v : V) → IsNever (G v kind)) → IsNever (FaultThen S F G kind)
-then_never S F G kind first second at rest (inl f) = first at rest f
-then_never S F G kind first second at rest (inr (v, front, behind, inner, spelled, f, parts, sum)) = second v inner behind f
-
-column_never : IsNever (FaultColumn Unbuilt)
-column_never = then_never SpellsName FaultName FaultCode Unbuilt (λ at rest f. f) (λ name. then_never Uleb FaultNumber (FaultForm name) Unbuilt (λ at rest f. f) (λ code at rest f. f))
-
-flagged_never : IsNever (FaultFlagged Unbuilt)
-flagged_never = then_never SpellsChildren FaultChildren (λ _. FaultColumns) Unbuilt (λ at rest f. f) (λ _ at rest f. column_never f.inner f.rest f.fault)
-
-within_never : IsNever (FaultWithin Unbuilt)
-within_never = then_never Uleb FaultNumber FaultTagged Unbuilt (λ at rest f. f) (λ code at rest f. then_never SpellsName FaultName (λ _. FaultFlagged) Unbuilt (λ at rest f. f) (λ _. flagged_never) at rest f.1)
-
-rest_of_table : (kind : Kind) (at : ℕ) (rest : List ℕ) → FaultTable kind at rest → FaultRest rest kind at
-rest_of_table Unbuilt at rest f = absurd (within_never f.inner f.rest f.fault)
-rest_of_table kind at rest f = f
-
 -- a refusal of the reader of tables names a fault of the bytes from the table on
-pub table_refused : (abbrevs : List ℕ) (place origin : ℕ) (refusal : Refusal) → place < length abbrevs → origin + length abbrevs < 2 ^ 64 → IsRefusal abbrevs place origin refusal → IsRefusedFor (IsFaultOf (FaultRest (drop place abbrevs)) (origin + place)) refusal
+pub table_refused : (abbrevs : List ℕ) (place origin : ℕ) (refusal : Refusal) → place < length abbrevs → origin + length abbrevs < 2 ^ 64 → IsRefusal abbrevs place origin refusal → IsRefusedFor (IsFaultOf (λ kind at. FaultTable kind at (drop place abbrevs)) (origin + place)) refusal
 table_refused abbrevs place origin (Refused fault) inside room f =
     let small : f.inner ≤ length (drop place abbrevs) = table_inside fault.kind f.inner (drop place abbrevs) f.fault in
     let size : length (drop place abbrevs) ≡ length abbrevs - place = length-drop place abbrevs in
     let fits : origin + place + f.inner < 2 ^ 64 = omega arith in
-    (f.inner, f.place fits, rest_of_table fault.kind f.inner (drop place abbrevs) f.fault)
+    (f.inner, f.place fits, f.fault)
 table_refused abbrevs place origin NoMemory inside room f = tt

@@ -1,17 +1,13 @@
 -- Units that are read have no fault, nor have their tables.
-use Rattle.std.proofs.Common.{◌≡◌, ◌≢◌, ◌≤◌, ◌<◌, ◌+◌, ◌-◌, ◌∙◌, ◌++◌, inl, inr, ℕ, suc, List, [], ◌∷◌, Bool, true, false, true≢false, length, take, drop, sym, ap, subst, refl, arith}
-use Rattle.std.specs.List.{All, Contains, sum_by}
-use Rattle.std.proofs.lemmas.List.{take-append-drop, append_assoc, append_cancel_left}
-use Rattle.std.proofs.lemmas.List.Elements.{All-nil, All-cons, All-head, All-tail, All-contains}
+use Rattle.std.proofs.Common.{◌≡◌, ◌≢◌, ◌≤◌, ◌<◌, ◌+◌, ◌-◌, ◌∙◌, ◌++◌, inl, inr, ℕ, List, [], ◌∷◌, Bool, true, false, true≢false, length, take, drop, sym, ap, subst, refl, arith}
+use Rattle.std.specs.List.{All, sum_by}
+use Rattle.std.proofs.lemmas.List.{take-append-drop}
+use Rattle.std.proofs.lemmas.List.Elements.{All-nil, All-cons, All-head, All-tail}
 use Rattle.std.proofs.lemmas.List.Sums.{sum_by-cons, sum_by-append}
 use Rattle.dw_base.specs.declared.fault.Kind.{Kind}
-use Rattle.dw_base.specs.declared.fault.Kind.TheVariants.{Limit, Pointer, Unbuilt}
-use Rattle.spelled.specs.Spelled.{Joined}
-use Rattle.spelled.proofs.Joins.{regroup}
-use Rattle.abbrev_tables.specs.Tables.{Declared, SpellsDeclared, IsTableEnd}
+use Rattle.dw_base.specs.declared.fault.Kind.TheVariants.{Limit, Pointer}
 use Rattle.abbrev_tables.specs.Listings.{Listing, IsTableAt}
 use Rattle.abbrev_tables.specs.Faults.{FaultTable}
-use Rattle.abbrev_tables.proofs.Unique.{declared_once, table_apart}
 use Rattle.abbrev_tables.proofs.Whole.{table_whole}
 use Rattle.entry_arena.specs.ForestLaws.{HaveCodes}
 use Rattle.entry_arena.specs.Trees.{listed_to}
@@ -25,8 +21,7 @@ use Rattle.entry_read.proofs.Tiling.{one_head, end_apart, heads_whole}
 use Rattle.entry_read.proofs.Whole.{unit_whole}
 use Rattle.entry_read.proofs.PlaceLaws.{only_limits_count}
 use Rattle.value_links.specs.Reading.{UnitRead, unit_heads, counts_of, AreWithin, declarations, IsUnitRead}
-use Rattle.value_links.specs.Faults.{IsUnitOf, FaultOffset, FaultRest, FaultTables, FaultEntries, FaultUnits, InfoFault}
-use Rattle.value_links.specs.Laws.{IsBuilt, AreBuilt}
+use Rattle.value_links.specs.Faults.{IsUnitOf, FaultOffset, FaultTables, FaultEntries, FaultUnits, InfoFault}
 use Rattle.abbrev_tables.proofs.ListingOnce.{listing_once}
 use Rattle.value_links.proofs.ReadingOnce.{unit_same}
 
@@ -71,22 +66,6 @@ fronts_same info abbrevs (u ∷ us) (v ∷ vs) e p q =
 abbrev is_limit : Kind → Bool
 is_limit Limit = true
 is_limit kind = false
-
--- the declaration that stands in a table is one of it
-declared_in_table : (ds before : List Declared) (d : Declared) (a end front body x y : List ℕ) → Joined SpellsDeclared ds a → IsTableEnd end → Joined SpellsDeclared before front → SpellsDeclared d body → a ++ (end ++ x) ≡ front ++ (body ++ y) → Contains ds d
-declared_in_table [] [] d a end front body x y joined ended prior here whole =
-    absurd (table_apart d body end y x here ended (sym (sym (ap (λ z. z ++ (end ++ x)) joined) ∙ whole ∙ ap (λ z. z ++ (body ++ y)) prior)))
-declared_in_table [] (b ∷ before) d a end front body x y joined ended (first, rest, spelled, prior, parts) here whole =
-    absurd (table_apart b first end (rest ++ (body ++ y)) x spelled ended (sym (sym (ap (λ z. z ++ (end ++ x)) joined) ∙ whole ∙ ap (λ z. z ++ (body ++ y)) parts ∙ append_assoc first rest (body ++ y))))
-declared_in_table (e ∷ ds) [] d a end front body x y (first, rest, spelled, joined, parts) ended prior here whole =
-    let begins : first ++ (rest ++ (end ++ x)) ≡ body ++ y = sym (ap (λ z. z ++ (end ++ x)) parts ∙ append_assoc first rest (end ++ x)) ∙ whole ∙ ap (λ z. z ++ (body ++ y)) prior in
-    (0, omega arith, (declared_once e d first body (rest ++ (end ++ x)) y spelled here begins).1)
-declared_in_table (e ∷ ds) (b ∷ before) d a end front body x y (first, rest, spelled, joined, parts) ended (other, left, spelled_too, prior, parts_too) here whole =
-    let begins : first ++ (rest ++ (end ++ x)) ≡ other ++ (left ++ (body ++ y)) = regroup first rest (end ++ x) other left (body ++ y) (ap (λ z. z ++ (end ++ x)) (sym parts) ∙ whole ∙ ap (λ z. z ++ (body ++ y)) parts_too) in
-    let same : first ≡ other = (declared_once e b first other (rest ++ (end ++ x)) (left ++ (body ++ y)) spelled spelled_too begins).0 in
-    let behind : rest ++ (end ++ x) ≡ left ++ (body ++ y) = append_cancel_left first (rest ++ (end ++ x)) (left ++ (body ++ y)) (begins ∙ ap (λ z. z ++ (left ++ (body ++ y))) (sym same)) in
-    let (i, inside, is) = declared_in_table ds before d rest end left body x y joined ended prior here behind in
-    (suc i, omega arith, is)
 
 module _ (info abbrevs : List ℕ) (units : List UnitRead) (tiled : Tile info (unit_heads units)) (each : All (IsUnitRead info abbrevs) units) (within : AreWithin units) where
   named : (head : UnitHead) (before : List UnitHead) (e : ℕ) → Follow info (before ++ head ∷ []) 0 e → IsOneOf units before head
@@ -163,23 +142,14 @@ module _ (info abbrevs : List ℕ) (units : List UnitRead) (tiled : Tile info (u
     | inr rest ↦ elim rest [ inl offset ↦ no_offset_fault kind place offset | inr entries ↦ no_entry_fault kind place entries ]
   ]
 
-  module _ (built : AreBuilt units) where
-    -- the bytes from a table on have no fault
-    rest_faultless : (t : Listing) (at : ℕ) → IsTableAt abbrevs at t → All IsBuilt (declarations_of t) → (kind : Kind) (inner : ℕ) → FaultRest (drop at abbrevs) kind inner → ⊥
-    rest_faultless t at stands can Unbuilt inner f =
-        let (front, end, joined, ended, parts) = stands.table.spelled in
-        let whole : front ++ (end ++ drop (t.end - at) (drop at abbrevs)) ≡ f.stands.front ++ (f.stands.body ++ f.stands.rest) =
-        sym (append_assoc front end (drop (t.end - at) (drop at abbrevs))) ∙ ap (λ z. z ++ drop (t.end - at) (drop at abbrevs)) (sym parts) ∙ take-append-drop (t.end - at) (drop at abbrevs) ∙ f.stands.whole in
-        let one : Contains (declarations_of t) f.d = declared_in_table (declarations_of t) f.before f.d front end f.stands.front f.stands.body (drop (t.end - at) (drop at abbrevs)) f.stands.rest joined ended f.stands.spelled f.stands.here whole in
-        let is : IsBuilt f.d = All-contains IsBuilt (declarations_of t) f.d can one in
-        is f.unbuilt
-    rest_faultless t at stands can kind inner f =
-        table_whole (declarations_of t) kind inner (take (t.end - at) (drop at abbrevs)) (drop (t.end - at) (drop at abbrevs)) stands.table (subst (λ (z : List ℕ). FaultTable kind inner z) (sym (take-append-drop (t.end - at) (drop at abbrevs))) f)
+  -- the bytes from a table on have no fault
+  table_faultless : (t : Listing) (at : ℕ) → IsTableAt abbrevs at t → (kind : Kind) (inner : ℕ) → FaultTable kind inner (drop at abbrevs) → ⊥
+  table_faultless t at stands kind inner f =
+      table_whole (declarations_of t) kind inner (take (t.end - at) (drop at abbrevs)) (drop (t.end - at) (drop at abbrevs)) stands.table (subst (λ (z : List ℕ). FaultTable kind inner z) (sym (take-append-drop (t.end - at) (drop at abbrevs))) f)
 
-    pub tables_faultless : (kind : Kind) (place : ℕ) → FaultTables info abbrevs kind place → ⊥
-    tables_faultless kind place (at, inner, (head, (heads, e, follow), here, inside), sum, f) =
-        let o = named head heads e follow in
-        let read = is_read heads head o in
-        let stands : IsTableAt abbrevs at o.unit.table = subst (λ (z : ℕ). IsTableAt abbrevs z o.unit.table) (ap (λ h. h.table) o.same ∙ here) read.table in
-        let can : All IsBuilt (declarations o.unit) = all_here (λ (u : UnitRead). All IsBuilt (declarations u)) o.front o.unit o.after (subst (All (λ (u : UnitRead). All IsBuilt (declarations u))) o.parts built) in
-        rest_faultless o.unit.table at stands can kind inner f
+  pub tables_faultless : (kind : Kind) (place : ℕ) → FaultTables info abbrevs kind place → ⊥
+  tables_faultless kind place (at, inner, (head, (heads, e, follow), here, inside), sum, f) =
+      let o = named head heads e follow in
+      let read = is_read heads head o in
+      let stands : IsTableAt abbrevs at o.unit.table = subst (λ (z : ℕ). IsTableAt abbrevs z o.unit.table) (ap (λ h. h.table) o.same ∙ here) read.table in
+      table_faultless o.unit.table at stands kind inner f

@@ -50,7 +50,7 @@ units_faultless file reach r order kind place f =
     elim f [
       | inl entries ↦ info_faultless (debug_info file) (debug_abbrev file) r.units units.tiled units.each units.within kind entries.0 entries.2
       | inr others ↦ elim others [
-        | inl tables ↦ tables_faultless (debug_info file) (debug_abbrev file) r.units units.tiled units.each units.within order.built kind tables.0 tables.2
+        | inl tables ↦ tables_faultless (debug_info file) (debug_abbrev file) r.units units.tiled units.each units.within kind tables.0 tables.2
         | inr parts ↦ parts_faultless parts.0 parts.1.0 parts.1.2
       ]
     ]

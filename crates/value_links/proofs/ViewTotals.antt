@@ -1,5 +1,5 @@
 -- View pairs counted by the entries of the lists with which they go.
-use Rattle.std.proofs.Common.{◌≡◌, ◌≢◌, ◌<◌, ◌+◌, ◌∙◌, ℕ, zero, suc, List, [], ◌∷◌, length, get_or, map, Bool, true, false, true≢false, sym, ap, refl, arith}
+use Rattle.std.proofs.Common.{◌≡◌, ◌<◌, ◌+◌, ◌∙◌, ℕ, zero, suc, List, [], ◌∷◌, length, get_or, map, Bool, true, false, true≢false, sym, ap, refl, arith}
 use Rattle.std.specs.Prelude.{Some, if◌then◌else◌, nat_eq}
 use Rattle.std.specs.List.{All, sum_by}
 use Rattle.std.proofs.lemmas.List.Elements.{All-head, All-tail}

@@ -1,5 +1,5 @@
 -- View pairs that values name, gathered and sorted.
-use Rattle.std.proofs.Common.{◌≡◌, ◌≢◌, ◌<◌, ◌+◌, ◌++◌, ◌&&◌, ◌⊎◌, ◌∙◌, inl, inr, ℕ, List, [], ◌∷◌, length, get_or, Bool, true, false, eqb, Less, true≢false, sym, ap, subst, refl, arith}
+use Rattle.std.proofs.Common.{◌≡◌, ◌<◌, ◌+◌, ◌++◌, ◌&&◌, ◌⊎◌, ◌∙◌, inl, inr, ℕ, List, [], ◌∷◌, length, get_or, Bool, true, false, eqb, Less, true≢false, sym, ap, subst, refl, arith}
 use Rattle.std.specs.Prelude.{Some, None}
 use Rattle.std.specs.Cmp.{IsEquivalence, IsTotalOrder, unsigned_ties, tied_then}
 use Rattle.std.specs.Ordering.{nat_cmp, is_eq, ordering_then, eq_by_cmp}
@@ -13,7 +13,6 @@ use Rattle.std.proofs.lemmas.List.Sorted.{Contains-permutation, IsPermutation-sy
 use Rattle.std.proofs.lemmas.Map.Keys.{Less-from_sorted}
 use Rattle.elf_place.proofs.Orders.{compare_pairs}
 use Rattle.form_codec.specs.declared.value.Value.{Value}
-use Rattle.form_codec.specs.declared.value.Value.TheVariants as value
 use Rattle.form_codec.specs.Forms.{Meaning}
 use Rattle.form_codec.specs.Forms.Meaning.{Expression, InUnit, InSection, SectionPlace, LocationList, RangeList}
 use Rattle.form_codec.specs.Values.{meant_in}

@@ -55,7 +55,7 @@ use Rattle.value_links.specs.LinkFaults.{FaultExprOf}
 use Rattle.value_links.specs.ListFaults.{FaultOfKind, FaultOfViews}
 use Rattle.value_links.specs.Debug.{Debug, MeansDebug}
 use Rattle.value_links.specs.Faults.{FaultOfNames, FaultOfUnits, NamesFault}
-use Rattle.value_links.specs.Laws.{HaveFewRows, AreBuilt, AreLinked, IsImageInOrder, AreProgramsInOrder, AreUnitsInOrder, AreLinksInOrder}
+use Rattle.value_links.specs.Laws.{HaveFewRows, AreLinked, IsImageInOrder, AreProgramsInOrder, AreUnitsInOrder, AreLinksInOrder}
 use Rattle.value_links.specs.Parts.{HoldUnits, AreUnitsHeld, section_held, HaveBases, lists_in, bases_in, HoldsParts, LinkFault, IsUnitsFault}
 use Rattle.value_links.specs.inside.Checks.{AreContextsHeld, IsSomeExpressionFault}
 use Rattle.value_links.specs.inside.Passes.{starts_of, ArePartsRead, ArePartsInOrder, HoldAllLists, NamesLaterFault}
@@ -264,7 +264,6 @@ record LinkableRead (file : List ℕ) (programs : List Head) (units : Units) (co
   ranges_are : section_held ranges ≡ r.ranges
   locations_are : section_held locations ≡ r.locations
   few : HaveFewRows r.programs
-  built : AreBuilt r.units
 
 module _ (file : List ℕ) (programs : List Head) (units : Units) (contexts : List Context) (addresses : List ℕ) (tables : List AddrTable) (ranges locations : Contributions) (range_bases location_bases : List (Option ℕ)) (image : IsRead file Wide) (read : PartsRead file programs units contexts addresses tables ranges locations range_bases location_bases) where
   linkable_read : LinkableRead file programs units contexts ranges locations
@@ -289,7 +288,6 @@ module _ (file : List ℕ) (programs : List Head) (units : Units) (contexts : Li
         ranges_are = refl;
         locations_are = refl;
         few = p.few;
-        built = read.units_are.built;
       }
 
   -- a fault of an expression
@@ -299,7 +297,7 @@ module _ (file : List ℕ) (programs : List Head) (units : Units) (contexts : Li
       let known : u < length l.r.units = subst (λ (n : ℕ). u < n) (held_count l.r.units units.units.items l.units_are.units) inside in
       let there : FaultExpressions (unit_at l.r u).forest reach fault.kind inner = subst (λ (z : HeadAndForest). FaultExpressions z.forest reach fault.kind inner) (held_is l.r.units units.units.items l.units_are.units u known) f in
       let of_unit : FaultExprOf l.r reach u fault.kind inner = record { number = there.number; span = there.span; stands = there.stands; inner = there.inner; fault = inl there.fault; here = there.here } in
-      let before : AreUnitsInOrder file reach l.r = record { before = record { before = order; programs = l.read.programs; few = l.few }; units = l.read.units; built = l.built; lists = l.read.lists } in
+      let before : AreUnitsInOrder file reach l.r = record { before = record { before = order; programs = l.read.programs; few = l.few }; units = l.read.units; lists = l.read.lists } in
       first_faults.links file reach l.r fault.kind fault.place before (inl (inner, here, record { r = l.r; read = l.read; u = u; inside = known; fault = inr (inr (inr of_unit)) }))
   expressions_refused reach NoMemory f order = tt
 
@@ -327,20 +325,19 @@ parts_read file parts image read operations =
         few = l.few_programs;
       };
       few = l.few;
-      built = l.built;
     }
 
 -- LINKS
 
 module _ (file : List ℕ) (parts : Parts) (read : ArePartsRead file parts) where
   units_in_order : (reach : Reach) → IsImageInOrder file reach → AreUnitsInOrder file reach read.r
-  units_in_order reach order = record { before = record { before = order; programs = read.holds.read.programs; few = read.few }; units = read.holds.read.units; built = read.built; lists = read.holds.read.lists }
+  units_in_order reach order = record { before = record { before = order; programs = read.holds.read.programs; few = read.few }; units = read.holds.read.units; lists = read.holds.read.lists }
 
   pub units_are_held : AreUnitsHeld (debug_info file) (debug_abbrev file) parts.units
-  units_are_held = record { read = read.r.units; units = read.holds.read.units; holds = read.holds.units; built = read.built }
+  units_are_held = record { read = read.r.units; units = read.holds.read.units; holds = read.holds.units }
 
   pub parts_in_order : ((f : List ℕ) (r : Linkable) → HoldsParts f r parts → AreLinked r) → ((f : List ℕ) (r : Linkable) → HoldsParts f r parts → AreFirstBases r) → AreAddressesRead read.r.units read.r.addresses → ArePartsInOrder file parts
-  parts_in_order linked based tables = record { r = read.r; holds = read.holds; few = read.few; built = read.built; linked = linked file read.r read.holds; roots = record { tables = tables; bases = based file read.r read.holds } }
+  parts_in_order linked based tables = record { r = read.r; holds = read.holds; few = read.few; linked = linked file read.r read.holds; roots = record { tables = tables; bases = based file read.r read.holds } }
 
   pub links_refused : (fault : Fault) → ((f : List ℕ) (r : Linkable) (reach : Reach) → HoldsParts f r parts → IsFaultOf (LinkFault r reach) (offset_named file info_name) fault) → (reach : Reach) → NamesLaterFault file reach (Refused fault)
   links_refused fault refused reach order =
@@ -378,7 +375,7 @@ module _ (file : List ℕ) (parts : Parts) (order : ArePartsInOrder file parts) 
   starts_rising = subst AreRising (sym starts_are) (starts_rise (debug_info file) order.r.units order.holds.read.units.tiled)
 
   abbrev read_before : ArePartsRead file parts
-  read_before = record { r = order.r; holds = order.holds; few = order.few; built = order.built }
+  read_before = record { r = order.r; holds = order.holds; few = order.few }
 
   in_order : (reach : Reach) → IsImageInOrder file reach → AreUnitsInOrder file reach order.r
   in_order reach image = units_in_order file parts read_before reach image
@@ -472,4 +469,4 @@ module _ (file : List ℕ) (parts : Parts) (order : ArePartsInOrder file parts) 
       world_read bytes same = subst (λ (z : List ℕ). IsWorldOf file reach (world_by z parts ranges locations views sets)) (sym same) world_of
 
       pub world_held : (bytes : List ℕ) → bytes ≡ file → IsHeldIn bytes parts (world_by bytes parts ranges locations views sets)
-      world_held bytes same = subst (λ (z : List ℕ). IsHeldIn z parts (world_by z parts ranges locations views sets)) (sym same) (record { reach = reach; is = world_of; parts_are = order.holds; built = order.built })
+      world_held bytes same = subst (λ (z : List ℕ). IsHeldIn z parts (world_by z parts ranges locations views sets)) (sym same) (record { reach = reach; is = world_of; parts_are = order.holds })

@@ -75,11 +75,11 @@ pub record HasColumns (Holds : Spec → List Meaning → Spec → Type 0) (r s :
 abbrev pub HaveColumns : (Spec → List Meaning → Spec → Type 0) → Linkable → Linkable → Type 0
 HaveColumns Holds r s = (u id : ℕ) → u < length r.units → id < length (unit_at r u).forest.entries → HasColumns Holds r s u id
 
--- Each column is in a least form. A column of references to entries keeps its form.
+-- Each column is in a least form.
 abbrev pub HaveLeastColumns : List ℕ → List ℕ → Type 0
 HaveLeastColumns = OfBoth (HaveColumns IsLeastColumn)
 
--- No least form comes before its own. Columns of references are left out.
+-- No least form comes before its own.
 abbrev pub HaveFirstColumns : List ℕ → List ℕ → Type 0
 HaveFirstColumns = OfBoth (HaveColumns IsFirstColumn)
 

@@ -1,19 +1,14 @@
 -- The faults of a file, as conditions on its bytes, in the order in which they decide: passes over the file, of which the
 -- first that has a fault refuses it. The place of a fault is an offset in the file.
 use Rattle.std.specs.Prelude.{◌≡◌, ◌≤◌, ◌<◌, ◌+◌, ◌⊎◌, ℕ, List, [], ◌∷◌, ◌++◌, length, drop, map}
-use Rattle.std.specs.List.{All, Contains}
+use Rattle.std.specs.List.{All}
 use Rattle.dw_base.specs.declared.fault.Kind.{Kind}
-use Rattle.dw_base.specs.declared.fault.Kind.TheVariants.{Companion, Limit, Pointer, Unbuilt}
+use Rattle.dw_base.specs.declared.fault.Kind.TheVariants.{Companion, Limit, Pointer}
 use Rattle.dw_base.specs.declared.fault.Reach.{Reach}
 use Rattle.dw_base.specs.declared.fault.Refusal.{Refusal}
 use Rattle.dw_base.specs.declared.fault.Refusal.TheVariants.{Refused, NoMemory}
 use Rattle.elf_sections.specs.Faults.{ElfFault, NameFault}
 use Rattle.line_write.specs.Faults.{LinesFault}
-use Rattle.spelled.specs.Spelled.{StandsAt}
-use Rattle.form_codec.specs.declared.form.Form.TheVariants.{Ref1, Ref2}
-use Rattle.form_codec.specs.Forms.{code_of}
-use Rattle.abbrev_tables.specs.declared.decl.Spec.{Spec}
-use Rattle.abbrev_tables.specs.Tables.{Declared, SpellsDeclared}
 use Rattle.abbrev_tables.specs.Listings.{Listing, IsTableAt}
 use Rattle.abbrev_tables.specs.Faults.{FaultTable}
 use Rattle.entry_read.specs.declared.head.UnitHead.{UnitHead}
@@ -67,29 +62,9 @@ FaultOffset info abbrevs kind place = ⊥
 abbrev pub IsTablePlace : List ℕ → List ℕ → ℕ → Type 0
 IsTablePlace info abbrevs at = (head : UnitHead) × IsUnitOf info head × (head.table ≡ at) × (at < length abbrevs)
 
--- a column has the form DW_FORM_ref1 or DW_FORM_ref2
-abbrev pub IsUnbuiltColumn : Spec → Type 0
-IsUnbuiltColumn column = (column.form ≡ code_of Ref1) ⊎ (column.form ≡ code_of Ref2)
-
--- a declaration has such a column
-abbrev pub HasUnbuiltColumn : Declared → Type 0
-HasUnbuiltColumn d = (column : Spec) × Contains d.columns column × IsUnbuiltColumn column
-
--- A declaration stands at a place of a table, and can't be written yet.
-pub record IsUnbuiltDeclaration (rest : List ℕ) (at : ℕ) : Type 0 where
-  pub before : List Declared
-  pub d : Declared
-  pub stands : StandsAt SpellsDeclared rest before d at
-  pub unbuilt : HasUnbuiltColumn d
-
--- the faults of the bytes from a table's first byte on
-abbrev pub FaultRest : List ℕ → Kind → ℕ → Type 0
-FaultRest rest Unbuilt at = IsUnbuiltDeclaration rest at
-FaultRest rest kind at = FaultTable kind at rest
-
 -- A table that a unit names has a fault.
 abbrev pub FaultTables : List ℕ → List ℕ → Kind → ℕ → Type 0
-FaultTables info abbrevs kind place = (at : ℕ) × (inner : ℕ) × IsTablePlace info abbrevs at × (place ≡ at + inner) × FaultRest (drop at abbrevs) kind inner
+FaultTables info abbrevs kind place = (at : ℕ) × (inner : ℕ) × IsTablePlace info abbrevs at × (place ≡ at + inner) × FaultTable kind inner (drop at abbrevs)
 
 -- A unit has a fault in its entries, by the declarations of its table, and with so many entries and values before it.
 pub record FaultEntries (info abbrevs : List ℕ) (before : Counts) (head : UnitHead) (kind : Kind) (place : ℕ) : Type 0 where

@@ -10,7 +10,6 @@ use Rattle.dw_base.specs.declared.fault.Span.{Span}
 use Rattle.spelled.specs.Spelled.{AreBytes}
 use Rattle.form_codec.specs.Forms.{Meaning}
 use Rattle.form_codec.specs.Values.{bytes_in}
-use Rattle.abbrev_tables.specs.Tables.{Declared}
 use Rattle.entry_read.specs.Heads.{type_unit}
 use Rattle.entry_read.specs.Expressions.{IsExprAt}
 use Rattle.list_model.specs.declared.entry.ListKind.{ListKind}
@@ -19,7 +18,7 @@ use Rattle.loc_lists.specs.Views.{view_limit}
 use Rattle.companions.specs.declared.set.ArangeSet.{ArangeSet}
 use Rattle.companions.specs.Aranges.{SetsTile}
 use Rattle.value_links.specs.Sections.{debug_aranges, debug_lists}
-use Rattle.value_links.specs.Reading.{ProgramRead, UnitRead, Linkable, Reading, of_kind, lists_of, declarations, unit_at, unit_starts, AreProgramsOf, AreUnitsOf}
+use Rattle.value_links.specs.Reading.{ProgramRead, Linkable, Reading, of_kind, lists_of, unit_at, unit_starts, AreProgramsOf, AreUnitsOf}
 use Rattle.value_links.specs.Whole.{ArePartsOf, IsReadToLinks, AreRootsRead, IsReading}
 use Rattle.value_links.specs.Lists.{AreTold, AreWithinReach, pair_total}
 use Rattle.value_links.specs.ListFaults.{list_total, entry_total, expression_bytes, expression_limit}
@@ -31,7 +30,7 @@ use Rattle.value_links.specs.declared.link.Link.{Link}
 use Rattle.value_links.specs.Links.{HasLink}
 use Rattle.value_links.specs.Debug.{Debug, MeansDebug, Means}
 use Rattle.value_links.specs.LinkFaults.{FaultValue, FaultOperations, FaultInUnit}
-use Rattle.value_links.specs.Faults.{HasUnbuiltColumn, FaultOfFile, FaultOfNames, FaultOfPrograms, FaultOfUnits, FaultOfLinks, FaultOfLists, Faulty, IsValid}
+use Rattle.value_links.specs.Faults.{FaultOfFile, FaultOfNames, FaultOfPrograms, FaultOfUnits, FaultOfLinks, FaultOfLists, Faulty, IsValid}
 
 -- A file is read in one way.
 abbrev pub OneReading : Type 0
@@ -92,14 +91,6 @@ pub record HaveFewRows (programs : List ProgramRead) : Type 0 where
   pub each : All (λ (p : ProgramRead). length p.rows ≤ row_limit) programs
   pub all : sum_by (λ (p : ProgramRead). length p.rows) programs ≤ total_limit
 
--- a declaration whose entries can be written
-abbrev pub IsBuilt : Declared → Type 0
-IsBuilt d = ¬ HasUnbuiltColumn d
-
--- all declarations that units name can be written
-abbrev pub AreBuilt : List UnitRead → Type 0
-AreBuilt units = All (λ (u : UnitRead). All IsBuilt (declarations u)) units
-
 -- the expressions of what is read are within the limits of a reach
 abbrev pub AreExpressionsWithin : Linkable → Reach → Type 0
 AreExpressionsWithin r reach = (u number : ℕ) (span : Span) → u < length r.units → IsExprAt (unit_at r u).forest number span → IsSomeExpression reach (bytes_in (unit_at r u).forest.section span)
@@ -129,7 +120,6 @@ pub record AreProgramsInOrder (file : List ℕ) (reach : Reach) (r : Linkable) :
 pub record AreUnitsInOrder (file : List ℕ) (reach : Reach) (r : Linkable) : Type 0 where
   pub before : AreProgramsInOrder file reach r
   pub units : AreUnitsOf file r.units
-  pub built : AreBuilt r.units
   pub lists : (kind : ListKind) → ArePartsOf (debug_lists file kind) (of_kind r kind)
 
 pub record AreLinksInOrder (file : List ℕ) (reach : Reach) (r : Linkable) : Type 0 where

@@ -18,6 +18,7 @@ pub mod World
 pub mod Uses
 pub mod Placed
 pub mod Classes
+pub mod Layouts
 pub mod Tidy
 pub mod TidyLists
 pub mod Laws

@@ -21,7 +21,7 @@ use Rattle.value_links.specs.Lists.{AreTold}
 use Rattle.value_links.specs.Whole.{IsReadToLinks, IsReading}
 use Rattle.value_links.specs.LinkFaults.{FaultInUnit}
 use Rattle.value_links.specs.Faults.{InfoFault, FaultTables}
-use Rattle.value_links.specs.Laws.{AreBuilt, AreLinked}
+use Rattle.value_links.specs.Laws.{AreLinked}
 use Rattle.value_links.specs.Debug.{Debug, MeansDebug}
 use Rattle.value_links.specs.World.{head_and_forest, AreTablesOf, HaveOperations}
 
@@ -30,12 +30,11 @@ pub record HoldUnits (read : List UnitRead) (held : Units) : Type 0 where
   pub units : held.units.items ≡ map head_and_forest read
   pub tables : AreTablesOf read held.tables.items held.table_of.items
 
--- The units of a section are held, by the tables of another, and all of them can be written.
+-- The units of a section are held, by the tables of another.
 pub record AreUnitsHeld (info abbrevs : List ℕ) (held : Units) : Type 0 where
   pub read : List UnitRead
   pub units : AreUnitsIn info abbrevs read
   pub holds : HoldUnits read held
-  pub built : AreBuilt read
 
 -- Units have a fault, in one of these sections, whose first bytes stand at these places of the file.
 abbrev pub IsUnitsFault : List ℕ → List ℕ → ℕ → ℕ → Fault → Type 0

@@ -1,20 +1,13 @@
 // The abbreviation tables that units name.
-ghost use Rattle.std.specs.Prelude.{◌≡◌, ◌<◌, ◌+◌, ◌^◌, ◌⊎◌, ◌↔◌, ◌++◌, ◌∷◌, [], ℕ, length, drop, slice_index, IsTrue, IfOk, IfErr, OnOk, MatchOption};
+ghost use Rattle.std.specs.Prelude.{◌≡◌, ◌<◌, ◌+◌, ◌^◌, ◌++◌, ◌∷◌, [], ℕ, length, drop, slice_index, IfOk, IfErr, OnOk};
 ghost use Rattle.std.specs.List.{All, Contains};
 ghost use Rattle.dw_base.specs.Refusals.{IsFaultOf, IsRefusedFor};
-ghost use Rattle.form_codec.specs.Forms.{code_of};
-ghost use Rattle.form_codec.specs.declared.form.Form.TheVariants.{Ref1, Ref2};
-ghost use Rattle.abbrev_tables.specs.declared.decl.Spec.{Spec as AnyColumn};
-ghost use Rattle.abbrev_tables.specs.Listings.{decl_at, declared_in};
-ghost use Rattle.entry_read.specs.Units.{declarations_of, IsTable};
-ghost use Rattle.value_links.specs.Faults.{IsUnbuiltColumn, HasUnbuiltColumn, FaultRest};
-ghost use Rattle.value_links.specs.Laws.{IsBuilt};
+ghost use Rattle.abbrev_tables.specs.Faults.{FaultTable};
 ghost use Rattle.value_links.specs.inside.Tabled.{AreTablePlaces, AreNumbers, IsNamed, places_of, named_places};
 
 use crate::units::NamedTable;
-use abbrev_tables::{Spec, Table, listings};
-use dw_base::constants::{DW_FORM_REF1, DW_FORM_REF2};
-use dw_base::{Fault, Kind, NoMemory, Refusal};
+use abbrev_tables::Table;
+use dw_base::{NoMemory, Refusal};
 use entry_read::UnitHead;
 use std::alloc::Global;
 
@@ -36,51 +29,16 @@ pub(crate) fn table_places(alloc: Global, heads: &[UnitHead]) -> Result<Vec<u64>
     Ok(places)
 }
 
-// Whether a column is one that can't be written yet.
-fn is_unbuilt(column: &Spec) -> bool
-    ensures { IsTrue result ↔ IsUnbuiltColumn column.now }
-{
-    matches!(column.form, DW_FORM_REF1 | DW_FORM_REF2)
-}
-
-// Whether one of the columns is.
-fn has_unbuilt(columns: &[Spec]) -> bool
-    ensures { IsTrue result ↔ ((column : AnyColumn) × Contains columns.now column × IsUnbuiltColumn column) }
-{
-    columns.iter().any(is_unbuilt)
-}
-
-// The number of the first declaration of a table whose entries can't be written yet.
-fn unbuilt_among(table: &Table) -> Option<u32>
-    requires { IsTable table.now }
-    ensures { MatchOption result (All IsBuilt (declarations_of table.now)) (λ i. (i < length table.now.decls) × HasUnbuiltColumn (declared_in table.now.specs (decl_at table.now.decls i))) }
-{
-    for number in 0..table.len() {
-        if has_unbuilt(table.columns(number)) {
-            return Some(number);
-        }
-    }
-    None
-}
-
 // Reads the table at a place.
 fn read_named(alloc: Global, place: u64, abbrevs: &[u8], origin: u64) -> Result<NamedTable, Refusal>
     requires inside { place < length abbrevs.now }
     requires room { origin + length abbrevs.now < 2 ^ 64 }
     ensures place { IfOk result (λ named. named.place ≡ place) }
     ensures table { IfOk result (IsNamed abbrevs.now) }
-    ensures fault { IfErr result (IsRefusedFor (IsFaultOf (FaultRest (drop place abbrevs.now)) (origin + place))) }
+    ensures fault { IfErr result (IsRefusedFor (IsFaultOf (λ kind at. FaultTable kind at (drop place abbrevs.now)) (origin + place))) }
 {
-    // A law, which costs nothing: each declaration stands at its place.
-    listings();
     let table = Table::read(alloc, abbrevs, place, origin)?;
-    match unbuilt_among(&table) {
-        Some(number) => Err(Refusal::Refused(Fault {
-            kind: Kind::Unbuilt,
-            place: origin + table.decl(number).at,
-        })),
-        None => Ok(NamedTable { place, table }),
-    }
+    Ok(NamedTable { place, table })
 }
 
 // Appends a table.
@@ -103,7 +61,7 @@ pub(crate) fn read_tables(
     requires room { origin + length abbrevs.now < 2 ^ 64 }
     ensures places { IfOk result (λ tables. places_of tables.items ≡ places.now) }
     ensures each { IfOk result (λ tables. All (IsNamed abbrevs.now) tables.items) }
-    ensures fault { IfErr result (IsRefusedFor (λ fault. (place : ℕ) × Contains places.now place × IsFaultOf (FaultRest (drop place abbrevs.now)) (origin + place) fault)) }
+    ensures fault { IfErr result (IsRefusedFor (λ fault. (place : ℕ) × Contains places.now place × IsFaultOf (λ kind at. FaultTable kind at (drop place abbrevs.now)) (origin + place) fault)) }
 {
     let mut tables: Vec<NamedTable> = Vec::new(alloc);
     for place in places {

@@ -105,7 +105,7 @@ fn no_units(rt: HostRuntime) -> Result<(), Fail> {
 #[test]
 fn refused_units(rt: HostRuntime) -> Result<(), Fail> {
     let alloc = rt.alloc();
-    let rows: [(&[u8], &[u8], Kind, u64); 9] = [
+    let rows: [(&[u8], &[u8], Kind, u64); 7] = [
         // the second unit is cut, and it has version 4
         (&UNITS[..31], &TABLES, Kind::Short, 64 + 19),
         (
@@ -127,21 +127,6 @@ fn refused_units(rt: HostRuntime) -> Result<(), Fail> {
             ],
             Kind::CodeTwice,
             1000 + 11,
-        ),
-        // a declaration with DW_FORM_ref1, and one with DW_FORM_ref2 after another column
-        (
-            &UNITS[..19],
-            &[
-                1, 0x11, 0, 0, 0, 0, 1, 0x11, 1, 0, 0, 2, 0x34, 0, 0x49, 0x11, 0, 0, 0,
-            ],
-            Kind::Unbuilt,
-            1000 + 11,
-        ),
-        (
-            &[9, 0, 0, 0, 5, 0, 1, 8, 0, 0, 0, 0, 1],
-            &[1, 0x11, 0, 0, 0, 2, 0x34, 0, 3, 8, 0x49, 0x12, 0, 0, 0],
-            Kind::Unbuilt,
-            1000 + 5,
         ),
         // an entry whose code isn't declared in the table of its unit, and a unit that ends in a chain
         (

@@ -103,17 +103,18 @@ fn a_small_file_is_held(rt: HostRuntime) -> Result<(), Fail> {
 }
 
 // Abbreviations behind the file: 1 is a root with children, DW_AT_stmt_list and DW_AT_str_offsets_base; 2 has no attribute; 3 has
-// DW_AT_type in the form ref4 and DW_AT_declaration in the form flag_present; 4 is a root with DW_AT_str_offsets_base alone.
-const TABLE: [u8; 31] = [
+// DW_AT_type in the form ref4 and DW_AT_declaration in the form flag_present; 4 is a root with DW_AT_str_offsets_base alone; 5 has
+// DW_AT_type in the form ref1 and DW_AT_specification in the form ref2.
+const TABLE: [u8; 40] = [
     1, 0x11, 1, 0x10, 0x17, 0x72, 0x17, 0, 0, 2, 0x0b, 0, 0, 0, 3, 0x34, 0, 0x49, 0x13, 0x3c, 0x19,
-    0, 0, 4, 0x11, 0, 0x72, 0x17, 0, 0, 0,
+    0, 0, 4, 0x11, 0, 0x72, 0x17, 0, 0, 5, 0x34, 0, 0x49, 0x11, 0x47, 0x12, 0, 0, 0,
 ];
 
 // Units behind them. The first has a root at 12, and entries by 2, 3, 2 and 3 at 21, 22, 27 and 28, whose types are those at 21
-// and 22; the second has a root by 4.
-const UNITS: [u8; 51] = [
-    0x1e, 0, 0, 0, 5, 0, 1, 8, 0, 0, 0, 0, 1, 0, 0, 0, 0, 8, 0, 0, 0, 2, 3, 21, 0, 0, 0, 2, 3, 22,
-    0, 0, 0, 0, 0x0d, 0, 0, 0, 5, 0, 1, 8, 0, 0, 0, 0, 4, 16, 0, 0, 0,
+// and 22, and one by 5 at 33, which names both; the second has a root by 4.
+const UNITS: [u8; 55] = [
+    0x22, 0, 0, 0, 5, 0, 1, 8, 0, 0, 0, 0, 1, 0, 0, 0, 0, 8, 0, 0, 0, 2, 3, 21, 0, 0, 0, 2, 3, 22,
+    0, 0, 0, 5, 21, 22, 0, 0, 0x0d, 0, 0, 0, 5, 0, 1, 8, 0, 0, 0, 0, 4, 16, 0, 0, 0,
 ];
 
 // The file with these, where its headers have their places and sizes.
@@ -121,10 +122,10 @@ fn with_units(alloc: Global) -> Result<Vec<u8>, AllocError> {
     let places = [
         (344, 0x80),
         (345, 2),
-        (352, 31),
-        (408, 0x9f),
+        (352, 40),
+        (408, 0xa8),
         (409, 2),
-        (416, 51),
+        (416, 55),
     ];
     extended(alloc, &places, &[&TABLE, &UNITS])
 }
@@ -144,6 +145,8 @@ fn links_by_number(rt: HostRuntime) -> Result<(), Fail> {
         (0, 3, Link::Plain),
         (0, 4, Link::Place(0, Target::Entry(2))),
         (0, 5, Link::Plain),
+        (0, 6, Link::Place(0, Target::Entry(1))),
+        (0, 7, Link::Place(0, Target::Entry(2))),
         (1, 0, Link::Kept(16)),
     ];
     for (unit, value, link) in rows.iter() {

@@ -14,6 +14,7 @@ use Rattle.rewriter.specs.declared.tables.NewTable.{NewTable}
 use Rattle.rewriter.specs.declared.new_places.NewPlaces.{NewPlaces}
 use Rattle.rewriter.specs.declared.sections.NewSections.{NewSections}
 use Rattle.rewriter.specs.inside.Tables.{AreTablesWritten}
+use Rattle.rewriter.specs.inside.Placed.{places_at, IsPlacedBy}
 use Rattle.rewriter.specs.inside.Units.{AreUnitsWritten}
 use Rattle.rewriter.specs.inside.ListsAnew.{AreListsAnew}
 use Rattle.rewriter.specs.inside.ViewsAnew.{AreViewsAnew}
@@ -39,7 +40,7 @@ abbrev pub new_lists : NewSections → ListKind → List ℕ
 new_lists new Ranges = new.ranges.items
 new_lists new Locations = new.locations.items
 
--- What is read of the new sections of a file, of which so much was read.
+-- What is read of the new sections of a file, of which so much was read, where its units stand at their new places.
 pub record AreAnew (file : List ℕ) (world : World) (r s : Reading) (new : NewSections) : Type 0 where
   pub tables : List NewTable
   pub places : List Places
@@ -53,4 +54,5 @@ pub record AreAnew (file : List ℕ) (world : World) (r s : Reading) (new : NewS
   pub addresses : s.links.addresses ≡ r.links.addresses
   pub contexts : s.links.contexts ≡ r.links.contexts
   pub units : AreUnitsWritten world r.links tables places new_places new.info.items new.abbrevs.items s.links.units
+  pub placed : (u : ℕ) → u < length world.units → IsPlacedBy world tables u (places_at places u)
   pub sets : AreSetsAnew (debug_aranges file) r s new.aranges.items

@@ -3,6 +3,7 @@ use Rattle.std.specs.Prelude.{◌≡◌, ◌≢◌, ◌≤◌, ◌<◌, ◌+◌,
 use Rattle.std.specs.List.{All}
 use Rattle.form_codec.specs.declared.value.Value.{Value}
 use Rattle.form_codec.specs.declared.value.Value.TheVariants as value
+use Rattle.form_codec.specs.Forms.Meaning.{InUnit}
 use Rattle.form_codec.specs.Values.{meant_in}
 use Rattle.expr_ops.specs.declared.op.Op.{Op}
 use Rattle.expr_ops.specs.declared.names.Named.{Named}
@@ -16,10 +17,13 @@ use Rattle.entry_arena.specs.Arena.{Arena, entry_at, value_at}
 use Rattle.fixed_width.specs.InitialLengths.{least_reserved}
 use Rattle.entry_read.specs.Heads.{type_unit}
 use Rattle.entry_read.specs.Units.{HeadAndForest}
+use Rattle.entry_read.specs.Locals.{locals_before}
 use Rattle.unit_write.specs.declared.places.Places.{Places}
+use Rattle.unit_write.specs.declared.slots.Spot.{Spot}
+use Rattle.unit_write.specs.Slots.{IsSpotAt, spot_at}
 use Rattle.unit_write.specs.declared.write.NewNumbers.{NewNumbers}
 use Rattle.unit_write.specs.Placing.{IsRenumbered}
-use Rattle.unit_write.specs.Moved.{IsWrittenAnew, new_values}
+use Rattle.unit_write.specs.Moved.{IsPlacedAt, IsWrittenAnew, new_values, lens_anew}
 use Rattle.list_model.specs.declared.contribution.Contribution.{Contribution}
 use Rattle.list_model.specs.declared.entry.ListKind.{ListKind}
 use Rattle.list_model.specs.Contributions.{offsets_at}
@@ -202,6 +206,11 @@ pub record AreNumberedUpTo (world : World) (places : List Places) (new_places : 
 abbrev pub AreNumbered : World → List Places → NewPlaces → ℕ → List ℕ → Type 0
 AreNumbered world places new_places u held = AreNumberedUpTo world places new_places u held (length (unit_in world.units u).forest.entries)
 
+-- the references within a unit among its values before one, as they are found one after the other
+pub record AreSpotsUpTo (unit : HeadAndForest) (spots : List Spot) (count : ℕ) : Type 0 where
+  pub counted : length spots ≡ locals_before unit.forest count
+  pub each : (k n : ℕ) → k < count → k < length unit.forest.values → meant_in unit.forest.section (value_at unit.forest.values k) ≡ InUnit n → IsSpotAt unit.forest (spot_at spots (locals_before unit.forest k)) (unit.head.at + n)
+
 -- The entry of a type unit's type stands in the unit.
 abbrev pub HasType : HeadAndForest → Type 0
 HasType unit =
@@ -213,10 +222,12 @@ pub record IsTypeMoved (unit : HeadAndForest) (places : PlacesAnew) (new : ℕ) 
   pub none : unit.head.kind ≢ type_unit → new ≡ 0
   pub fits : new < 2 ^ 32
 
--- The unit with a number stands anew at the end of a section, with its new numbers.
+-- The unit with a number stands anew at the end of a section, with its new numbers. Each of its references within itself is as long as its
+-- number needs, and so it has its places.
 pub record IsUnitBehind (world : World) (tables : List NewTable) (places : List Places) (new_places : NewPlaces) (u : ℕ) (section : List ℕ) : Type 0 where
   pub numbers : NewNumbers
   pub numbered : (file : List ℕ) (r : Reading) → Holds file world r → AreNewNumbers world r.links tables places new_places u numbers
+  pub placed : IsPlacedAt (unit_in world.units u) (table_for world u) (new_table_at tables (slice_index world.table_of u)).columns (new_table_at tables (slice_index world.table_of u)).numbers (lens_anew (unit_in world.units u).forest (new_values numbers)) (places_at places u).start (places_at places u).entries (places_at places u).ends (places_at places u).end
   pub written : (ds : List Declared) → IsRenumbered (table_for world u) (new_table_at tables (slice_index world.table_of u)).columns (new_table_at tables (slice_index world.table_of u)).numbers ds → IsWrittenAnew (unit_in world.units u) (table_for world u) (new_table_at tables (slice_index world.table_of u)).columns (new_table_at tables (slice_index world.table_of u)).numbers ds numbers.table numbers.type_offset (new_values numbers) (places_at places u).start section
 
 -- The first units stand anew in a section, each at its place.

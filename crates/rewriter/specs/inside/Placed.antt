@@ -4,7 +4,10 @@ use Rattle.fixed_width.specs.InitialLengths.{least_reserved}
 use Rattle.entry_read.specs.Units.{HeadAndForest}
 use Rattle.unit_write.specs.declared.places.Places.{Places}
 use Rattle.unit_write.specs.NewExpressions.{lens_of, ArePlainEnds}
+use Rattle.unit_write.specs.Lens.{AreLensFor}
 use Rattle.unit_write.specs.Moved.{IsWritable, IsPlacedAt}
+use Rattle.unit_write.specs.declared.slots.Spot.{Spot}
+use Rattle.unit_write.specs.Slots.{AreSpotsOf, IsLaidOut}
 use Rattle.value_links.specs.World.{World, table_at, operations_at}
 use Rattle.rewriter.specs.declared.tables.NewTable.{NewTable}
 use Rattle.rewriter.specs.inside.Tables.{new_table_at}
@@ -30,11 +33,16 @@ unit_in units u = slice_index_or units u (record { head = record { at = 0; len =
 abbrev pub AreEndsIn : World → ℕ → List ℕ → Type 0
 AreEndsIn world u ends = ArePlainEnds (unit_in world.units u).forest (operations_at world.operations u) ends
 
--- the unit stands at these places, by the new columns and numbers of its table and the new bytes of its expressions
+-- The unit stands at these places, by the new columns and numbers of its table, the new bytes of its expressions and the least layout of
+-- its references within itself.
 pub record IsPlacedBy (world : World) (tables : List NewTable) (u : ℕ) (places : PlacesAnew) : Type 0 where
   pub expressions : List ℕ
   pub plain : AreEndsIn world u expressions
-  pub placed : IsPlacedAt (unit_in world.units u) (table_at world.tables (slice_index world.table_of u)).table (new_table_at tables (slice_index world.table_of u)).columns (new_table_at tables (slice_index world.table_of u)).numbers (lens_of expressions) places.start places.entries places.ends places.end
+  pub spots : List Spot
+  pub named : AreSpotsOf (unit_in world.units u) spots
+  pub lens : List ℕ
+  pub laid_out : IsLaidOut (unit_in world.units u) (table_at world.tables (slice_index world.table_of u)).table (new_table_at tables (slice_index world.table_of u)).columns (new_table_at tables (slice_index world.table_of u)).numbers (lens_of expressions) spots lens
+  pub placed : IsPlacedAt (unit_in world.units u) (table_at world.tables (slice_index world.table_of u)).table (new_table_at tables (slice_index world.table_of u)).columns (new_table_at tables (slice_index world.table_of u)).numbers lens places.start places.entries places.ends places.end
 
 -- units stand one after the other, from a place up to another
 abbrev pub PlacesFollow : List Places → ℕ → ℕ → Type 0
@@ -48,7 +56,7 @@ pub record ArePlacesOf (world : World) (tables : List NewTable) (places : List P
   pub small : size < least_reserved
   pub each : (u : ℕ) → u < length world.units → IsPlacedBy world tables u (places_at places u)
 
--- each unit of the world can be written by the new columns and numbers of its table
+-- each unit of the world can be written by the new columns and numbers of its table, whatever sizes its references have
 abbrev pub AreWritable : World → List NewTable → Type 0
 AreWritable world tables =
-    (u : ℕ) (expressions : List ℕ) → u < length world.units → AreEndsIn world u expressions → IsWritable (unit_in world.units u) (table_at world.tables (slice_index world.table_of u)).table (new_table_at tables (slice_index world.table_of u)).columns (new_table_at tables (slice_index world.table_of u)).numbers (lens_of expressions)
+    (u : ℕ) (lens : List ℕ) → u < length world.units → AreLensFor (unit_in world.units u).forest lens → IsWritable (unit_in world.units u) (table_at world.tables (slice_index world.table_of u)).table (new_table_at tables (slice_index world.table_of u)).columns (new_table_at tables (slice_index world.table_of u)).numbers lens

@@ -7,10 +7,11 @@ use Rattle.value_links.specs.Faults.{IsValid}
 use Rattle.value_links.specs.Same.{Same}
 use Rattle.value_links.specs.Placed.{IsPlaced}
 use Rattle.value_links.specs.Classes.{HaveLeastCodes, HaveOrderedCodes, HaveLeastColumns, HaveFirstColumns, HaveLeastLists}
+use Rattle.value_links.specs.Layouts.{HaveLeastLayouts}
 use Rattle.value_links.specs.Tidy.{IsTidy}
 
--- The written file means the same and is valid within the wide limits. Its line number programs, its lists, the forms of its columns
--- other than references to entries, and the codes of its entries take the fewest bytes, and of several such choices each is the one that comes
+-- The written file means the same and is valid within the wide limits. Its line number programs, its lists, the forms of its columns,
+-- the codes of its entries and the references within its units take the fewest bytes, and of several such choices each is the one that comes
 -- first by a stated rule. Its tables and units hold nothing else, and its parts stand where they are to stand.
 pub record IsRewritten (file written : List ℕ) : Type 0 where
   pub same : Same file written
@@ -22,5 +23,6 @@ pub record IsRewritten (file written : List ℕ) : Type 0 where
   pub columns_order : HaveFirstColumns file written
   pub codes : HaveLeastCodes file written
   pub codes_order : HaveOrderedCodes file written
+  pub layouts : HaveLeastLayouts file written
   pub tidy : IsTidy file written
   pub placed : IsPlaced file written

@@ -31,15 +31,15 @@ anew_at tables i = slice_index_or tables i (record { at = 0; columns = []; numbe
 abbrev pub new_table_at : List NewTable → ℕ → TableAnew
 new_table_at tables i = anew_at (map table_anew tables) i
 
--- The columns of a declaration that entries have are the old ones, each but those of references in its least form for the values of
--- all those entries. Those of a declaration that no entry has are never written.
+-- The columns of a declaration that entries have are the old ones, each in its least form for the values of all those entries. Those of
+-- a declaration that no entry has are never written.
 pub record AreColumnsChosen (units : List HeadAndForest) (old : NamedTable) (columns : List Spec) : Type 0 where
   pub count : length columns ≡ length old.table.specs
   pub each : (number j : ℕ) → number < length old.table.decls → uses_of units old.place number ≢ 0 → j < (decl_at old.table.decls number).count → IsChosen (spec_at old.table.specs ((decl_at old.table.decls number).first + j)) (column_meanings units old.place number j) (spec_at columns ((decl_at old.table.decls number).first + j))
   pub unused : (number j : ℕ) → number < length old.table.decls → uses_of units old.place number ≡ 0 → j < (decl_at old.table.decls number).count → spec_at columns ((decl_at old.table.decls number).first + j) ≡ spec_at old.table.specs ((decl_at old.table.decls number).first + j)
 
--- The table stands in the new section: its used declarations and no others, by rising code, each column but those of references
--- in its least form, and each LEB128 number shortest. They are numbered so that the codes are those from 1 on and take the least bytes in the table and
+-- The table stands in the new section: its used declarations and no others, by rising code, each column in its least form, and each
+-- LEB128 number shortest. They are numbered so that the codes are those from 1 on and take the least bytes in the table and
 -- in all entries, by falling uses and then by place.
 pub record IsTableWritten (units : List HeadAndForest) (section : List ℕ) (old : NamedTable) (new : TableAnew) : Type 0 where
   pub uses : List ℕ

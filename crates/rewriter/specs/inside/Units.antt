@@ -12,7 +12,6 @@ use Rattle.unit_write.specs.Placing.{IsRenumbered}
 use Rattle.entry_read.specs.Short.{StandsShort, EndsShort}
 use Rattle.unit_write.specs.Moved.{IsMovedEntry, IsMovedEnd, AreMovedValues, new_values}
 use Rattle.value_links.specs.Reading.{UnitRead, Linkable, declarations, unit_among, unit_at, AreUnitsIn}
-use Rattle.value_links.specs.Laws.{AreBuilt}
 use Rattle.value_links.specs.World.{World}
 use Rattle.rewriter.specs.declared.tables.NewTable.{NewTable}
 use Rattle.rewriter.specs.declared.new_places.NewPlaces.{NewPlaces}
@@ -45,6 +44,5 @@ pub record IsUnitMoved (world : World) (r : Linkable) (tables : List NewTable) (
 -- The sections hold the units of a file, written anew, and the tables that they name.
 pub record AreUnitsWritten (world : World) (r : Linkable) (tables : List NewTable) (places : List Places) (new_places : NewPlaces) (info abbrevs : List ℕ) (units : List UnitRead) : Type 0 where
   pub read : AreUnitsIn info abbrevs units
-  pub built : AreBuilt units
   pub count : length units ≡ length r.units
   pub each : (u : ℕ) → u < length r.units → IsUnitMoved world r tables places new_places u (unit_among units u)

@@ -1,7 +1,7 @@
 -- What the private parts of the writer give; nothing here is a definition of the format.
 use Rattle.std.specs.Prelude.{◌≡◌, ◌≤◌, ◌<◌, ◌^◌, ℕ, suc, List, [], ◌∷◌, ◌++◌, length, slice_index, Bool, true, false, nat_eq, if◌then◌else◌}
 use Rattle.std.specs.List.{All}
-use Rattle.leb_codec.specs.Leb.{Uleb, ShortestUnsigned, PaddedUnsigned, least_unsigned_len}
+use Rattle.leb_codec.specs.Leb.{Uleb, ShortestUnsigned, least_unsigned_len}
 use Rattle.form_codec.specs.declared.form.Role.{Role}
 use Rattle.form_codec.specs.declared.form.Role.TheVariants.{LocalRef, SectionRef, Offset}
 use Rattle.form_codec.specs.declared.form.Content.TheVariants as content
@@ -9,7 +9,7 @@ use Rattle.form_codec.specs.declared.form.Shape.{Shape}
 use Rattle.form_codec.specs.declared.form.Width.TheVariants.{Two, Four, Eight}
 use Rattle.form_codec.specs.declared.form.Shape.TheVariants.{Number, Uleb as ByUleb, UlebCounted}
 use Rattle.form_codec.specs.declared.value.Value.{Value}
-use Rattle.form_codec.specs.Forms.{Meaning, size_of}
+use Rattle.form_codec.specs.Forms.{Meaning}
 use Rattle.form_codec.specs.Forms.Meaning.{Expression}
 use Rattle.form_codec.specs.Values.{meant_in}
 use Rattle.form_codec.specs.Written.{low_bytes}
@@ -39,16 +39,6 @@ abbrev pub shape_moves : Shape → Bool
 shape_moves (Number width role) = role_moves role
 shape_moves (ByUleb role) = role_moves role
 shape_moves shape = false
-
--- how many bytes such a number has in a shape, where one in LEB128 is padded
-abbrev pub number_size : Shape → ℕ
-number_size (Number width role) = size_of width
-number_size shape = 5
-
--- the bytes of such a number in a shape
-abbrev pub PutsNumber : Shape → ℕ → List ℕ → Type 0
-PutsNumber (Number width role) number bytes = bytes ≡ low_bytes width number
-PutsNumber shape number bytes = PaddedUnsigned 5 number bytes
 
 -- an expression
 abbrev pub is_expr : Meaning → Bool

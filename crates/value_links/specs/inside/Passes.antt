@@ -15,7 +15,7 @@ use Rattle.value_links.specs.Whole.{AreRootsRead}
 use Rattle.value_links.specs.Faults.{NamesFault}
 use Rattle.value_links.specs.Laws.{AreLinked}
 use Rattle.value_links.specs.Parts.{HoldsParts}
-use Rattle.value_links.specs.Laws.{HaveFewRows, AreBuilt, IsImageInOrder}
+use Rattle.value_links.specs.Laws.{HaveFewRows, IsImageInOrder}
 
 -- where units begin
 abbrev pub starts_of : List HeadAndForest → List ℕ
@@ -26,14 +26,12 @@ pub record ArePartsRead (file : List ℕ) (parts : Parts) : Type 0 where
   pub r : Linkable
   pub holds : HoldsParts file r parts
   pub few : HaveFewRows r.programs
-  pub built : AreBuilt r.units
 
 -- And all that the values of the units refer to is there, with the first bases and the address tables.
 pub record ArePartsInOrder (file : List ℕ) (parts : Parts) : Type 0 where
   pub r : Linkable
   pub holds : HoldsParts file r parts
   pub few : HaveFewRows r.programs
-  pub built : AreBuilt r.units
   pub linked : AreLinked r
   pub roots : AreRootsRead r
 

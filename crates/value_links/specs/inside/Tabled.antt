@@ -6,10 +6,9 @@ use Rattle.abbrev_tables.specs.Listings.{IsTableAt}
 use Rattle.entry_read.specs.declared.head.UnitHead.{UnitHead}
 use Rattle.entry_read.specs.declared.unit.Counts.{Counts}
 use Rattle.entry_read.specs.Heads.{head_numbered}
-use Rattle.entry_read.specs.Units.{HeadAndForest, declarations_of}
+use Rattle.entry_read.specs.Units.{HeadAndForest}
 use Rattle.value_links.specs.declared.units.NamedTable.{NamedTable}
 use Rattle.value_links.specs.Reading.{UnitRead, unit_heads, unit_among, counts_of, AreWithin, IsUnitRead}
-use Rattle.value_links.specs.Laws.{IsBuilt, AreBuilt}
 use Rattle.value_links.specs.World.{head_and_forest, table_at, named_by}
 
 -- where the tables stand that headers name
@@ -31,13 +30,12 @@ pub record AreNumbers (heads : List UnitHead) (places numbers : List ℕ) : Type
   pub inside : (u : ℕ) → u < length heads → slice_index numbers u < length places
   pub each : (u : ℕ) → u < length heads → slice_index places (slice_index numbers u) ≡ (head_numbered heads u).table
 
--- a table that stands at its place, and whose entries can be written
+-- a table that stands at its place
 pub record IsNamed (abbrevs : List ℕ) (named : NamedTable) : Type 0 where
   pub inside : named.place < length abbrevs
   pub stands : IsTableAt abbrevs named.place named.table
-  pub built : All IsBuilt (declarations_of named.table)
 
--- The units of the first of these headers are held, by the tables with these numbers, and all of them can be written.
+-- The units of the first of these headers are held, by the tables with these numbers.
 pub record HoldFront (info abbrevs : List ℕ) (heads : List UnitHead) (tables : List NamedTable) (numbers : List ℕ) (units : List HeadAndForest) (counts : Counts) (n : ℕ) : Type 0 where
   pub read : List UnitRead
   pub held : units ≡ map head_and_forest read
@@ -47,4 +45,3 @@ pub record HoldFront (info abbrevs : List ℕ) (heads : List UnitHead) (tables :
   pub within : AreWithin read
   pub counted : counts ≡ counts_of read
   pub tabled : (u : ℕ) → u < n → table_at tables (slice_index numbers u) ≡ named_by (unit_among read u)
-  pub built : AreBuilt read

@@ -5,7 +5,6 @@ use Rattle.dw_base.specs.declared.fault.Reach.{Reach}
 use Rattle.abbrev_tables.specs.Listings.{Listing}
 use Rattle.value_links.specs.declared.lists.ListRead.{ListRead as HeldList}
 use Rattle.value_links.specs.declared.parts.Parts.{Parts}
-use Rattle.value_links.specs.Laws.{AreBuilt}
 use Rattle.value_links.specs.Parts.{HoldsParts}
 use Rattle.value_links.specs.World.{World, table_at, IsWorldOf}
 
@@ -17,9 +16,8 @@ own_table world u = (table_at world.tables (slice_index world.table_of u)).table
 abbrev pub AreListsApart : List HeldList → Type 0
 AreListsApart lists = (i j : ℕ) (d : HeldList) → i < j → j < length lists → (slice_index_or lists i d).at < (slice_index_or lists j d).at
 
--- the world is that of a valid file, these parts are what is read of it up to links, and its units can be written
+-- the world is that of a valid file, and these parts are what is read of it up to links
 pub record IsHeldIn (image : List ℕ) (parts : Parts) (world : World) : Type 0 where
   pub reach : Reach
   pub is : IsWorldOf image reach world
   pub parts_are : HoldsParts image is.r.links parts
-  pub built : AreBuilt is.r.links.units

@@ -1,5 +1,5 @@
 use Rattle.abbrev_tables.proofs.ListingOnce.{listing_once}
-use Rattle.abbrev_tables.proofs.ListingStands.{tables_listed, declarations_stand}
+use Rattle.abbrev_tables.proofs.ListingStands.{tables_listed}
 use Rattle.abbrev_tables.proofs.laws.listings.Goals as goal
 
 pub returns-clause-once : goal.returns-clause-once
@@ -7,6 +7,3 @@ returns-clause-once c = listing_once
 
 pub returns-clause-some : goal.returns-clause-some
 returns-clause-some c = tables_listed
-
-pub returns-clause-stand : goal.returns-clause-stand
-returns-clause-stand c = declarations_stand

@@ -27,5 +27,8 @@ returns-clause-codes c = (rw c.in_ok-world.ensures.world.holds.image at c.in_ok-
 pub returns-clause-codes_order : goal.returns-clause-codes_order
 returns-clause-codes_order c = (rw c.in_ok-world.ensures.world.holds.image at c.in_ok-write_anew.ensures.rewritten).codes_order
 
+pub returns-clause-layouts : goal.returns-clause-layouts
+returns-clause-layouts c = (rw c.in_ok-world.ensures.world.holds.image at c.in_ok-write_anew.ensures.rewritten).layouts
+
 pub returns-clause-tidy : goal.returns-clause-tidy
 returns-clause-tidy c = (rw c.in_ok-world.ensures.world.holds.image at c.in_ok-write_anew.ensures.rewritten).tidy

@@ -6,7 +6,7 @@ use Rattle.rewriter.proofs.sections.write_sections.Goals as goal
 
 pub place_units-requires-clause-writable : goal.place_units-requires-clause-writable
 place_units-requires-clause-writable c =
-    writable c.values_have_sizes.ensures.numbers c.values_have_sizes.ensures.expressions c.values_have_sizes.ensures.others c.listings.ensures.stand c.args.world.now c.requires.world c.in_ok-tables.tables.bytes.items c.in_ok-tables.tables.tables.items c.in_ok-tables.ensures.written
+    writable c.values_have_sizes.ensures.numbers c.values_have_sizes.ensures.expressions c.values_have_sizes.ensures.others c.args.world.now c.requires.world c.in_ok-tables.tables.bytes.items c.in_ok-tables.tables.tables.items c.in_ok-tables.ensures.written
 
 pub write_kind-requires-clause-placed : goal.write_kind-requires-clause-placed
 write_kind-requires-clause-placed c =
@@ -26,7 +26,7 @@ write_units-requires-clause-narrow c = let fits = c.in_ok-tables.ensures.fits in
 
 pub write_units-requires-clause-writable : goal.write_units-requires-clause-writable
 write_units-requires-clause-writable c =
-    writable c.values_have_sizes.ensures.numbers c.values_have_sizes.ensures.expressions c.values_have_sizes.ensures.others c.listings.ensures.stand c.args.world.now c.requires.world c.in_ok-tables.tables.bytes.items c.in_ok-tables.tables.tables.items c.in_ok-tables.ensures.written
+    writable c.values_have_sizes.ensures.numbers c.values_have_sizes.ensures.expressions c.values_have_sizes.ensures.others c.args.world.now c.requires.world c.in_ok-tables.tables.bytes.items c.in_ok-tables.tables.tables.items c.in_ok-tables.ensures.written
 
 pub write_units-requires-clause-new_places : goal.write_units-requires-clause-new_places
 write_units-requires-clause-new_places c =
@@ -44,13 +44,13 @@ write_aranges-requires-clause-fit c =
 pub returns-clause-anew : goal.returns-clause-anew
 returns-clause-anew c =
     λ r read holds.
-    let parts = parts_of holds c.in_ok-lines.ensures.stand (c.in_ok-ranges.ensures.written r holds) (c.in_ok-locations.ensures.written r holds) (rw c.views.ensures at c.in_ok-moved_views.ensures) c.in_ok-tables.ensures.written c.in_ok-places.ensures.placed.1.count (c.in_ok-info.ensures.written c.args.world.now.image r holds) c.in_ok-aranges.ensures.tiled c.in_ok-aranges.ensures.others c.in_ok-aranges.ensures.size in
+    let parts = parts_of holds c.in_ok-lines.ensures.stand (c.in_ok-ranges.ensures.written r holds) (c.in_ok-locations.ensures.written r holds) (rw c.views.ensures at c.in_ok-moved_views.ensures) c.in_ok-tables.ensures.written c.in_ok-places.ensures.placed.1.count c.in_ok-places.ensures.placed.1.each (c.in_ok-info.ensures.written c.args.world.now.image r holds) c.in_ok-aranges.ensures.tiled c.in_ok-aranges.ensures.others c.in_ok-aranges.ensures.size in
     are_anew parts read c.ranges_written.ensures c.locations_written.ensures _ refl refl refl refl refl refl
 
 pub returns-clause-sections : goal.returns-clause-sections
 returns-clause-sections c =
     let w = c.requires.world in
-    let parts = parts_of w.holds c.in_ok-lines.ensures.stand (c.in_ok-ranges.ensures.written w.r w.holds) (c.in_ok-locations.ensures.written w.r w.holds) (rw c.views.ensures at c.in_ok-moved_views.ensures) c.in_ok-tables.ensures.written c.in_ok-places.ensures.placed.1.count (c.in_ok-info.ensures.written c.args.world.now.image w.r w.holds) c.in_ok-aranges.ensures.tiled c.in_ok-aranges.ensures.others c.in_ok-aranges.ensures.size in
+    let parts = parts_of w.holds c.in_ok-lines.ensures.stand (c.in_ok-ranges.ensures.written w.r w.holds) (c.in_ok-locations.ensures.written w.r w.holds) (rw c.views.ensures at c.in_ok-moved_views.ensures) c.in_ok-tables.ensures.written c.in_ok-places.ensures.placed.1.count c.in_ok-places.ensures.placed.1.each (c.in_ok-info.ensures.written c.args.world.now.image w.r w.holds) c.in_ok-aranges.ensures.tiled c.in_ok-aranges.ensures.others c.in_ok-aranges.ensures.size in
     let info = c.in_ok-info.ensures.fits in
     let ranges = c.in_ok-ranges.ensures.fits in
     let locations = c.in_ok-locations.ensures.fits in

@@ -4,7 +4,7 @@ use Rattle.fixed_width.specs.InitialLengths.{least_reserved}
 use Rattle.rewriter.specs.inside.Placed.{places_at}
 use Rattle.rewriter.proofs.Links.{own_is}
 use Rattle.rewriter.proofs.Final.{named_is, new_table_is, has_anew}
-use Rattle.rewriter.proofs.Behind.{unit_ends, writable_there, placed_there, written_there, held_counted, ends_there, filled_there, type_none, table_fits}
+use Rattle.rewriter.proofs.Behind.{unit_ends, placed_with, writable_anew, placed_there, written_there, held_counted, ends_there, filled_there, type_none, table_fits}
 use Rattle.rewriter.proofs.units.write_numbered.Goals as goal
 
 pub write_unit-requires-clause-ends : goal.write_unit-requires-clause-ends
@@ -16,7 +16,8 @@ write_unit-requires-clause-ends c =
     let unit = own_is c.args.world.now c.args.number c.units.result.now.items c.index-unit.result.now c.requires.known c.units.ensures c.index-unit.ensures in
     let old = named_is c.args.world.now c.args.number c.tables.result.now.items c.table_numbers.result.now.items c.index.result.now c.index-old.result.now has.numbered has.old c.tables.ensures c.table_numbers.ensures c.index.ensures c.index-old.ensures in
     let anew = new_table_is c.args.world.now c.args.tables.now.tables.items c.args.number c.table_numbers.result.now.items c.index.result.now c.index-anew.result.now has c.table_numbers.ensures c.index.ensures c.index-anew.ensures in
-    ((places_at c.args.places.now.items c.args.number).entries, (places_at c.args.places.now.items c.args.number).ends, placed_there c.args.world.now c.args.tables.now.tables.items c.args.number c.index-unit.result.now c.index-old.result.now c.index-anew.result.now unit old anew c.args.places.now.items c.requires.places.0 (length c.args.info.now.items) c.in_ok-new.new.end c.in_ok-new.new.ends.items c.requires.places.1 c.requires.known numbers.ends_are c.requires.behind numbers.ends)
+    let placed = placed_with c.args.world.now.image c.args.world.now is.r c.args.tables.now.tables.items c.args.places.now.items c.args.new_places.now c.args.number c.in_ok-new.new is.holds numbers c.layouts_hold.ensures Narrow is c.requires.known (c.requires.places.1.each c.args.number c.requires.known) in
+    ((places_at c.args.places.now.items c.args.number).entries, (places_at c.args.places.now.items c.args.number).ends, placed_there c.args.world.now c.args.tables.now.tables.items c.args.number c.index-unit.result.now c.index-old.result.now c.index-anew.result.now unit old anew c.args.world.now.image is.r c.args.places.now.items c.args.new_places.now c.in_ok-new.new is.holds numbers (length c.args.info.now.items) c.in_ok-new.new.end c.requires.behind numbers.ends placed)
 
 pub write_unit-requires-clause-fits : goal.write_unit-requires-clause-fits
 write_unit-requires-clause-fits c =
@@ -35,7 +36,7 @@ write_unit-requires-clause-writable c =
     let unit = own_is c.args.world.now c.args.number c.units.result.now.items c.index-unit.result.now c.requires.known c.units.ensures c.index-unit.ensures in
     let old = named_is c.args.world.now c.args.number c.tables.result.now.items c.table_numbers.result.now.items c.index.result.now c.index-old.result.now has.numbered has.old c.tables.ensures c.table_numbers.ensures c.index.ensures c.index-old.ensures in
     let anew = new_table_is c.args.world.now c.args.tables.now.tables.items c.args.number c.table_numbers.result.now.items c.index.result.now c.index-anew.result.now has c.table_numbers.ensures c.index.ensures c.index-anew.ensures in
-    writable_there c.args.world.now c.args.tables.now.tables.items c.args.number c.index-unit.result.now c.index-old.result.now c.index-anew.result.now unit old anew c.in_ok-new.new.ends.items c.requires.writable c.requires.known numbers.ends_are
+    writable_anew c.args.world.now c.args.tables.now.tables.items c.args.number c.index-unit.result.now c.index-old.result.now c.index-anew.result.now unit old anew c.args.world.now.image is.r c.args.places.now.items c.args.new_places.now c.in_ok-new.new is.holds numbers c.requires.writable c.requires.known
 
 pub write_unit-requires-clause-held : goal.write_unit-requires-clause-held
 write_unit-requires-clause-held c =
@@ -93,5 +94,6 @@ returns-clause-written c =
     record {
       numbers = c.in_ok-new.new;
       numbered = c.in_ok-new.ensures.numbers;
+      placed = placed_with c.args.world.now.image c.args.world.now is.r c.args.tables.now.tables.items c.args.places.now.items c.args.new_places.now c.args.number c.in_ok-new.new is.holds numbers c.layouts_hold.ensures Narrow is c.requires.known (c.requires.places.1.each c.args.number c.requires.known);
       written = written_there c.args.world.now c.args.tables.now.tables.items c.args.number c.index-unit.result.now c.index-old.result.now c.index-anew.result.now unit old anew c.in_ok-new.new (places_at c.args.places.now.items c.args.number).start (length c.args.info.now.items) c.write_unit.new.out.items c.requires.behind c.in_ok-write_unit.ensures.written;
     }

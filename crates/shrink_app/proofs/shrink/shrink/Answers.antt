@@ -3,6 +3,7 @@ use Rattle.std.proofs.lemmas.Result.{err_from_is_err_and, on_ok_weaker}
 use Rattle.value_links.specs.Same.{Same}
 use Rattle.value_links.specs.Placed.{IsPlaced}
 use Rattle.value_links.specs.Classes.{HaveLeastCodes, HaveOrderedCodes, HaveLeastColumns, HaveFirstColumns, HaveLeastLists}
+use Rattle.value_links.specs.Layouts.{HaveLeastLayouts}
 use Rattle.value_links.specs.Tidy.{IsTidy}
 use Rattle.shrink_app.specs.File.{StaysValid, HasLeastLines, HasOrderedLines}
 use Rattle.shrink_app.proofs.Shrinks.{refusal_named, within_limit, valid_read, front_written, no_fault}
@@ -78,6 +79,12 @@ returns-clause-codes_order g c =
     let holds = rw (c.deref.ensures.value, sym c.deref-2.ensures.value) at c.in_ok-written.ensures.codes_order in
     let bytes = g.H.Host.bytes in
     on_ok_weaker c.write_file.result (λ put. front_written HaveOrderedCodes (bytes c.args.host.now) (bytes c.read_input.new.host) (bytes c.write_file.new.host) c.args.input.now c.args.output.now c.in_ok-file.file.items c.deref-2.result.now c.in_ok-file.ensures.read holds (c.read_input.ensures.files c.args.output.now) put) c.write_file.ensures.written
+
+pub returns-clause-layouts : goal.returns-clause-layouts
+returns-clause-layouts g c =
+    let holds = rw (c.deref.ensures.value, sym c.deref-2.ensures.value) at c.in_ok-written.ensures.layouts in
+    let bytes = g.H.Host.bytes in
+    on_ok_weaker c.write_file.result (λ put. front_written HaveLeastLayouts (bytes c.args.host.now) (bytes c.read_input.new.host) (bytes c.write_file.new.host) c.args.input.now c.args.output.now c.in_ok-file.file.items c.deref-2.result.now c.in_ok-file.ensures.read holds (c.read_input.ensures.files c.args.output.now) put) c.write_file.ensures.written
 
 pub returns-clause-tidy : goal.returns-clause-tidy
 returns-clause-tidy g c =

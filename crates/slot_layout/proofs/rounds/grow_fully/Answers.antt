@@ -1,9 +1,9 @@
 use Rattle.std.proofs.Common.{◌≡◌, ◌<◌, ◌+◌, ◌-◌, ◌*◌, ◌^◌, ℕ, suc, [], List, length, get_or, sum, ap, ◌∙◌, sym, subst, arith}
 use Rattle.leb_codec.specs.Layout.{IsLayout, IsLowestLayout, IsLeastLayout, HasNarrowNumbers, AcceptsLayout, HasFirstRanks}
-use Rattle.slot_layout.specs.Rows.{rows_of}
+use Rattle.slot_layout.specs.Rows.{rows_of, IsTight}
 use Rattle.slot_layout.specs.inside.Rounds.{AreSmall, joined}
 use Rattle.slot_layout.proofs.SumLaws.{sum-small}
-use Rattle.slot_layout.proofs.RoundLaws.{rounds, rounds_length, rounds_small, rounds_lowest, number_below, still_member, still_least}
+use Rattle.slot_layout.proofs.RoundLaws.{rounds, rounds_length, rounds_small, rounds_lowest, number_below, still_member, still_least, still_tight}
 use Rattle.slot_layout.proofs.RankLaws.{IsRanked, ranked_start}
 use Rattle.slot_layout.proofs.GrowLaws.{count_rows}
 use Rattle.slot_layout.proofs.Layouts.{grown_sizes, grown_ranked, settled, settled_ranked, accepts, first_ranks}
@@ -87,6 +87,10 @@ returns-clause-lowest c =
 pub returns-clause-least : goal.returns-clause-least
 returns-clause-least c =
     subst (IsLeastLayout (rows_of c.args.slots.now)) (sym (last c)) (still_least c.least_lens.ensures.u (rows_of c.args.slots.now) c.requires.slots c.loop-rank.rank (still c))
+
+pub returns-clause-tight : goal.returns-clause-tight
+returns-clause-tight c =
+    subst (IsTight (rows_of c.args.slots.now)) (sym (last c)) (still_tight c.least_lens.ensures.u (rows_of c.args.slots.now) c.requires.slots c.loop-rank.rank (still c))
 
 pub returns-clause-narrow : goal.returns-clause-narrow
 returns-clause-narrow c =

@@ -1,13 +1,11 @@
-use Rattle.std.proofs.Common.{◌≡◌, ◌≤◌, ◌<◌, ◌+◌, ◌^◌, length, ap, subst, refl, ◌∙◌, List, ℕ, arith}
+use Rattle.std.proofs.Common.{◌≡◌, ◌<◌, ◌^◌, length, take, drop, ap, subst, refl, ◌∙◌, List, ℕ}
 use Rattle.std.specs.Prelude.{slice_index}
 use Rattle.spelled.specs.Spelled.{AreBytes}
 use Rattle.leb_codec.specs.Leb.{least_unsigned_len}
 use Rattle.abbrev_tables.specs.declared.decl.Spec.{Spec}
 use Rattle.entry_arena.specs.declared.entry.Entry.{Entry}
 use Rattle.entry_arena.specs.Arena.{entry_at}
-use Rattle.unit_write.specs.NewExpressions.{lens_from, lens_of}
 use Rattle.unit_write.specs.Placing.{columns_of, among_values}
-use Rattle.unit_write.proofs.EndLaws.{part_named}
 use Rattle.unit_write.proofs.Sizing.{entry_room, entry_summed}
 use Rattle.unit_write.proofs.places.after_entry.Goals as goal
 
@@ -16,7 +14,7 @@ after_values-requires c =
     let table = c.args.decls.now in
     let columns = c.args.specs.now.items in
     let numbers = c.args.numbers.now.items in
-    let ends : List ℕ = c.args.ends.now.items in
+    let lens : List ℕ = c.args.lens.now.items in
     let f = c.args.forest.now in
     let e : Entry = entry_at f.entries c.args.id in
     let same : c.section.result.now ≡ f.section = c.section.ensures in
@@ -28,17 +26,15 @@ after_values-requires c =
     in
     let first : c.entry-entry.result.first ≡ e.first = ap (λ (z : Entry). z.first) c.entry-entry.ensures in
     let count : c.entry-entry.result.count ≡ e.count = ap (λ (z : Entry). z.count) c.entry-entry.ensures in
-    let inside : e.first + e.count ≤ length f.values = c.values_of-values.ensures.order.valued.inside c.args.id c.requires.id in
-    let ends_len : length ends ≡ length f.values = c.requires.ends in
-    let lens : lens_from c.begin_of-begin.result c.part.result.now ≡ among_values f (lens_of ends) c.args.id = part_named ends _ _ c.entry-entry.result.first c.entry-entry.result.count e.first e.count c.begin_of-begin.result c.part.result.now c.begin_of-begin.ensures c.part.ensures c.deref-2.ensures.value c.deref-3.ensures.value first count (omega arith) in
-    entry_room table columns numbers f (lens_of ends) c.args.id c.args.at c.new_columns-columns.result.now c.values_of-values.result.now _ c.code_size.result _ named c.values_of-values.ensures.values lens few small c.requires.stands coded refl c.requires.room
+    let own : c.part-own.result.now ≡ among_values f lens c.args.id = c.part-own.ensures ∙ ap (λ (z : List ℕ). take c.entry-entry.result.count (drop c.entry-entry.result.first z)) c.deref-2.ensures.value ∙ ap (λ (z : ℕ). take c.entry-entry.result.count (drop z lens)) first ∙ ap (λ (z : ℕ). take z (drop e.first lens)) count in
+    entry_room table columns numbers f lens c.args.id c.args.at c.new_columns-columns.result.now c.values_of-values.result.now _ c.code_size.result _ named c.values_of-values.ensures.values own few small c.requires.stands coded refl c.requires.room
 
 pub returns : goal.returns
 returns c =
     let table = c.args.decls.now in
     let columns = c.args.specs.now.items in
     let numbers = c.args.numbers.now.items in
-    let ends : List ℕ = c.args.ends.now.items in
+    let lens : List ℕ = c.args.lens.now.items in
     let f = c.args.forest.now in
     let e : Entry = entry_at f.entries c.args.id in
     let same : c.section.result.now ≡ f.section = c.section.ensures in
@@ -50,7 +46,5 @@ returns c =
     in
     let first : c.entry-entry.result.first ≡ e.first = ap (λ (z : Entry). z.first) c.entry-entry.ensures in
     let count : c.entry-entry.result.count ≡ e.count = ap (λ (z : Entry). z.count) c.entry-entry.ensures in
-    let inside : e.first + e.count ≤ length f.values = c.values_of-values.ensures.order.valued.inside c.args.id c.requires.id in
-    let ends_len : length ends ≡ length f.values = c.requires.ends in
-    let lens : lens_from c.begin_of-begin.result c.part.result.now ≡ among_values f (lens_of ends) c.args.id = part_named ends _ _ c.entry-entry.result.first c.entry-entry.result.count e.first e.count c.begin_of-begin.result c.part.result.now c.begin_of-begin.ensures c.part.ensures c.deref-2.ensures.value c.deref-3.ensures.value first count (omega arith) in
-    entry_summed table columns numbers f (lens_of ends) c.args.id c.args.at c.new_columns-columns.result.now c.values_of-values.result.now _ c.code_size.result _ c.after_values.result named c.values_of-values.ensures.values lens few small c.requires.stands coded refl c.after_values.ensures
+    let own : c.part-own.result.now ≡ among_values f lens c.args.id = c.part-own.ensures ∙ ap (λ (z : List ℕ). take c.entry-entry.result.count (drop c.entry-entry.result.first z)) c.deref-2.ensures.value ∙ ap (λ (z : ℕ). take c.entry-entry.result.count (drop z lens)) first ∙ ap (λ (z : ℕ). take z (drop e.first lens)) count in
+    entry_summed table columns numbers f lens c.args.id c.args.at c.new_columns-columns.result.now c.values_of-values.result.now _ c.code_size.result _ c.after_values.result named c.values_of-values.ensures.values own few small c.requires.stands coded refl c.after_values.ensures

@@ -1,9 +1,8 @@
-use Rattle.std.proofs.Common.{◌≡◌, ◌<◌, ◌+◌, length, sym, subst, refl, ℕ}
+use Rattle.std.proofs.Common.{◌≡◌, ◌<◌, ◌+◌, length, sym, subst, refl, List, ℕ}
 use Rattle.entry_arena.specs.Arena.{Arena, entry_at}
 use Rattle.fixed_width.specs.InitialLengths.{least_reserved}
 use Rattle.unit_write.specs.declared.items.Next.{Next}
 use Rattle.unit_write.specs.inside.Most.{HasRoom}
-use Rattle.unit_write.specs.NewExpressions.{lens_of}
 use Rattle.unit_write.specs.Placing.{values_in, EntrySize}
 use Rattle.unit_write.specs.inside.Readings.{AreStanding, HasItem, PutsItem}
 use Rattle.unit_write.proofs.Standing.{values_stand, entry_declared}
@@ -24,7 +23,7 @@ after_entry-places-requires-clause-room c =
     let table = c.args.decls.now in
     let columns = c.args.specs.now.items in
     let numbers = c.args.numbers.now.items in
-    let lens = lens_of c.args.ends.now.items in
+    let lens : List ℕ = c.args.lens.now.items in
     let room = subst (λ (n : Next). HasRoom (EntrySize table columns numbers c.args.unit.now.forest lens) n c.args.places.now.end) c.in-Entry.is c.requires.room in
     subst (λ (f : Arena). (size : ℕ) × EntrySize table columns numbers f lens c.in-Entry.id size × (c.args.places.now.end + size < least_reserved)) (sym c.forest.ensures) room
 
@@ -33,6 +32,6 @@ returns-in_ok-push-in-Entry-clause-put c =
     let table = c.args.decls.now in
     let columns = c.args.specs.now.items in
     let numbers = c.args.numbers.now.items in
-    let lens = lens_of c.args.ends.now.items in
+    let lens : List ℕ = c.args.lens.now.items in
     let sized = subst (λ (f : Arena). (size : ℕ) → EntrySize table columns numbers f lens c.in-Entry.id size → c.after_entry-places.result ≡ c.args.places.now.end + size) c.forest.ensures c.after_entry-places.ensures in
     subst (λ (n : Next). PutsItem (EntrySize table columns numbers c.args.unit.now.forest lens) n c.args.places.now (record { start = c.args.places.now.start; entries = c.push.new.self; ends = c.args.places.now.ends; end = c.after_entry-places.result })) (sym c.in-Entry.is) (c.in_ok-push-in-Entry.ensures.items, refl, sized)

@@ -5,10 +5,8 @@ use Rattle.fixed_width.specs.InitialLengths.{least_reserved}
 use Rattle.entry_read.specs.Heads.{header_size}
 use Rattle.entry_read.specs.Units.{entries_at, declarations_of}
 use Rattle.unit_write.specs.declared.items.Items.{Items}
-use Rattle.unit_write.specs.NewExpressions.{lens_of}
 use Rattle.unit_write.specs.Most.{most_bytes}
 use Rattle.unit_write.specs.inside.Readings.{GoesOn}
-use Rattle.unit_write.proofs.FewLaws.{few_lens}
 use Rattle.unit_write.proofs.PlacingUnit.{IsPlacing, placing_none, placing_most, placing_next, placing_room, placing_all}
 use Rattle.unit_write.proofs.places.place_unit.Goals as goal
 
@@ -16,8 +14,8 @@ pub loop-next-init : goal.loop-next-init
 loop-next-init c =
     let unit = c.args.unit.now in
     let end_is : c.args.start + c.header_size.result ≡ c.args.start + header_size unit.head.kind = ap (λ (z : ℕ). c.args.start + z) (c.header_size.ensures.size ∙ ap (λ (h : UnitHead). header_size h.kind) c.head.ensures) in
-    subst (λ (z : Items). IsPlacing unit c.args.decls.now c.args.specs.now.items c.args.numbers.now.items (lens_of c.args.ends.now.items) c.args.start z (record { start = c.args.start; entries = c.new.result; ends = c.new-2.result; end = c.args.start + c.header_size.result })) (sym c.new-items.ensures)
-    (placing_none unit c.args.decls.now c.args.specs.now.items c.args.numbers.now.items (lens_of c.args.ends.now.items) c.args.start _ c.requires.writable refl c.new.ensures.items c.new-2.ensures.items end_is)
+    subst (λ (z : Items). IsPlacing unit c.args.decls.now c.args.specs.now.items c.args.numbers.now.items c.args.lens.now.items c.args.start z (record { start = c.args.start; entries = c.new.result; ends = c.new-2.result; end = c.args.start + c.header_size.result })) (sym c.new-items.ensures)
+    (placing_none unit c.args.decls.now c.args.specs.now.items c.args.numbers.now.items c.args.lens.now.items c.args.start _ c.requires.writable refl c.new.ensures.items c.new-2.ensures.items end_is)
 
 pub loop-next-preserved : goal.loop-next-preserved
 loop-next-preserved c =
@@ -25,7 +23,7 @@ loop-next-preserved c =
     let h = c.loop-next.invariant in
     let on = subst (λ (f : Arena). GoesOn f c.loop-next.items c.next.new.self (Some c.in-Some.next)) c.forest.ensures c.in-Some.ensures.next in
     let n = on (declarations_of c.args.decls.now) (entries_at unit.head) h.place h.done h.now h.chains h.rest h.walked in
-    placing_next unit c.args.decls.now c.args.specs.now.items c.args.numbers.now.items (lens_of c.args.ends.now.items) c.args.start c.loop-next.items c.next.new.self c.loop-next.places c.place_next.new.places c.in-Some.next h n c.requires.writable (few_lens unit.forest c.args.ends.now.items c.requires.ends) c.numbers_are_small.ensures c.in_ok-place_next.ensures.put c.in_ok-place_next.ensures.start
+    placing_next unit c.args.decls.now c.args.specs.now.items c.args.numbers.now.items c.args.lens.now.items c.args.start c.loop-next.items c.next.new.self c.loop-next.places c.place_next.new.places c.in-Some.next h n c.requires.writable c.requires.lens c.numbers_are_small.ensures c.in_ok-place_next.ensures.put c.in_ok-place_next.ensures.start
 
 pub returns-clause-placed : goal.returns-clause-placed
 returns-clause-placed c =
@@ -33,7 +31,7 @@ returns-clause-placed c =
     let h = c.loop-next.invariant in
     let on = subst (λ (f : Arena). GoesOn f c.loop-next.items c.next.new.self None) c.forest.ensures c.in_default.ensures.next in
     let n = on (declarations_of c.args.decls.now) (entries_at unit.head) h.place h.done h.now h.chains h.rest h.walked in
-    placing_all unit c.args.decls.now c.args.specs.now.items c.args.numbers.now.items (lens_of c.args.ends.now.items) c.args.start c.loop-next.items c.next.new.self c.loop-next.places h n c.requires.writable
+    placing_all unit c.args.decls.now c.args.specs.now.items c.args.numbers.now.items c.args.lens.now.items c.args.start c.loop-next.items c.next.new.self c.loop-next.places h n c.requires.writable
 
 pub place_next-requires-clause-room : goal.place_next-requires-clause-room
 place_next-requires-clause-room c =
@@ -41,11 +39,11 @@ place_next-requires-clause-room c =
     let h = c.loop-next.invariant in
     let on = subst (λ (f : Arena). GoesOn f c.loop-next.items c.next.new.self (Some c.in-Some.next)) c.forest.ensures c.in-Some.ensures.next in
     let n = on (declarations_of c.args.decls.now) (entries_at unit.head) h.place h.done h.now h.chains h.rest h.walked in
-    placing_room unit c.args.decls.now c.args.specs.now.items c.args.numbers.now.items (lens_of c.args.ends.now.items) c.args.start c.loop-next.items c.next.new.self c.loop-next.places c.in-Some.next h n c.requires.writable (few_lens unit.forest c.args.ends.now.items c.requires.ends) c.numbers_are_small.ensures c.requires.room
+    placing_room unit c.args.decls.now c.args.specs.now.items c.args.numbers.now.items c.args.lens.now.items c.args.start c.loop-next.items c.next.new.self c.loop-next.places c.in-Some.next h n c.requires.writable c.requires.lens c.numbers_are_small.ensures c.requires.room
 
 pub place_next-requires-clause-fits : goal.place_next-requires-clause-fits
 place_next-requires-clause-fits c =
     let unit = c.args.unit.now in
-    let most : c.loop-next.places.end ≤ c.args.start + most_bytes unit = placing_most unit c.args.decls.now c.args.specs.now.items c.args.numbers.now.items (lens_of c.args.ends.now.items) c.args.start c.loop-next.items c.loop-next.places c.loop-next.invariant in
+    let most : c.loop-next.places.end ≤ c.args.start + most_bytes unit = placing_most unit c.args.decls.now c.args.specs.now.items c.args.numbers.now.items c.args.lens.now.items c.args.start c.loop-next.items c.loop-next.places c.loop-next.invariant in
     let room : c.args.start + most_bytes unit < least_reserved = c.requires.room in
     omega arith

@@ -6,14 +6,12 @@ use Rattle.spelled.specs.Spelled.{Appends}
 use Rattle.leb_codec.specs.Digits.{Extends}
 use Rattle.form_codec.specs.declared.value.Value.{Value}
 use Rattle.form_codec.specs.Values.{LiesIn}
-use Rattle.abbrev_tables.specs.declared.decl.Spec.{Spec}
 use Rattle.entry_arena.specs.declared.entry.Entry.{Entry}
 use Rattle.entry_arena.specs.Arena.{Arena, entry_at}
 use Rattle.entry_read.proofs.PlaceLaws.{units_lie}
 use Rattle.entry_read.specs.Units.{declarations_of}
-use Rattle.unit_write.specs.NewExpressions.{lens_of}
 use Rattle.unit_write.specs.Placing.{columns_of, values_in, among_values}
-use Rattle.unit_write.specs.Moved.{IsRoomy, new_values}
+use Rattle.unit_write.specs.Moved.{new_values, lens_anew}
 use Rattle.unit_write.specs.inside.Puts.{PutsValues}
 use Rattle.unit_write.proofs.Anew.{count_in}
 use Rattle.unit_write.proofs.PutLaws.{extends_more, values_lie, size_as, entry_put}
@@ -28,7 +26,7 @@ put_values-requires-clause-sized c =
     let columns : c.new_columns.result.now ≡ columns_of c.args.decls.now c.args.specs.now (entry_at f.entries c.args.id).decl = c.new_columns.ensures ∙ ap (λ (e : Entry). columns_of c.args.decls.now c.args.specs.now e.decl) entry in
     let values : c.values_of.result.now ≡ values_in f c.args.id = c.values_of.ensures.values ∙ ap (λ (g : Arena). values_in g c.args.id) forest in
     let size = c.requires.writable.sized c.args.id c.requires.inside in
-    (among_values f (lens_of c.args.new.now.ends.items) c.args.id, size.1.0, size_as c.section.result.now f.section c.new_columns.result.now (columns_of c.args.decls.now c.args.specs.now (entry_at f.entries c.args.id).decl) c.values_of.result.now (values_in f c.args.id) (among_values f (lens_of c.args.new.now.ends.items) c.args.id) size.1.0 section columns values size.1.1)
+    (among_values f (lens_anew f (new_values c.args.new.now)) c.args.id, size.1.0, size_as c.section.result.now f.section c.new_columns.result.now (columns_of c.args.decls.now c.args.specs.now (entry_at f.entries c.args.id).decl) c.values_of.result.now (values_in f c.args.id) (among_values f (lens_anew f (new_values c.args.new.now)) c.args.id) size.1.0 section columns values size.1.1)
 
 pub put_values-requires-clause-inside : goal.put_values-requires-clause-inside
 put_values-requires-clause-inside c =
@@ -42,11 +40,6 @@ put_values-requires-clause-inside c =
     let all : All (LiesIn (length f.section)) (values_in f c.args.id) = All-take (LiesIn (length f.section)) e.count (drop e.first f.values) (All-drop (LiesIn (length f.section)) e.first f.values (values_lie f lie.order)) in
     let there = subst (λ (z : List Value). All (LiesIn (length f.section)) z) (sym values) all in
     subst (λ (z : List ℕ). All (LiesIn (length z)) c.values_of.result.now) (sym section) there
-
-pub put_values-requires-clause-roomy : goal.put_values-requires-clause-roomy
-put_values-requires-clause-roomy c =
-    let all : All IsRoomy (columns_of c.args.decls.now c.args.specs.now c.entry-entry.result.decl) = All-take IsRoomy _ _ (All-drop IsRoomy _ c.args.specs.now c.requires.writable.roomy) in
-    subst (λ (z : List Spec). All IsRoomy z) (sym c.new_columns.ensures) all
 
 pub put_values-requires-clause-new : goal.put_values-requires-clause-new
 put_values-requires-clause-new c =

@@ -1,10 +1,9 @@
-use Rattle.std.proofs.Common.{rules, ◌≡◌, ◌≢◌, ◌<◌, ℕ, List, length, ◌∙◌, ap, subst}
+use Rattle.std.proofs.Common.{rules, ◌≡◌, ◌≢◌, ◌<◌, ◌^◌, ℕ, List, length, ◌∙◌, ap, subst}
 use Rattle.std.specs.List.{All}
 use Rattle.spelled.specs.Spelled.{AreBytes}
 use Rattle.abbrev_tables.specs.declared.decl.Spec.{Spec}
 use Rattle.entry_arena.specs.Arena.{Arena, entry_at}
 use Rattle.unit_write.specs.Placing.{columns_of, values_in}
-use Rattle.unit_write.specs.Moved.{IsRoomy}
 use Rattle.unit_write.proofs.TestUnits.{AreSizedIn, sized_writable}
 use Rattle.unit_write.proofs.write_tests.is_writable.Goals as goal
 
@@ -17,8 +16,8 @@ returns c = λ is.
     let section : c.section.result.now ≡ unit.forest.section = c.section.ensures ∙ ap (λ (g : Arena). g.section) c.forest.ensures in
     let renewed : length specs ≡ length table.specs = search rules in
     let numbered : length numbers ≡ length table.decls = search rules in
-    let roomy = subst (λ (z : List Spec). All IsRoomy z) c.deref.ensures.value (c.are_roomy.ensures c.if-not-are_roomy.false) in
-    let used = subst (λ (z : List ℕ). All (λ (n : ℕ). n ≢ 0) z) c.deref-2.ensures.value (c.are_used.ensures c.if-not-are_used.false) in
+    let used = subst (λ (z : List ℕ). All (λ (n : ℕ). n ≢ 0) z) c.deref.ensures.value (c.are_used.ensures c.if-not-are_used.false) in
+    let few = subst (λ (z : List ℕ). length z < 2 ^ 63) section c.bytes_are_small.ensures.few in
     let small = subst AreBytes section c.bytes_are_small.ensures.small in
-    let each = subst (λ (z : List Spec). (id : ℕ) → id < length unit.forest.entries → ((entry_at unit.forest.entries id).decl < length table.decls) × AreSizedIn (columns_of table z (entry_at unit.forest.entries id).decl) (values_in unit.forest id)) c.deref-3.ensures.value (c.entries_are_sized.ensures is) in
-    sized_writable unit table specs numbers c.args.ends.now.items c.requires.ends c.requires.head c.requires.held numbered renewed roomy used small c.requires.room each
+    let each = subst (λ (z : List Spec). (id : ℕ) → id < length unit.forest.entries → ((entry_at unit.forest.entries id).decl < length table.decls) × AreSizedIn (columns_of table z (entry_at unit.forest.entries id).decl) (values_in unit.forest id)) c.deref-2.ensures.value (c.entries_are_sized.ensures is) in
+    sized_writable unit table specs numbers c.args.lens.now.items c.requires.lens.each c.numbers_are_small.ensures c.requires.head c.requires.held numbered renewed used small few each

@@ -1,4 +1,4 @@
-use Rattle.std.proofs.Common.{◌≡◌, ◌∙◌, ℕ, List, length, sym, subst, true≢false}
+use Rattle.std.proofs.Common.{◌∙◌, ℕ, List, length, sym, subst, true≢false}
 use Rattle.std.specs.Prelude.{Option, MatchOption}
 use Rattle.dw_base.specs.Refusals.{IsFaultOf}
 use Rattle.dw_base.specs.declared.fault.Fault.{Fault}

@@ -14,16 +14,16 @@ returns-then-choice-eq-DW_FORM_IMPLICIT_CONST c = λ section values t s.
     let fits : FitsSigned w64 c.self.inside.constant = c.self.invariant.fits in
     let inside = subst (λ (z : Tallying). IsTally section values z) (sym c.self.view_is) t in
     let best = simp to_z-of_z at c.in-Some.ensures in
-    rw to_z-of_z (chosen section values c.self.inside.candidates.items c.deref.result.now c.self.inside.constant c.self.inside.constant c.self.inside.count c.args.column c.in-Some.choice c.deref.ensures.value (λ is. absurd (cc (c.if-is_reference.false, c.is_reference.ensures, is))) inside best (λ _. refl) (λ differs. absurd (differs c.if-choice-eq-DW_FORM_IMPLICIT_CONST.true)))
+    rw to_z-of_z (chosen section values c.self.inside.candidates.items c.deref.result.now c.self.inside.constant c.self.inside.constant c.self.inside.count c.args.column c.in-Some.choice c.deref.ensures.value inside best (λ _. refl) (λ differs. absurd (differs c.if-choice-eq-DW_FORM_IMPLICIT_CONST.true)))
 
 pub returns-else-choice-eq-DW_FORM_IMPLICIT_CONST : goal.returns-else-choice-eq-DW_FORM_IMPLICIT_CONST
 returns-else-choice-eq-DW_FORM_IMPLICIT_CONST c = λ section values t s.
     let fits : FitsSigned w64 c.self.inside.constant = c.self.invariant.fits in
     let inside = subst (λ (z : Tallying). IsTally section values z) (sym c.self.view_is) t in
     let best = simp to_z-of_z at c.in-Some.ensures in
-    chosen section values c.self.inside.candidates.items c.deref.result.now c.self.inside.constant (pos 0) c.self.inside.count c.args.column c.in-Some.choice c.deref.ensures.value (λ is. absurd (cc (c.if-is_reference.false, c.is_reference.ensures, is))) inside best (λ is. absurd (c.if-choice-eq-DW_FORM_IMPLICIT_CONST.false is)) (λ _. refl)
+    chosen section values c.self.inside.candidates.items c.deref.result.now c.self.inside.constant (pos 0) c.self.inside.count c.args.column c.in-Some.choice c.deref.ensures.value inside best (λ is. absurd (c.if-choice-eq-DW_FORM_IMPLICIT_CONST.false is)) (λ _. refl)
 
 pub returns-in-None : goal.returns-in-None
 returns-in-None c = λ section values t s.
     let inside = subst (λ (z : Tallying). IsTally section values z) (sym c.self.view_is) t in
-    absurd (never_none section values c.self.inside.candidates.items c.deref.result.now c.self.inside.constant c.self.inside.count c.args.column c.deref.ensures.value c.self.invariant.some (λ is. absurd (cc (c.if-is_reference.false, c.is_reference.ensures, is))) inside s c.in-None.ensures)
+    absurd (never_none section values c.self.inside.candidates.items c.deref.result.now c.self.inside.constant c.self.inside.count c.args.column c.deref.ensures.value c.self.invariant.some inside s c.in-None.ensures)

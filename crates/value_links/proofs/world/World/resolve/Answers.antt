@@ -25,7 +25,7 @@ pub resolve-requires-clause-held : goal.resolve-requires-clause-held
 resolve-requires-clause-held c =
     let world : World = c.args.self.now in
     let held : IsHeldIn world.image c.self.inside.parts world = subst (λ (w : World). IsHeldIn w.image c.self.inside.parts w) c.self.view_is c.self.invariant in
-    (debug_info world.image, debug_abbrev world.image, record { read = held.is.r.links.units; units = held.parts_are.read.units; holds = held.parts_are.units; built = held.built })
+    (debug_info world.image, debug_abbrev world.image, record { read = held.is.r.links.units; units = held.parts_are.read.units; holds = held.parts_are.units })
 
 pub resolve-requires-clause-id : goal.resolve-requires-clause-id
 resolve-requires-clause-id c = subst (λ (w : World). c.args.id < length (held_at w.units c.args.unit).forest.entries) (sym c.self.view_is) c.requires.id
