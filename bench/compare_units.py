@@ -6,7 +6,7 @@ of an expression its operations are, without their bytes and the distances of br
   bench/compare_units.py [--program PROGRAM] [FILE ..]
 
 A FILE is an ELF file that is taken as it is; without one, small programs are compiled. A file that the program refuses is counted
-and its message printed. The last line counts the files; the exit status is 1 where something differs or a fault isn't Unbuilt.
+and its message printed. The last line counts the files; the exit status is 1 where something differs or is refused.
 """
 import argparse
 import os
@@ -211,14 +211,12 @@ def main():
     options = parser.parse_args()
     counts = {"same": 0, "refused": 0, "differs": 0}
     totals = {name: [0, 0] for name in (".debug_info", ".debug_abbrev", ".debug_line")}
-    strange = 0
     with tempfile.TemporaryDirectory() as folder:
         files = options.files or compile_all(folder)
         out = os.path.join(folder, "out")
         for path in files:
             answer, words = compare(options.program, path, out)
             counts[answer] += 1
-            strange += answer == "refused" and " Unbuilt " not in words
             if answer == "same":
                 for name, total in totals.items():
                     total[0] += size(path, name)
@@ -228,7 +226,7 @@ def main():
     for name, (before, after) in totals.items():
         print(f"{name}: {before} -> {after}")
     print(f"{sum(counts.values())} files, {counts['same']} the same, {counts['refused']} refused, {counts['differs']} differ")
-    return 1 if counts["differs"] or strange else 0
+    return 1 if counts["differs"] or counts["refused"] else 0
 
 
 if __name__ == "__main__":
