@@ -47,7 +47,8 @@ IsLeb-one bytes m n hm hn a b =
       | inr most ↦ most
     ]
 
-seven : (place : ℕ) → 2 ^ (7 * place) ≡ 128 ^ place
+-- powers of seven bits
+pub seven : (place : ℕ) → 2 ^ (7 * place) ≡ 128 ^ place
 seven zero = refl
 seven (suc place) =
     let e : 7 * suc place ≡ 7 + 7 * place = omega arith in

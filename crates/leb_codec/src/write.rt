@@ -14,13 +14,8 @@ pub fn len_u(value: u64) -> u32
     ensures some { 1 ≤ result }
     ensures few { result ≤ 10 }
 {
-    let mut len = 1;
-    let mut rest = value / 128;
-    while rest != 0 {
-        rest /= 128;
-        len += 1;
-    }
-    len
+    // From the place of the highest set bit, without a loop: searches call this very often.
+    (value | 1).ilog2() / 7 + 1
 }
 
 // How far a signed number is from 0, or from -1 where it is below 0.
