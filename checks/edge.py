@@ -113,14 +113,14 @@ def unit_in(number):
     return unit(b"\5\6" + struct.pack("<I", 18 + len(name)) + name + b"\7\4" + b"\0" + bytes(number % 4))
 
 
-# In OUT the codes begin at 1, nothing follows the tree, and the size, which is the same in all units, stands in the table, as
-# DW_FORM_implicit_const.
-TABLE_OUT = b"\1\x11\1\0\0" + b"\2\x34\0\x49\x13\3\x08\0\0" + b"\3\x24\0\x0b\x21\4\0\0" + b"\0"
+# In OUT the codes begin at 1, nothing follows the tree, the size, which is the same in all units, stands in the table, as
+# DW_FORM_implicit_const, and the reference has one byte in DW_FORM_ref_udata: the type stands below 128.
+TABLE_OUT = b"\1\x11\1\0\0" + b"\2\x34\0\x49\x15\3\x08\0\0" + b"\3\x24\0\x0b\x21\4\0\0" + b"\0"
 
 
 def unit_out(number):
     name = b"v%d\0" % number
-    return unit(b"\1\2" + struct.pack("<I", 18 + len(name)) + name + b"\3" + b"\0")
+    return unit(b"\1\2" + uleb(15 + len(name)) + name + b"\3" + b"\0")
 
 
 def pair_of_units(count):
