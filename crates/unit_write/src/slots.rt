@@ -131,6 +131,7 @@ pub fn slots_of(
     ensures inside { IfOk result (λ slots. HasRangesInside (rows_of slots.items)) }
     ensures small { IfOk result (λ slots. HasSmallFixed (rows_of slots.items)) }
 {
+    // A law, which costs nothing: a value has one size.
     one_size();
     let forest = unit.forest();
     let places = place_unit(alloc, unit, decls, specs, numbers, lens, 0)?;
