@@ -11,6 +11,7 @@ pub mod Prices
 pub mod RowSums
 pub mod Rowwise
 pub mod Rowwork
+pub mod RunningLaws
 pub mod Setting
 pub mod ShortestLaws
 pub mod SpecialParts

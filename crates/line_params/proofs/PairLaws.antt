@@ -140,28 +140,25 @@ pub record IsFilled (range scale : ℕ) (counted : List CountedStep) (index : �
   pub least : (place : ℕ) → place < 256 → IsLeastCost (CountedWithin (base_at place) range scale (take index counted)) (get_or sums place 0)
   pub few : (place : ℕ) → place < 256 → get_or sums place 0 ≤ 18 * count_of (take index counted)
   pub rest_is : rest ≡ counted_price (floor_of range scale) (drop index counted)
-  pub size : length sums ≡ 256
 
-pub filled_none : (range scale : ℕ) (counted : List CountedStep) (sums : List ℕ) (rest : ℕ) → length sums ≡ 256 → ((place : ℕ) → place < length sums → get_or sums place 0 ≡ 0) → rest ≡ counted_price (floor_of range scale) counted → IsFilled range scale counted 0 sums rest
-filled_none range scale counted sums rest size none is = record {
-  least = λ place h. let zero : get_or sums place 0 ≡ 0 = none place (omega (arith, size)) in subst (λ (x : ℕ). IsLeastCost (CountedWithin (base_at place) range scale (take 0 counted)) x) (sym zero) (none_least (base_at place) range scale);
-  few = λ place h. let zero : get_or sums place 0 ≡ 0 = none place (omega (arith, size)) in omega arith;
+pub filled_none : (range scale : ℕ) (counted : List CountedStep) (sums : List ℕ) (rest : ℕ) → ((place : ℕ) → place < 256 → get_or sums place 0 ≡ 0) → rest ≡ counted_price (floor_of range scale) counted → IsFilled range scale counted 0 sums rest
+filled_none range scale counted sums rest none is = record {
+  least = λ place h. let zero : get_or sums place 0 ≡ 0 = none place h in subst (λ (x : ℕ). IsLeastCost (CountedWithin (base_at place) range scale (take 0 counted)) x) (sym zero) (none_least (base_at place) range scale);
+  few = λ place h. let zero : get_or sums place 0 ≡ 0 = none place h in omega arith;
   rest_is = is;
-  size = size;
 }
 
 pub floor_more : (range scale : ℕ) (counted : List CountedStep) (i : ℕ) (d : CountedStep) → i < length counted → counted_price (floor_of range scale) (drop i counted) ≡ (get_or counted i d).count * floor_of range scale (get_or counted i d).step + counted_price (floor_of range scale) (drop (i + 1) counted)
 floor_more range scale counted i d h = omega (arith, counted_split (floor_of range scale) counted i, counted_split (floor_of range scale) counted (i + 1), counted_more (floor_of range scale) counted i d h)
 
-pub filled_more : (range scale : ℕ) (counted : List CountedStep) (i : ℕ) (d : CountedStep) (sums new : List ℕ) (rest floor : ℕ) → i < length counted → IsFilled range scale counted i sums rest → ((place : ℕ) → place < 256 → AddsCost (base_at place) range scale (get_or counted i d) (get_or sums place 0) (get_or new place 0)) → length new ≡ 256 → floor ≡ (get_or counted i d).count * floor_of range scale (get_or counted i d).step → IsFilled range scale counted (i + 1) new (rest - floor)
-filled_more range scale counted i d sums new rest floor h is adds size fall = record {
+pub filled_more : (range scale : ℕ) (counted : List CountedStep) (i : ℕ) (d : CountedStep) (sums new : List ℕ) (rest floor : ℕ) → i < length counted → IsFilled range scale counted i sums rest → ((place : ℕ) → place < 256 → AddsCost (base_at place) range scale (get_or counted i d) (get_or sums place 0) (get_or new place 0)) → floor ≡ (get_or counted i d).count * floor_of range scale (get_or counted i d).step → IsFilled range scale counted (i + 1) new (rest - floor)
+filled_more range scale counted i d sums new rest floor h is adds fall = record {
   least = λ place within. let add = adds place within in more_least (base_at place) range scale counted i d (get_or sums place 0) add.bytes (get_or new place 0) h (is.least place within) add.least add.added;
   few = λ place within.
       let add = adds place within in
       let cost = count_cost counted i d (get_or sums place 0) (get_or counted i d).count add.bytes 18 h refl (is.few place within) add.few in
       omega (arith, cost, add.added);
   rest_is = omega (arith, floor_more range scale counted i d h, is.rest_is, fall);
-  size = size;
 }
 
 pub filled_all : (range scale : ℕ) (counted : List CountedStep) (i : ℕ) (sums : List ℕ) (rest : ℕ) → length counted ≤ i → IsFilled range scale counted i sums rest → AreSums range scale counted sums

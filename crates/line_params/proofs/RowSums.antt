@@ -26,7 +26,7 @@ pub row_more : (range scale : ℕ) (line line' left top low : ℤ) (distance cou
     ((place : ℕ) → place < to → low ≤ℤ (top -ℤ pos place)) →
     ((place : ℕ) → from ≤ place → place < to → get_or new place 0 ≡ get_or mid place 0 + amount) →
     ((place : ℕ) → place < from → get_or new place 0 ≡ get_or mid place 0) →
-    ((place : ℕ) → from ≤ place → get_or mid place 0 ≡ get_or old place 0) →
+    ((place : ℕ) → from ≤ place → place < to → get_or mid place 0 ≡ get_or old place 0) →
     ((place : ℕ) → place < from → AddsCost (base_at place) range scale (row_counted line' distance count) (get_or old place 0) (get_or mid place 0)) →
     (place : ℕ) → place < to → AddsCost (base_at place) range scale (row_counted line' distance count) (get_or old place 0) (get_or new place 0)
 row_more range scale line line' left top low distance count copy from to amount w run old mid new same left_is top_is low_is windows by_copy is few amount_is inside added kept rest before place h =
@@ -35,7 +35,7 @@ row_more range scale line line' left top low distance count copy from to amount 
       | inr later ↦
           let bottom = inside place h in
           let least = is.least (base_at place) range scale line distance windows by_copy (omega (arith, ints, bottom, low_is, top_is)) (omega (arith, ints, left_is)) in
-          rw same (record { bytes = run.bytes; least = least; few = few; added = omega (arith, added place later h, rest place later, amount_is) })
+          rw same (record { bytes = run.bytes; least = least; few = few; added = omega (arith, added place later h, rest place later h, amount_is) })
     ]
 
 pub end_adds : (base : ℤ) (range scale distance count a old new amount : ℕ) → IsLeastCost (AdvanceWithin range scale distance) a → a ≤ 11 → amount ≡ count * (3 + a) → new ≡ old + amount → AddsCost base range scale (record { step = EndStep distance; count = count }) old new

@@ -2,3 +2,4 @@
 pub mod Appended
 pub mod Counting
 pub mod PairSearch
+pub mod RunningSums

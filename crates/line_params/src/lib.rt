@@ -3,6 +3,7 @@
 
 ghost use Rattle.line_params.specs.Laws.{ShortestSpell, NoneShorter, SpelledHaveCodes, NoShorter};
 
+mod base_sums;
 mod choice;
 mod count;
 mod line_run;

@@ -1,12 +1,12 @@
 // The pair under which a program is shortest.
-ghost use Rattle.std.specs.Prelude.{◌≡◌, ◌<◌, length, IfOk};
+ghost use Rattle.std.specs.Prelude.{◌<◌, IfOk};
 ghost use Rattle.line_machine.specs.Class.{AreRows};
 ghost use Rattle.line_params.specs.Steps.{steps_of};
 ghost use Rattle.line_params.specs.Pairs.{IsLeastPair};
 
+use crate::base_sums::BaseSums;
 use crate::count::count_steps;
 use crate::search::best_choice;
-use crate::sums::BASES;
 use dw_base::NoMemory;
 use line_machine::{Head, Row};
 use std::alloc::Global;
@@ -40,13 +40,6 @@ pub fn least_pair(alloc: Global, head: &Head, rows: &[Row]) -> Result<Pair, NoMe
         return Err(NoMemory);
     }
     let counted = count_steps(alloc, rows)?;
-    let mut sums = zeros(alloc, BASES)?;
+    let mut sums = BaseSums::new(alloc)?;
     Ok(best_choice(head, &counted, &mut sums).pair)
-}
-
-// So many zeros.
-fn zeros(alloc: Global, count: usize) -> Result<Vec<u64>, NoMemory>
-    ensures { IfOk result (λ sums. length sums.items ≡ count) }
-{
-    Ok(vec![in alloc; 0u64; count]?)
 }

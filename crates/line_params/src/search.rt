@@ -1,15 +1,16 @@
 // The search over the pairs.
-ghost use Rattle.std.specs.Prelude.{◌≡◌, ◌≤◌, ◌<◌, ◌+◌, ◌-◌, ◌*◌, ◌^◌, ℕ, ℤ, All, length, slice_index, false, IsTrue};
+ghost use Rattle.std.specs.Prelude.{◌≡◌, ◌≤◌, ◌<◌, ◌+◌, ◌-◌, ◌*◌, ◌^◌, ℕ, ℤ, All, false, IsTrue};
 ghost use Rattle.leb_codec.specs.LineCosts.{IsLeastCost};
 ghost use Rattle.line_params.specs.Steps.{StepCosts};
 ghost use Rattle.line_params.specs.inside.Counting.{CountedWithin, HasCountedLine, HasLine, count_of, counted_price, floor_of};
-ghost use Rattle.line_params.specs.inside.PairSearch.{AreSums, IsBestTried, IsFirstLeast, base_at};
+ghost use Rattle.line_params.specs.inside.PairSearch.{AreSums, IsBestTried, base_at};
 
+use crate::base_sums::BaseSums;
 use crate::choice::Choice;
 use crate::count::CountedStep;
 use crate::pair::Pair;
 use crate::step::Step;
-use crate::sums::{BASES, add_step};
+use crate::sums::add_step;
 use crate::window::LAST_SPECIAL;
 use line_machine::Head;
 use line_step::{advance, step};
@@ -72,32 +73,17 @@ fn floor_total(range: u8, min: u8, counted: &[CountedStep]) -> u64
     bytes
 }
 
-// Under no line_base do a sum and the rest stay below so many bytes.
-fn is_past(sums: &[u64], rest: u64, bytes: u64) -> bool
-    requires size { length sums.now ≡ 256 }
-    requires room { (place : ℕ) → place < 256 → slice_index sums.now place + rest < 2 ^ 64 }
-    ensures { IsTrue result → (place : ℕ) → place < 256 → bytes ≤ slice_index sums.now place + rest }
-{
-    for sum in sums {
-        if *sum + rest < bytes {
-            return false;
-        }
-    }
-    true
-}
-
 // Sums up what counted steps cost under each line_base. False: it left off, since under none they take fewer than so many
 // bytes.
-fn fill_sums(sums: &mut [u64], range: u8, min: u8, counted: &[CountedStep], bytes: u64) -> bool
+fn fill_sums(sums: &mut BaseSums, range: u8, min: u8, counted: &[CountedStep], bytes: u64) -> bool
     requires range { 0 < range }
     requires scale { 0 < min }
     requires lines { All HasCountedLine counted.now }
     requires few { count_of counted.now < 2 ^ 32 }
-    requires size { length sums.old ≡ 256 }
     ensures whole { IsTrue result → AreSums range min counted.now sums.new }
     ensures left { result ≡ false → (place n : ℕ) → place < 256 → CountedWithin (base_at place) range min counted.now n → bytes ≤ n }
 {
-    clear(sums);
+    sums.clear();
     let mut rest = floor_total(range, min, counted);
     if rest >= bytes {
         return false;
@@ -105,34 +91,11 @@ fn fill_sums(sums: &mut [u64], range: u8, min: u8, counted: &[CountedStep], byte
     for (index, counted_step) in counted.iter().enumerate() {
         add_step(sums, range, min, *counted_step);
         rest -= floor_bytes(range, min, *counted_step);
-        if (index + 1).is_power_of_two() && is_past(sums, rest, bytes) {
+        if (index + 1).is_power_of_two() && sums.are_past(rest, bytes) {
             return false;
         }
     }
     true
-}
-
-// Sets all sums to 0.
-fn clear(sums: &mut [u64])
-    ensures { (place : ℕ) → place < length sums.new → slice_index sums.new place ≡ 0 }
-{
-    for sum in sums.iter_mut() {
-        *sum = 0;
-    }
-}
-
-// The first place of the least sum.
-fn first_least(sums: &[u64]) -> usize
-    requires { length sums.now ≡ 256 }
-    ensures { IsFirstLeast sums.now result }
-{
-    let mut first = 0;
-    for place in 1..BASES {
-        if sums[place] < sums[first] {
-            first = place;
-        }
-    }
-    first
 }
 
 // The better of a choice and of the pairs with a range.
@@ -141,27 +104,26 @@ fn better_of_range(
     range: u8,
     head: &Head,
     counted: &[CountedStep],
-    sums: &mut [u64],
+    sums: &mut BaseSums,
 ) -> Choice
     requires range { 0 < range }
     requires scale { 0 < head.now.min }
     requires lines { All HasCountedLine counted.now }
     requires few { count_of counted.now < 2 ^ 32 }
-    requires size { length sums.old ≡ 256 }
     requires best { IsBestTried head.now counted.now range best }
     ensures { IsBestTried head.now counted.now (range + 1) result }
 {
     if !fill_sums(sums, range, head.min, counted, best.bytes) {
         return best;
     }
-    let place = first_least(sums);
-    if sums[place] < best.bytes {
+    let (place, bytes) = sums.first_least();
+    if bytes < best.bytes {
         Choice {
             pair: Pair {
                 base: (place as i64 - 128) as i8,
                 range,
             },
-            bytes: sums[place],
+            bytes,
         }
     } else {
         best
@@ -169,12 +131,11 @@ fn better_of_range(
 }
 
 /// The best of all pairs.
-pub fn best_choice(head: &Head, counted: &[CountedStep], sums: &mut [u64]) -> Choice
+pub fn best_choice(head: &Head, counted: &[CountedStep], sums: &mut BaseSums) -> Choice
     requires range { 0 < head.now.range }
     requires scale { 0 < head.now.min }
     requires lines { All HasCountedLine counted.now }
     requires few { count_of counted.now < 2 ^ 32 }
-    requires size { length sums.old ≡ 256 }
     ensures { IsBestTried head.now counted.now 256 result }
 {
     let own = Pair {

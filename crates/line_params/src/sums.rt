@@ -1,17 +1,15 @@
 // What steps cost under each line_base.
-ghost use Rattle.std.specs.Prelude.{◌≡◌, ◌≤◌, ◌<◌, ◌+◌, ◌-◌, ◌*◌, ◌^◌, ℕ, ℤ, pos, neg_ℤ, ◌≤ℤ◌, ◌<ℤ◌, ◌-ℤ◌, length, slice_index};
+ghost use Rattle.std.specs.Prelude.{◌≡◌, ◌≤◌, ◌<◌, ◌+◌, ◌-◌, ◌*◌, ◌^◌, ℕ, ℤ, pos, neg_ℤ, ◌≤ℤ◌, ◌<ℤ◌, ◌-ℤ◌, slice_index};
 ghost use Rattle.line_params.specs.inside.Counting.{HasCountedLine};
 ghost use Rattle.line_params.specs.inside.PairSearch.{AddsCost, IsStepRun, base_at};
 ghost use Rattle.line_params.specs.declared.step.Step.TheVariants.{Row as RowStep};
 
+use crate::base_sums::{BASES, BaseSums};
 use crate::count::CountedStep;
 use crate::line_run::{line_bytes, line_run};
 use crate::step::Step;
 use crate::window::{Windows, windows_for};
 use line_step::advance;
-
-// How many line_base there are.
-pub const BASES: usize = 256;
 
 // How many bytes a step takes whose line distance less line_base is known, and down to which such distance all take as many.
 #[derive(Clone, Copy, Debug)]
@@ -58,27 +56,12 @@ fn places_down_to(top: i64, low: i64) -> usize
     }
 }
 
-// Adds a number to the sums from one place up to another.
-fn add_between(sums: &mut [u64], from: usize, to: usize, amount: u64)
-    requires order { from ≤ to }
-    requires within { to ≤ length sums.old }
-    requires room { (place : ℕ) → from ≤ place → place < to → slice_index sums.old place + amount < 2 ^ 64 }
-    ensures added { (place : ℕ) → from ≤ place → place < to → slice_index sums.new place ≡ slice_index sums.old place + amount }
-    ensures before { (place : ℕ) → place < from → slice_index sums.new place ≡ slice_index sums.old place }
-    ensures after { (place : ℕ) → to ≤ place → slice_index sums.new place ≡ slice_index sums.old place }
-{
-    for place in from..to {
-        sums[place] += amount;
-    }
-}
-
 // Adds what a row's step costs under each line_base, times its count.
-fn add_row(sums: &mut [u64], range: u8, min: u8, line: i64, distance: u64, count: u32)
+fn add_row(sums: &mut BaseSums, range: u8, min: u8, line: i64, distance: u64, count: u32)
     requires range { 0 < range }
     requires scale { 0 < min }
     requires low { neg_ℤ (pos (2 ^ 32)) ≤ℤ line }
     requires high { line ≤ℤ pos (2 ^ 32) }
-    requires size { length sums.old ≡ 256 }
     requires room { (place : ℕ) → place < 256 → slice_index sums.old place < 2 ^ 63 }
     ensures { (place : ℕ) → place < 256 → AddsCost (base_at place) range min (record { step = RowStep line distance; count = count }) (slice_index sums.old place) (slice_index sums.new place) }
 {
@@ -89,17 +72,16 @@ fn add_row(sums: &mut [u64], range: u8, min: u8, line: i64, distance: u64, count
     while from < BASES {
         let run = step_run(top - from as i64, copy, &windows);
         let to = places_down_to(top, run.low);
-        add_between(sums, from, to, u64::from(count) * u64::from(run.bytes));
+        sums.add_between(from, to, u64::from(count) * u64::from(run.bytes));
         from = to;
     }
 }
 
 /// Adds what a step costs under each line_base, times its count.
-pub fn add_step(sums: &mut [u64], range: u8, min: u8, counted: CountedStep)
+pub fn add_step(sums: &mut BaseSums, range: u8, min: u8, counted: CountedStep)
     requires range { 0 < range }
     requires scale { 0 < min }
     requires line { HasCountedLine counted }
-    requires size { length sums.old ≡ 256 }
     requires room { (place : ℕ) → place < 256 → slice_index sums.old place < 2 ^ 63 }
     ensures { (place : ℕ) → place < 256 → AddsCost (base_at place) range min counted (slice_index sums.old place) (slice_index sums.new place) }
 {
@@ -107,7 +89,7 @@ pub fn add_step(sums: &mut [u64], range: u8, min: u8, counted: CountedStep)
         Step::Row(line, distance) => add_row(sums, range, min, line, distance, counted.count),
         Step::End(distance) => {
             let bytes = 3 + advance(range, min, distance);
-            add_between(sums, 0, BASES, u64::from(counted.count) * u64::from(bytes));
+            sums.add_between(0, BASES, u64::from(counted.count) * u64::from(bytes));
         }
     }
 }

@@ -3,11 +3,11 @@ use Rattle.line_params.proofs.PairLaws.{filled_none, filled_more, filled_all, fi
 use Rattle.line_params.proofs.search.fill_sums.Goals as goal
 
 pub loop-index-init : goal.loop-index-init
-loop-index-init c = filled_none c.args.range c.args.min c.args.counted.now c.clear.new.sums c.floor_total-rest.result (omega (arith, c.clear.auto.sums, c.requires.size)) c.clear.ensures c.floor_total-rest.ensures
+loop-index-init c = filled_none c.args.range c.args.min c.args.counted.now c.clear.new.self c.floor_total-rest.result c.clear.ensures c.floor_total-rest.ensures
 
 pub loop-index-preserved : goal.loop-index-preserved
 loop-index-preserved c =
-    filled_more c.args.range c.args.min c.args.counted.now c.loop-index.index _ c.loop-index.sums c.add_step.new.sums c.loop-index.rest c.floor_bytes-rest.result c.loop-index-test.true c.loop-index.invariant c.add_step.ensures (omega (arith, c.add_step.auto.sums, c.loop-index.invariant.size)) c.floor_bytes-rest.ensures.is
+    filled_more c.args.range c.args.min c.args.counted.now c.loop-index.index _ c.loop-index.sums c.add_step.new.sums c.loop-index.rest c.floor_bytes-rest.result c.loop-index-test.true c.loop-index.invariant c.add_step.ensures c.floor_bytes-rest.ensures.is
 
 pub returns-clause-whole : goal.returns-clause-whole
 returns-clause-whole c = λ _. filled_all c.args.range c.args.min c.args.counted.now c.loop-index.index c.loop-index.sums c.loop-index.rest c.loop-index-test.false c.loop-index.invariant
@@ -17,18 +17,18 @@ add_step-requires-clause-room c = λ place h.
     let small = filled_small c.args.range c.args.min c.args.counted.now c.loop-index.index c.loop-index.sums c.loop-index.rest c.requires.few c.loop-index.invariant place h in
     omega (arith, small)
 
-pub is_past-requires-clause-room : goal.is_past-requires-clause-room
-is_past-requires-clause-room c = λ place h.
-    let more = filled_more c.args.range c.args.min c.args.counted.now c.loop-index.index _ c.loop-index.sums c.add_step.new.sums c.loop-index.rest c.floor_bytes-rest.result c.loop-index-test.true c.loop-index.invariant c.add_step.ensures (omega (arith, c.add_step.auto.sums, c.loop-index.invariant.size)) c.floor_bytes-rest.ensures.is in
+pub are_past-requires : goal.are_past-requires
+are_past-requires c = λ place h.
+    let more = filled_more c.args.range c.args.min c.args.counted.now c.loop-index.index _ c.loop-index.sums c.add_step.new.sums c.loop-index.rest c.floor_bytes-rest.result c.loop-index-test.true c.loop-index.invariant c.add_step.ensures c.floor_bytes-rest.ensures.is in
     let small = filled_small c.args.range c.args.min c.args.counted.now (c.loop-index.index + 1) c.add_step.new.sums (c.loop-index.rest - c.floor_bytes-rest.result) c.requires.few more place h in
     omega (arith, small)
 
-pub returns-then-is_past-clause-left : goal.returns-then-is_past-clause-left
-returns-then-is_past-clause-left c = λ _.
-    let more = filled_more c.args.range c.args.min c.args.counted.now c.loop-index.index _ c.loop-index.sums c.add_step.new.sums c.loop-index.rest c.floor_bytes-rest.result c.loop-index-test.true c.loop-index.invariant c.add_step.ensures (omega (arith, c.add_step.auto.sums, c.loop-index.invariant.size)) c.floor_bytes-rest.ensures.is in
-    filled_past c.args.range c.args.min c.args.counted.now (c.loop-index.index + 1) c.add_step.new.sums (c.loop-index.rest - c.floor_bytes-rest.result) c.args.bytes c.requires.range (omega arith) more (c.is_past.ensures c.if-is_past.true)
+pub returns-then-are_past-clause-left : goal.returns-then-are_past-clause-left
+returns-then-are_past-clause-left c = λ _.
+    let more = filled_more c.args.range c.args.min c.args.counted.now c.loop-index.index _ c.loop-index.sums c.add_step.new.sums c.loop-index.rest c.floor_bytes-rest.result c.loop-index-test.true c.loop-index.invariant c.add_step.ensures c.floor_bytes-rest.ensures.is in
+    filled_past c.args.range c.args.min c.args.counted.now (c.loop-index.index + 1) c.add_step.new.sums (c.loop-index.rest - c.floor_bytes-rest.result) c.args.bytes c.requires.range (omega arith) more (c.are_past.ensures c.if-are_past.true)
 
 pub returns-then-rest-bytes-clause-left : goal.returns-then-rest-bytes-clause-left
 returns-then-rest-bytes-clause-left c = λ _.
-    let none = filled_none c.args.range c.args.min c.args.counted.now c.clear.new.sums c.floor_total-rest.result (omega (arith, c.clear.auto.sums, c.requires.size)) c.clear.ensures c.floor_total-rest.ensures in
-    filled_past c.args.range c.args.min c.args.counted.now 0 c.clear.new.sums c.floor_total-rest.result c.args.bytes c.requires.range (omega arith) none (λ place h. omega (arith, c.if-rest-bytes.true))
+    let none = filled_none c.args.range c.args.min c.args.counted.now c.clear.new.self c.floor_total-rest.result c.clear.ensures c.floor_total-rest.ensures in
+    filled_past c.args.range c.args.min c.args.counted.now 0 c.clear.new.self c.floor_total-rest.result c.args.bytes c.requires.range (omega arith) none (λ place h. omega (arith, c.if-rest-bytes.true))

@@ -8,7 +8,7 @@ use Rattle.line_params.proofs.SpecialParts.{copy_least}
 use Rattle.line_params.proofs.sums.add_row.Goals as goal
 
 pub loop-from-init : goal.loop-from-init
-loop-from-init c = record { within = omega arith; added = λ place h. absurd (omega arith); left = λ place h. refl }
+loop-from-init c = record { within = omega arith; added = λ place h. absurd (omega arith); left = λ place h inside. refl }
 
 pub loop-from-preserved : goal.loop-from-preserved
 loop-from-preserved c =
@@ -18,9 +18,9 @@ loop-from-preserved c =
     let by_copy = copy_least c.args.range c.args.min c.args.line c.args.distance c.line_bytes.result c.advance.result _ bytes c.advance.ensures.least refl in
     record {
       within = c.places_down_to-to.ensures.within;
-      added = row_more c.args.range c.args.min c.args.line _ _ _ _ c.args.distance c.args.count _ c.loop-from.from c.places_down_to-to.result _ c.windows_for-windows.result c.step_run-run.result c.args.sums.now c.loop-from.sums c.add_between.new.sums (omega (arith, ints)) (omega (arith, ints)) (omega (arith, ints)) (omega (arith, ints))
-          c.windows_for-windows.ensures.windows by_copy c.step_run-run.ensures.run (omega (arith, c.step_run-run.ensures.few, c.line_bytes.ensures.few, c.advance.ensures.few)) (cc (c.from.ensures, c.from-in-loop-from.ensures)) c.places_down_to-to.ensures.before c.add_between.ensures.added c.add_between.ensures.before c.loop-from.invariant.left c.loop-from.invariant.added;
-      left = λ place h. c.add_between.ensures.after place h ∙ c.loop-from.invariant.left place (omega arith);
+      added = row_more c.args.range c.args.min c.args.line _ _ _ _ c.args.distance c.args.count _ c.loop-from.from c.places_down_to-to.result _ c.windows_for-windows.result c.step_run-run.result c.args.sums.now c.loop-from.sums c.add_between.new.self (omega (arith, ints)) (omega (arith, ints)) (omega (arith, ints)) (omega (arith, ints))
+          c.windows_for-windows.ensures.windows by_copy c.step_run-run.ensures.run (omega (arith, c.step_run-run.ensures.few, c.line_bytes.ensures.few, c.advance.ensures.few)) (cc (c.from.ensures, c.from-in-loop-from.ensures)) c.places_down_to-to.ensures.before c.add_between.ensures.added c.add_between.ensures.before (λ place later h. c.loop-from.invariant.left place later (omega (arith, c.places_down_to-to.ensures.within))) c.loop-from.invariant.added;
+      left = λ place h inside. c.add_between.ensures.after place h inside ∙ c.loop-from.invariant.left place (omega arith) inside;
     }
 
 pub returns : goal.returns
@@ -38,8 +38,9 @@ add_between-requires-clause-room c = λ place later h.
     let bytes : c.step_run-run.result.bytes ≤ 18 = omega (arith, c.step_run-run.ensures.few, c.line_bytes.ensures.few, c.advance.ensures.few) in
     let amount : c.args.count * c.step_run-run.result.bytes ≤ 4294967295 * 18 = mul-le-mul {n₁ = c.args.count} {m₁ = c.step_run-run.result.bytes} {n₂ = 4294967295} {m₂ = 18} (omega arith) bytes in
     let same : c.from.result * c.from-in-loop-from.result ≡ c.args.count * c.step_run-run.result.bytes = cc (c.from.ensures, c.from-in-loop-from.ensures) in
-    let old = c.loop-from.invariant.left place later in
-    let room = c.requires.room place (omega (arith, c.places_down_to-to.ensures.within)) in
+    let inside : place < 256 = omega (arith, c.places_down_to-to.ensures.within) in
+    let old = c.loop-from.invariant.left place later inside in
+    let room = c.requires.room place inside in
     omega (arith, amount, same, old, room)
 
 pub loop-from-smaller : goal.loop-from-smaller

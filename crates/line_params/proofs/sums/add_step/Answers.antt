@@ -16,5 +16,5 @@ returns-in-Row c = λ place h.
 
 pub returns-in-End : goal.returns-in-End
 returns-in-End c = λ place h.
-    adds_as (base_at place) c.args.range c.args.min c.args.counted (EndStep c.in-End.distance) (get_or c.args.sums.now place 0) (get_or c.add_between.new.sums place 0) c.in-End.is
-    (end_adds (base_at place) c.args.range c.args.min c.in-End.distance c.args.counted.count c.advance-bytes.result (get_or c.args.sums.now place 0) (get_or c.add_between.new.sums place 0) (c.from.result * c.from-in-End.result) c.advance-bytes.ensures.least c.advance-bytes.ensures.few (cc (c.from.ensures, c.from-in-End.ensures)) (c.add_between.ensures.added place (omega arith) h))
+    adds_as (base_at place) c.args.range c.args.min c.args.counted (EndStep c.in-End.distance) (get_or c.args.sums.now place 0) (get_or c.add_between.new.self place 0) c.in-End.is
+    (end_adds (base_at place) c.args.range c.args.min c.in-End.distance c.args.counted.count c.advance-bytes.result (get_or c.args.sums.now place 0) (get_or c.add_between.new.self place 0) (c.from.result * c.from-in-End.result) c.advance-bytes.ensures.least c.advance-bytes.ensures.few (cc (c.from.ensures, c.from-in-End.ensures)) (c.add_between.ensures.added place (omega arith) h))
