@@ -201,7 +201,7 @@ reach_small : (range scale : ℕ) → scale ≤ 255 → 242 / range * scale ≤ 
 reach_small range scale small = mul-le-mul {n₁ = 242 / range} {m₁ = scale} {n₂ = 242} {m₂ = 255} (omega arith) small
 
 -- an address that goes far takes bytes before each opcode that appends a row
-level_low : (range scale part d a : ℕ) → scale ≤ 255 → part ≤ 242 / range → AdvanceWithin range scale (address_distance (part * scale) d) a → level (242 / range * scale) (d % 2 ^ 64) ≤ a
+pub level_low : (range scale part d a : ℕ) → scale ≤ 255 → part ≤ 242 / range → AdvanceWithin range scale (address_distance (part * scale) d) a → level (242 / range * scale) (d % 2 ^ 64) ≤ a
 level_low range scale part d a small inside within =
     let reach = reach_small range scale small in
     let taken : part * scale ≤ 242 / range * scale = mul-le-mul_right scale inside in

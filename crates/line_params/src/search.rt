@@ -11,7 +11,7 @@ use crate::count::CountedStep;
 use crate::pair::Pair;
 use crate::step::Step;
 use crate::sums::add_step;
-use crate::window::LAST_SPECIAL;
+use crate::window::{LAST_SPECIAL, bytes_beyond};
 use line_machine::Head;
 use line_step::{advance, step};
 
@@ -53,11 +53,10 @@ fn floor_bytes(range: u8, min: u8, counted: CountedStep) -> u64
 {
     let reach = u64::from(LAST_SPECIAL / range) * u64::from(min);
     let each = match counted.step {
-        Step::Row(_, distance) if distance <= reach => 1,
-        Step::Row(_, distance) if distance <= 2 * reach => 2,
-        _ => 3,
+        Step::Row(_, distance) => 1 + bytes_beyond(reach, distance),
+        Step::End(_) => 3,
     };
-    each * u64::from(counted.count)
+    u64::from(each) * u64::from(counted.count)
 }
 
 // The bytes that counted steps have at least under every line_base.

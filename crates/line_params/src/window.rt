@@ -1,6 +1,7 @@
 // The address before a row's special opcode.
-ghost use Rattle.std.specs.Prelude.{◌≡◌, ◌≤◌, ◌<◌, ◌*◌, ◌/◌, ◌%◌};
+ghost use Rattle.std.specs.Prelude.{◌≡◌, ◌≤◌, ◌<◌, ◌*◌, ◌/◌, ◌%◌, ◌^◌};
 ghost use Rattle.leb_codec.specs.LineCosts.{IsLeastCost, AdvanceWithin, last_special, address_distance};
+ghost use Rattle.line_params.specs.inside.Counting.{level};
 ghost use Rattle.line_params.specs.inside.PairSearch.{PartWithin, AreWindows};
 
 use line_step::advance;
@@ -34,12 +35,28 @@ fn address_before(range: u8, min: u8, distance: u64, part: u8) -> u32
     advance(range, min, distance.wrapping_sub(taken))
 }
 
+/// The bytes that an address distance takes at least before an opcode that appends a row, where a special opcode and
+/// const_add_pc each advance the address by at most `reach`.
+pub fn bytes_beyond(reach: u64, distance: u64) -> u32
+    requires { reach < 2 ^ 32 }
+    ensures { result ≡ level reach distance }
+{
+    if distance <= reach {
+        0
+    } else if distance <= 2 * reach {
+        1
+    } else {
+        2
+    }
+}
+
 // The fewest bytes that advance the address before a special opcode that itself advances it by fewer than `parts`
 // instructions.
 fn least_before(range: u8, min: u8, distance: u64, parts: u8) -> u32
     requires range { 0 < range }
     requires scale { 0 < min }
     requires parts { 0 < parts }
+    requires reached { parts ≤ 242 / range }
     ensures least { IsLeastCost (PartWithin range min distance parts) result }
     ensures few { result ≤ 11 }
 {
@@ -47,10 +64,11 @@ fn least_before(range: u8, min: u8, distance: u64, parts: u8) -> u32
     if distance % scale == 0 && distance / scale < u64::from(parts) {
         return 0;
     }
+    let enough = bytes_beyond(u64::from(LAST_SPECIAL / range) * scale, distance);
     let mut least = address_before(range, min, distance, 0);
     for part in 1..parts {
-        if least == 0 {
-            return 0;
+        if least <= enough {
+            return least;
         }
         least = least.min(address_before(range, min, distance, part));
     }

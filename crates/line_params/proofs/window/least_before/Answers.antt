@@ -1,5 +1,6 @@
-use Rattle.std.proofs.Common.{◌≡◌, ◌+◌, ℕ, subst, sym, arith}
+use Rattle.std.proofs.Common.{◌≡◌, ◌+◌, ◌*◌, ◌/◌, ◌%◌, ◌^◌, ℕ, subst, sym, arith}
 use Rattle.leb_codec.specs.LineCosts.{IsLeastCost}
+use Rattle.line_params.specs.inside.Counting.{level}
 use Rattle.line_params.specs.inside.PairSearch.{PartWithin}
 use Rattle.line_params.proofs.SpecialParts.{part_one, part_more, part_free, part_whole}
 use Rattle.line_params.proofs.window.least_before.Goals as goal
@@ -13,8 +14,11 @@ loop-part-preserved c = record {
   few = omega (arith, c.min-least.ensures, c.loop-part.invariant.few);
 }
 
-pub returns-then-least-eq0-clause-least : goal.returns-then-least-eq0-clause-least
-returns-then-least-eq0-clause-least c = part_free c.args.range c.args.min c.args.distance c.loop-part.part c.args.parts c.loop-part.least (omega arith) c.if-least-eq0.true c.loop-part.invariant.least
+pub returns-then-least-enough-clause-least : goal.returns-then-least-enough-clause-least
+returns-then-least-enough-clause-least c =
+    let low : c.args.distance % 2 ^ 64 ≡ c.args.distance = omega arith in
+    let enough : c.bytes_beyond-enough.result ≡ level (242 / c.args.range * c.args.min) (c.args.distance % 2 ^ 64) = cc (c.bytes_beyond-enough.ensures, c.from-2.ensures, c.from-scale.ensures, low) in
+    part_free c.args.range c.args.min c.args.distance c.loop-part.part c.args.parts c.loop-part.least c.bytes_beyond-enough.result (omega arith) (omega arith) c.requires.reached enough c.if-least-enough.true c.loop-part.invariant.least
 
 pub returns-clause-least : goal.returns-clause-least
 returns-clause-least c =
