@@ -76,9 +76,12 @@ def dumped(path):
 
 
 def entries_with_lists(path):
-    """Of each attribute with a list the number of its entry, its name and its items, in the order of the entries. A place of an entry is
-    replaced by the entry's number."""
-    lines = dumped(path)
+    return lists_of(dumped(path))
+
+
+def lists_of(lines):
+    """Of each attribute with a list in what llvm-dwarfdump shows the number of its entry, its name and its items, in the order of the
+    entries. A place of an entry is replaced by the entry's number."""
     numbers = {}
     for line in lines:
         if entry := ENTRY.match(line):
