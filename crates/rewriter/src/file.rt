@@ -19,14 +19,16 @@ use std::alloc::Global;
 use value_links::{World, valid_files};
 
 // The bytes to be written for the file of a world.
-fn write_anew(alloc: Global, world: &World<'_>) -> Result<Vec<u8>, NoMemory>
-    requires world { IsWorldOf world.now.image Narrow world.now }
-    ensures rewritten { IfOk result (λ written. IsRewritten world.now.image written.items) }
+fn write_anew(alloc: Global, world: World<'_>) -> Result<Vec<u8>, NoMemory>
+    requires world { IsWorldOf world.image Narrow world }
+    ensures rewritten { IfOk result (λ written. IsRewritten world.entry.image written.items) }
 {
     // A law: what is read, means something and keeps the limits is valid.
     valid_files();
-    let sections = write_sections(alloc, world)?;
-    assemble(alloc, world.image(), sections)
+    let sections = write_sections(alloc, &world)?;
+    // All else that was read takes several times the memory of the file: it goes before the new file is put together.
+    let image = world.into_image();
+    assemble(alloc, &image, sections)
 }
 
 /// The bytes to be written for a file.
@@ -46,11 +48,12 @@ fn write_anew(alloc: Global, world: &World<'_>) -> Result<Vec<u8>, NoMemory>
 /// column of a used declaration has the form in which its values and,
 /// for DW_FORM_implicit_const, the constant take the fewest bytes (DWARF 5 sections 7.5.5 and 7.5.6); among equals its own, else
 /// the one with the lowest code. So an entry may grow where its column as a whole shrinks. References within a unit have
-/// DW_FORM_ref_udata, in the least sizes under which each holds the place of what it names: these depend on each other, and no others
-/// have a smaller sum.
+/// DW_FORM_ref_udata. They, the lengths of expressions, calls and references to base types in expressions have the least sizes under
+/// which each holds its number: these depend on each other, and no others have a smaller sum.
 ///
-/// Each number of a table, each code and each value in its form has its fewest bytes. An expression of an entry or a list keeps its operations, each reference at the new place of what it named: that to a base type in five bytes,
-/// and a call as DW_OP_call4; all else in it has its fewest bytes (sections 2.5 and 7.7.1). Bytes after a unit's entries are dropped.
+/// Each number of a table, each code and each value in its form has its fewest bytes. An expression of an entry or a list keeps its
+/// operations, each reference at the new place of what it named; each number in it has its fewest bytes, and a call is a DW_OP_call2
+/// where its number is below 65,536 (sections 2.5 and 7.7.1). Bytes after a unit's entries are dropped.
 pub fn rewrite(alloc: Global, file: &[u8]) -> Result<Vec<u8>, Refusal>
     ensures valid { IfOk result (λ _. IsValid file.now Narrow) }
     ensures same { IfOk result (λ written. Same file.now written.items) }
@@ -68,5 +71,5 @@ pub fn rewrite(alloc: Global, file: &[u8]) -> Result<Vec<u8>, Refusal>
     ensures refused { IfErr result (λ refusal. NamesFault file.now Narrow refusal) }
 {
     let world = World::read(alloc, file, Reach::Narrow)?;
-    Ok(write_anew(alloc, &world)?)
+    Ok(write_anew(alloc, world)?)
 }

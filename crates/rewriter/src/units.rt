@@ -39,7 +39,7 @@ fn write_numbered(
     ensures written { OnOk result (IsUnitBehind world.now tables.now.tables.items places.now.items new_places.now number info.new.items) }
     ensures behind { OnOk result (Extends info.old.items info.new.items) }
 {
-    // A law, which costs nothing: the references have the sizes by which the unit has its places.
+    // A law, which costs nothing: the slots have the sizes by which the unit has its places.
     layouts_hold();
     let new = new_numbers(alloc, world, &tables.tables, places, new_places, number)?;
     let table = world.table_numbers()[number as usize] as usize;
@@ -48,6 +48,14 @@ fn write_numbered(
     let anew = &tables.tables[table];
     write_unit(info, unit, &old.table, &anew.columns, &anew.numbers, &new)?;
     Ok(())
+}
+
+// How many bytes units have together that stand at these places, one after the other.
+fn size_of(places: &[Places]) -> usize {
+    match places.last() {
+        Some(unit) => unit.end as usize,
+        None => 0,
+    }
 }
 
 /// Writes the units of a file anew, as the new .debug_info (DWARF 5 section 7.5), at these places. `new_places` are
@@ -68,7 +76,7 @@ pub fn write_units(
     ensures written { IfOk result (λ info. (file : List ℕ) (r : Reading) → Holds file world.now r → (units : List UnitRead) × AreUnitsWritten world.now r.links tables.now.tables.items places.now.items new_places.now info.items tables.now.bytes.items units) }
     ensures fits { IfOk result (λ info. length info.items < least_reserved) }
 {
-    let mut info: Vec<u8> = Vec::new(alloc);
+    let mut info: Vec<u8> = Vec::with_capacity(alloc, size_of(places))?;
     for number in 0..world.units().len() {
         write_numbered(
             alloc,

@@ -372,6 +372,13 @@ impl<'a> World<'a> {
         &self.image
     }
 
+    /// The image of the file, where nothing else that was read is needed any longer.
+    pub fn into_image(self) -> Image<'a>
+        ensures { result ≡ self.entry.image }
+    {
+        self.image
+    }
+
     /// The body of the section with a name, which is given without its zero byte; none where no section has it.
     pub fn section(&self, name: &[u8]) -> &[u8]
         ensures { result.now ≡ body_named self.now.image name.now }

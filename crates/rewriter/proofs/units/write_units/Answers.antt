@@ -16,7 +16,7 @@ overflow_cast-number c =
 
 pub loop-number-init : goal.loop-number-init
 loop-number-init c =
-    subst (λ (z : List ℕ). StandAnew c.args.world.now c.args.tables.now.tables.items c.args.places.now.items c.args.new_places.now z 0) (sym c.new-info.ensures.items) (stand_none c.args.world.now c.args.tables.now.tables.items c.args.places.now.items c.args.new_places.now c.requires.places.0 c.requires.places.1)
+    subst (λ (z : List ℕ). StandAnew c.args.world.now c.args.tables.now.tables.items c.args.places.now.items c.args.new_places.now z 0) (sym c.in_ok-info.ensures.items) (stand_none c.args.world.now c.args.tables.now.tables.items c.args.places.now.items c.args.new_places.now c.requires.places.0 c.requires.places.1)
 
 pub loop-number-preserved : goal.loop-number-preserved
 loop-number-preserved c =
