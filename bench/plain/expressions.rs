@@ -243,27 +243,21 @@ fn put_s(out: &mut Vec<u8>, mut value: i64) {
     }
 }
 
-fn put_five(out: &mut Vec<u8>, value: u64) {
-    for i in 0..4 {
-        out.push((value >> (7 * i)) as u8 | 0x80);
-    }
-    out.push((value >> 28) as u8 & 0x7f);
-}
-
 fn is_generic(op: &Op) -> bool {
     op.code >= 0xa8 && op.a == 0
 }
 
-fn reference_size(op: &Op) -> usize {
-    if is_generic(op) { 1 } else { 5 }
+// A call has two bytes or four.
+fn call_size(op: &Op) -> usize {
+    if op.a < 65536 { 2 } else { 4 }
 }
 
 // The bytes of an operation, without those that it holds, which have so many.
 fn own_size(op: &Op, held: usize) -> usize {
     1 + match kind_of(op.code) {
         Some(Kind::None) | None => 0,
+        Some(Kind::Fixed(_)) if op.code == 0x99 => call_size(op),
         Some(Kind::Fixed(size)) | Some(Kind::Signed(size)) => size,
-        Some(Kind::Uleb) if has_reference(op.code) => reference_size(op),
         Some(Kind::Uleb) => len_u(op.a),
         Some(Kind::Sleb) => len_s(op.s),
         Some(Kind::TwoUlebs) => len_u(op.a) + len_u(op.s as u64),
@@ -271,9 +265,9 @@ fn own_size(op: &Op, held: usize) -> usize {
         Some(Kind::FixedSleb) => 4 + len_s(op.s),
         Some(Kind::Block) => len_u(op.bytes.1) + op.bytes.1 as usize,
         Some(Kind::EntryValue) => len_u(held as u64),
-        Some(Kind::ConstType) => 5 + 1 + op.bytes.1 as usize,
-        Some(Kind::UlebReference) => len_u(op.s as u64) + 5,
-        Some(Kind::ByteReference) => 1 + 5,
+        Some(Kind::ConstType) => len_u(op.a) + 1 + op.bytes.1 as usize,
+        Some(Kind::UlebReference) => len_u(op.s as u64) + len_u(op.a),
+        Some(Kind::ByteReference) => 1 + len_u(op.a),
     }
 }
 
@@ -288,13 +282,17 @@ fn sizes_of(ops: &[Op]) -> (Vec<usize>, Vec<usize>) {
 }
 
 fn put(out: &mut Vec<u8>, op: &Op, held: usize, bytes: &[u8]) {
+    if op.code == 0x99 && call_size(op) == 2 {
+        out.push(0x98);
+        out.extend_from_slice(&op.a.to_le_bytes()[..2]);
+        return;
+    }
     out.push(op.code);
     let (from, len) = (op.bytes.0 as usize, op.bytes.1 as usize);
     match kind_of(op.code) {
         Some(Kind::None) | None => {}
         Some(Kind::Fixed(size)) => out.extend_from_slice(&op.a.to_le_bytes()[..size]),
         Some(Kind::Signed(size)) => out.extend_from_slice(&op.s.to_le_bytes()[..size]),
-        Some(Kind::Uleb) if has_reference(op.code) && !is_generic(op) => put_five(out, op.a),
         Some(Kind::Uleb) => put_u(out, op.a),
         Some(Kind::Sleb) => put_s(out, op.s),
         Some(Kind::TwoUlebs) => {
@@ -315,17 +313,17 @@ fn put(out: &mut Vec<u8>, op: &Op, held: usize, bytes: &[u8]) {
         }
         Some(Kind::EntryValue) => put_u(out, held as u64),
         Some(Kind::ConstType) => {
-            put_five(out, op.a);
+            put_u(out, op.a);
             out.push(op.bytes.1 as u8);
             out.extend_from_slice(&bytes[from..from + len]);
         }
         Some(Kind::UlebReference) => {
             put_u(out, op.s as u64);
-            put_five(out, op.a);
+            put_u(out, op.a);
         }
         Some(Kind::ByteReference) => {
             out.push(op.s as u8);
-            put_five(out, op.a);
+            put_u(out, op.a);
         }
     }
 }
@@ -350,7 +348,8 @@ fn write(out: &mut Vec<u8>, ops: &[Op], refs: &[u64], bytes: &[u8]) {
         }
         return;
     }
-    let (sizes, held) = sizes_of(ops);
+    let ops: Vec<Op> = ops.iter().map(renewed).collect();
+    let (sizes, held) = sizes_of(&ops);
     let mut places = vec![0i64];
     for size in &sizes {
         places.push(places[places.len() - 1] + *size as i64);
@@ -360,7 +359,7 @@ fn write(out: &mut Vec<u8>, ops: &[Op], refs: &[u64], bytes: &[u8]) {
         firsts[k + 1..k + 1 + ops[k].inner as usize].fill(k + 1);
     }
     for (k, op) in ops.iter().enumerate() {
-        let mut op = renewed(op);
+        let mut op = *op;
         if op.code == 0x28 || op.code == 0x2f {
             op.s = places[firsts[k] + op.jump as usize] - places[k + 1];
         }

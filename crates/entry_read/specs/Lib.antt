@@ -6,5 +6,5 @@ pub mod Laws
 pub mod Readings
 pub mod Places
 pub mod Short
-pub mod Locals
+pub mod Slots
 pub mod inside

@@ -58,13 +58,6 @@ placed_more bytes places place next drafts i d a inside e =
       whole = omega (arith, sum, e);
     }
 
--- the next fits
-pub placed_fits : (bytes places : List ℕ) (place : ℕ) (drafts : List Draft) (i : ℕ) (d : Draft) → ArePlacedFrom bytes places place drafts i → i < length drafts → total (sizes_in bytes drafts) < 2 ^ 63 → place + own_size (get_or drafts i d).slot (meant bytes (get_or drafts i d).op) < 2 ^ 63
-placed_fits bytes places place drafts i d a inside small =
-    let more = ap (sizes_in bytes) (drop_more drafts i d inside) in
-    let sum : place + (own_size (get_or drafts i d).slot (meant bytes (get_or drafts i d).op) + total (sizes_in bytes (drop (i + 1) drafts))) ≡ total (sizes_in bytes drafts) = subst (λ z. place + total z ≡ total (sizes_in bytes drafts)) more a.whole in
-    omega (arith, sum, small)
-
 -- places rise up to the total
 pub starts_small : (place : ℕ) (sizes : List ℕ) (j : ℕ) → get_or (starts_from place sizes) j 0 ≤ place + total sizes
 starts_small place [] zero = omega arith

@@ -23,7 +23,8 @@ use Rattle.expr_ops.specs.Heads.Part.{Unsigned, Signed, Data}
 use Rattle.expr_ops.specs.Expressions.{Operation, IsBranch, plain_code, kept_sign, kept_block, operation_of}
 use Rattle.expr_ops.specs.Sizes.{number_size, part_size, operands_size, known_size, own_size}
 use Rattle.expr_ops.specs.Drafts.{is_slot}
-use Rattle.expr_ops.specs.Plain.{plain_size, plain_slot}
+use Rattle.expr_ops.specs.inside.Leads.{is_number, is_led}
+use Rattle.expr_ops.proofs.PlainBytes.{plain_size, plain_slot}
 use Rattle.expr_ops.proofs.HeadLaws.{some_same}
 use Rattle.expr_ops.proofs.BlockLaws.{code_of_head}
 use Rattle.expr_ops.proofs.PlaceLaws.{known_aimed}
@@ -108,16 +109,7 @@ other_long code n shape.ByteCounted p bytes (body, w, e) =
     let k : length bytes ≡ suc (length body) = ap length w in
     subst (λ (z : Part). IsWithin (other_size shape.ByteCounted (holding_two code (Unsigned n) z)) (length bytes) 0) (sym e) (record { few = omega (arith, k); some = omega (arith, k) })
 
--- the first of two is a number without a sign
-abbrev is_number : Shape → Bool
-is_number (shape.Unsigned w) = true
-is_number shape.Uleb = true
-is_number _ = false
-
-abbrev is_led : Option Operands → Bool
-is_led (Some (operands.Two s t)) = is_number s
-is_led _ = true
-
+-- each row's first of two is a number without a sign
 abbrev are_led : List Row → Bool
 are_led [] = true
 are_led (row ∷ rows) = if is_led row.operands then are_led rows else false
@@ -136,7 +128,7 @@ look_led (row ∷ rows) code e =
     let (here, below) = both_true (is_led row.operands) (are_led rows) e in
     led_if _ row.operands (look_up rows code) here (look_led rows code below)
 
-table_led : (code : ℕ) → is_led (operands_of code) ≡ true
+pub table_led : (code : ℕ) → is_led (operands_of code) ≡ true
 table_led code =
     let upper = led_if (nat_le code 147) (look_up middle_rows code) (look_up high_rows code) (look_led middle_rows code refl) (look_led high_rows code refl) in
     led_if (nat_le code 47) (look_up low_rows code) (if nat_le code 147 then look_up middle_rows code else look_up high_rows code) (look_led low_rows code refl) upper
@@ -298,15 +290,16 @@ least_thrice n =
     let h = least_below (3 * n) (suc l) (record { some = omega arith; below = omega (arith, below, power) }) in
     omega (arith, h)
 
--- an entry_value and what it holds, which are `more` operations
-pub record IsEntryBounded (size len more : ℕ) : Type 0 where
+-- an entry_value and what it holds, which are `more` operations in so many bytes
+pub record IsEntryBounded (size len more body : ℕ) : Type 0 where
   pub few : size ≤ len + 4 * suc more
   pub thrice : size ≤ 3 * len
+  pub within : body + 2 ≤ len
 
 held_block : (code : ℕ) (p : Part) (body : List ℕ) → p ≡ Data body → (holding code p).block ≡ body
 held_block code p body e = ap (λ (z : Part). (holding code z).block) e
 
-pub entry_long : (head : Head) (b : List ℕ) (jump n held more : ℕ) → SpellsHead head b → head.code ≡ 163 → held ≤ 3 * length head.block → held ≤ length head.block + 4 * more → IsEntryBounded (own_size (plain_slot (operation_of head jump n) held) (operation_of head jump n) + held) (length b) more
+pub entry_long : (head : Head) (b : List ℕ) (jump n held more : ℕ) → SpellsHead head b → head.code ≡ 163 → held ≤ 3 * length head.block → held ≤ length head.block + 4 * more → IsEntryBounded (own_size (plain_slot (operation_of head jump n) held) (operation_of head jump n) + held) (length b) more (length head.block)
 entry_long head b jump n held more s e most few =
     let known : operands_of head.code ≡ Some s.operands = ap operands_of (code_of_head s.code s.operands head s.tail s.spelled) ∙ s.known in
     let kinds : s.operands ≡ operands.One shape.Counted = some_same s.operands (operands.One shape.Counted) (sym known ∙ ap operands_of e) in
@@ -325,4 +318,5 @@ entry_long head b jump n held more s e most few =
     record {
       few = omega (arith, own, up, three, short, some, all, tail, size, few);
       thrice = omega (arith, own, up, three, short, some, all, tail, size, most);
+      within = omega (arith, some, all, tail, size);
     }

@@ -114,7 +114,7 @@ module _ (bytes places firsts : List ℕ) (drafts aims : List Draft) (a : AreAim
       let within : k < length aims = omega (arith, lt, la) in
       get_or-map f aims k no_draft 0 within ∙ size_same (get_or drafts k no_draft) (get_or aims k no_draft) k (get_or firsts k 0) (a.each k no_draft inside) (slotted k no_draft inside) ∙ sym (get_or-map f drafts k no_draft 0 inside))
 
-ref_code : (g : Bool) (n : ℕ) (o : Operation) → (if g then o else with_a n o).code ≡ o.code
+pub ref_code : (g : Bool) (n : ℕ) (o : Operation) → (if g then o else with_a n o).code ≡ o.code
 ref_code true n o = refl
 ref_code false n o = refl
 

@@ -1,5 +1,5 @@
 -- What is written of one operation.
-use Rattle.std.proofs.Common.{◌≡◌, ◌+◌, ◌<◌, ◌%◌, ℕ, suc, List, [], ◌∷◌, ◌++◌, length, ◌∙◌, sym, ap, refl, subst, arith, inl, inr, Option, Some, None, false}
+use Rattle.std.proofs.Common.{◌≡◌, ◌+◌, ℕ, suc, List, [], ◌∷◌, ◌++◌, length, ◌∙◌, sym, ap, refl, subst, arith, inl, inr, Option, Some, None, false}
 use Rattle.std.proofs.lemmas.List.{append_assoc, append-nil, length-append}
 use Rattle.std.proofs.lemmas.Bool.{ne_eqb}
 use Rattle.std.specs.Prelude.{ℤ, nat_eq, OnOk, OnErr, Result, Ok, Err}
@@ -68,12 +68,12 @@ own_len slot o bytes (inr (inr (no_call, no_entry, (kinds, tail, known, puts, e)
     let entry : nat_eq o.code 163 ≡ false = ne_eqb o.code 163 no_entry in
     rw call (rw entry (rw known (one_more o.code tail bytes (operands_size kinds slot o) e (operands_len kinds slot o tail puts))))
 
--- the sum as it is found, where it fits
-pub own_known : (slot : Option ℕ) (o : Operation) (kinds : Operands) (found : ℕ) → (o.code ≡ 153 → ⊥) → (o.code ≡ 163 → ⊥) → operands_of o.code ≡ Some kinds → (operands_size kinds slot o < 18446744073709551616 → found ≡ operands_size kinds slot o) → own_size slot o < 18446744073709551616 → (1 + found) % 18446744073709551616 ≡ own_size slot o
+-- the sum as it is found
+pub own_known : (slot : Option ℕ) (o : Operation) (kinds : Operands) (found : ℕ) → (o.code ≡ 153 → ⊥) → (o.code ≡ 163 → ⊥) → operands_of o.code ≡ Some kinds → found ≡ operands_size kinds slot o → 1 + found ≡ own_size slot o
 own_known slot o kinds found no_call no_entry known finds =
     let call : nat_eq o.code 153 ≡ false = ne_eqb o.code 153 no_call in
     let entry : nat_eq o.code 163 ≡ false = ne_eqb o.code 163 no_entry in
-    rw call (rw entry (rw known (λ (small : 1 + operands_size kinds slot o < 18446744073709551616). let e : found ≡ operands_size kinds slot o = finds (omega arith) in rw e (omega arith))))
+    rw call (rw entry (rw known (ap (λ (n : ℕ). 1 + n) finds)))
 
 module _ (T : Type 0) (r : Result T NoMemory) (s : Shape) (slot : Option ℕ) (old new : List ℕ) where
   -- the same operand, by what it is known to be

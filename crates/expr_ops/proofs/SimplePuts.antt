@@ -1,8 +1,7 @@
 -- Operations without branches and entry_values, each written with its next reference.
-use Rattle.std.proofs.Common.{◌≡◌, ◌≢◌, ◌<◌, ◌≤◌, ◌+◌, ◌^◌, ℕ, List, [], ◌∷◌, ◌++◌, length, get_or, take, drop, map, ◌∙◌, sym, ap, refl, subst, arith, inl, true, false, Option, Some}
+use Rattle.std.proofs.Common.{◌≡◌, ◌≢◌, ◌<◌, ◌≤◌, ◌+◌, ◌^◌, ℕ, List, [], ◌∷◌, ◌++◌, length, get_or, take, drop, map, ◌∙◌, sym, ap, refl, subst, arith, inl, false, Option, Some}
 use Rattle.std.proofs.lemmas.Bool.{ne_eqb}
 use Rattle.std.proofs.lemmas.List.{append_assoc, append-nil, map-append, length-map, get_or-map, drop_more, drop_all}
-use Rattle.std.proofs.lemmas.List.Elements.{All-drop}
 use Rattle.std.specs.Prelude.{nat_eq}
 use Rattle.spelled.specs.Spelled.{Joined}
 use Rattle.spelled.proofs.Joins.{joined_push}
@@ -15,13 +14,15 @@ use Rattle.expr_ops.specs.Table.{operands_of}
 use Rattle.expr_ops.specs.Ops.{meant, all_meant}
 use Rattle.expr_ops.specs.Expressions.{Operation, IsBranch, IsExpression}
 use Rattle.expr_ops.specs.Puts.{Holds, Adds}
-use Rattle.expr_ops.specs.Drafts.{has_reference, with_refs, all_ops, all_slots, sizes_in, total, starts_from, PutsDraft, IsFirstAmong, AreFirsts, AreAimed, AreDrafts, IsPut}
-use Rattle.expr_ops.specs.Plain.{plain_slot, plain_own, plain_length, plain_sizes, AreSimple, IsWrittenPlain}
+use Rattle.expr_ops.specs.Drafts.{with_refs, all_ops, all_slots, sizes_in, total, starts_from, PutsDraft, IsFirstAmong, AreFirsts, AreAimed, AreDrafts, IsPut}
+use Rattle.expr_ops.specs.Shortest.{needed_slot, needed_own, shortest_length, shortest_sizes, AreSimple, IsWrittenShortest}
 use Rattle.expr_ops.proofs.DraftLaws.{no_draft}
 use Rattle.expr_ops.proofs.PlainLaws.{expression_sized}
-use Rattle.expr_ops.proofs.PlainSizes.{plain_slots, slots_plain, put_length}
-use Rattle.expr_ops.proofs.PlainFits.{AreSmall, known_at, ref_small, holds_plain, draft_code, drafts_count}
-use Rattle.expr_ops.proofs.PlainFew.{plain_written}
+use Rattle.expr_ops.proofs.NextRefs.{AreSmall}
+use Rattle.expr_ops.proofs.NeededLaws.{IsRenamed, refs_count}
+use Rattle.expr_ops.proofs.NeededSizes.{needed_slots, slots_needed, put_length}
+use Rattle.expr_ops.proofs.NeededFits.{known_at, holds_needed, draft_code, drafts_count}
+use Rattle.expr_ops.proofs.NeededFew.{shortest_written}
 use Rattle.expr_ops.proofs.Written.{written}
 
 -- WHAT WAS WRITTEN SO FAR
@@ -31,7 +32,7 @@ pub record ArePut (refs bytes : List ℕ) (ops : List Op) (old new : List ℕ) (
   pub drafts : List Draft
   pub own : List ℕ
   pub made : all_ops bytes drafts ++ with_refs (drop r refs) (all_meant bytes (drop i ops)) ≡ with_refs refs (all_meant bytes ops)
-  pub slots : all_slots drafts ++ plain_slots (all_meant bytes (drop i ops)) ≡ plain_slots (all_meant bytes ops)
+  pub slots : all_slots drafts ++ needed_slots (all_meant bytes (drop i ops)) (with_refs (drop r refs) (all_meant bytes (drop i ops))) ≡ needed_slots (all_meant bytes ops) (with_refs refs (all_meant bytes ops))
   pub spelled : Joined (PutsDraft bytes) drafts own
   pub items : new ≡ old ++ own
 
@@ -42,30 +43,34 @@ pub put_extends : (refs bytes : List ℕ) (ops : List Op) (old mid new : List �
 put_extends refs bytes ops old mid new i r p (more, e) = (p.own ++ more, e ∙ ap (λ z. z ++ more) p.items ∙ append_assoc old p.own more)
 
 -- the slot of an operation that holds none is the same whatever it holds
-slot_any : (o : Operation) (m n : ℕ) → o.code ≢ 163 → plain_slot o m ≡ plain_slot o n
-slot_any o m n other = let e : nat_eq o.code 163 ≡ false = ne_eqb o.code 163 other in rw e refl
+slot_any : (o new : Operation) (m n : ℕ) → new.code ≢ 163 → needed_slot o new m ≡ needed_slot o new n
+slot_any o new m n other = let e : nat_eq new.code 163 ≡ false = ne_eqb new.code 163 other in rw e refl
 
 module _ (refs bytes : List ℕ) (ops : List Op) (simple : AreSimple ops) where
-  pub put_more : (old mid new : List ℕ) (i r s : ℕ) (d next : Op) (slot : Option ℕ) → ArePut refs bytes ops old mid i r → i < length ops → ((more : List Operation) → with_refs (drop r refs) (meant bytes (get_or ops i d) ∷ more) ≡ meant bytes next ∷ with_refs (drop s refs) more) → slot ≡ plain_slot (meant bytes (get_or ops i d)) 0 → Adds (PutsDraft bytes (record { op = next; slot = slot })) mid new → ArePut refs bytes ops old new (i + 1) s
-  put_more old mid new i r s d next slot p lt renamed same (first, puts, whole) =
+  pub put_more : (old mid new : List ℕ) (i r s : ℕ) (d next : Op) (slot : Option ℕ) → ArePut refs bytes ops old mid i r → i < length ops → next.code ≡ (get_or ops i d).code → IsRenamed bytes (get_or ops i d) next (drop r refs) (drop s refs) → slot ≡ needed_slot (meant bytes (get_or ops i d)) (meant bytes next) 0 → Adds (PutsDraft bytes (record { op = next; slot = slot })) mid new → ArePut refs bytes ops old new (i + 1) s
+  put_more old mid new i r s d next slot p lt code renamed same (first, puts, whole) =
       let o = meant bytes (get_or ops i d) in
+      let n = meant bytes next in
       let rest = all_meant bytes (drop (i + 1) ops) in
+      let news = with_refs (drop s refs) rest in
       let draft : Draft = record { op = next; slot = slot } in
-      let here : slot ≡ plain_slot o (total (take o.inner (plain_own rest))) = same ∙ slot_any o 0 (total (take o.inner (plain_own rest))) (simple i d lt).1 in
+      let held = total (take o.inner (needed_own rest news)) in
+      let here : slot ≡ needed_slot o n held = same ∙ slot_any o n 0 held (λ e. (simple i d lt).1 (sym code ∙ e)) in
       record {
         drafts = p.drafts ++ draft ∷ [];
         own = p.own ++ first;
         made =
-            ap (λ z. z ++ with_refs (drop s refs) rest) (map-append (λ (x : Draft). meant bytes x.op) p.drafts (draft ∷ []))
-            ∙ append_assoc (all_ops bytes p.drafts) (meant bytes next ∷ []) (with_refs (drop s refs) rest)
+            ap (λ z. z ++ news) (map-append (λ (x : Draft). meant bytes x.op) p.drafts (draft ∷ []))
+            ∙ append_assoc (all_ops bytes p.drafts) (n ∷ []) news
             ∙ ap (λ z. all_ops bytes p.drafts ++ z) (sym (renamed rest))
             ∙ ap (λ (z : List Op). all_ops bytes p.drafts ++ with_refs (drop r refs) (all_meant bytes z)) (sym (drop_more ops i d lt))
             ∙ p.made;
         slots =
-            ap (λ z. z ++ plain_slots rest) (map-append (λ (x : Draft). x.slot) p.drafts (draft ∷ []))
-            ∙ append_assoc (all_slots p.drafts) (slot ∷ []) (plain_slots rest)
-            ∙ ap (λ (z : Option ℕ). all_slots p.drafts ++ z ∷ plain_slots rest) here
-            ∙ ap (λ (z : List Op). all_slots p.drafts ++ plain_slots (all_meant bytes z)) (sym (drop_more ops i d lt))
+            ap (λ z. z ++ needed_slots rest news) (map-append (λ (x : Draft). x.slot) p.drafts (draft ∷ []))
+            ∙ append_assoc (all_slots p.drafts) (slot ∷ []) (needed_slots rest news)
+            ∙ ap (λ (z : Option ℕ). all_slots p.drafts ++ z ∷ needed_slots rest news) here
+            ∙ ap (λ (z : List Operation). all_slots p.drafts ++ needed_slots (o ∷ rest) z) (sym (renamed rest))
+            ∙ ap (λ (z : List Op). all_slots p.drafts ++ needed_slots (all_meant bytes z) (with_refs (drop r refs) (all_meant bytes z))) (sym (drop_more ops i d lt))
             ∙ p.slots;
         spelled = joined_push (PutsDraft bytes) p.drafts draft p.own first p.spelled puts;
         items = whole ∙ ap (λ z. z ++ first) p.items ∙ append_assoc old p.own first;
@@ -79,15 +84,10 @@ module _ (refs bytes : List ℕ) (ops : List Op) (simple : AreSimple ops) where
       let known = known_at (all_meant bytes ops) i (meant bytes d) (expression_sized Narrow (all_meant bytes ops) bytes old).known (omega (arith, lt, count)) in
       (known.0, ap operands_of (same ∙ sym (ap (λ (z : Operation). z.code) (get_or-map (meant bytes) ops i d (meant bytes d) lt))) ∙ known.1)
 
-  pub next_holds : (i r s : ℕ) (d next : Op) (slot : Option ℕ) → AreSmall refs → i < length ops → next.code ≡ (get_or ops i d).code → ((more : List Operation) → with_refs (drop r refs) (meant bytes (get_or ops i d) ∷ more) ≡ meant bytes next ∷ with_refs (drop s refs) more) → slot ≡ plain_slot (meant bytes (get_or ops i d)) 0 → Holds slot next.code next.a
-  next_holds i r s d next slot small lt same renamed is =
-      let o = meant bytes (get_or ops i d) in
-      let number : (get_or (with_refs (drop r refs) (o ∷ [])) 0 o).a ≡ next.a = ap (λ (z : List Operation). (get_or z 0 o).a) (renamed []) in
-      let below : has_reference o.code ≡ true → next.a < 2 ^ 32 = λ t.
-      let h = ref_small (drop r refs) (o ∷ []) 0 o (All-drop (λ (n : ℕ). n < 2 ^ 32) r refs small) (omega arith) t in
-      omega (arith, h, number)
-      in
-      subst (λ (z : Option ℕ). Holds z next.code next.a) (sym is) (subst (λ (c : ℕ). Holds (plain_slot o 0) c next.a) (sym same) (holds_plain o 0 next.a (simple i d lt).1 below))
+  pub next_holds : (i : ℕ) (d next : Op) (slot : Option ℕ) → i < length ops → next.code ≡ (get_or ops i d).code → slot ≡ needed_slot (meant bytes (get_or ops i d)) (meant bytes next) 0 → Holds slot next.code next.a
+  next_holds i d next slot lt same is =
+      let h = holds_needed (meant bytes (get_or ops i d)) (meant bytes next) 0 (λ e. (simple i d lt).1 (sym same ∙ e)) in
+      subst (λ (z : Option ℕ). Holds z next.code next.a) (sym is) h
 
   -- ALL WERE WRITTEN
 
@@ -102,7 +102,7 @@ module _ (refs bytes : List ℕ) (ops : List Op) (simple : AreSimple ops) where
         subst (λ (f : ℕ). IsFirstAmong ops (length ops) k f) (sym none) (record { opens = inl refl; innermost = λ e from less holds. (simple e no_draft.op less).1 holds.2 });
   }
 
-  module _ (drafts : List Draft) (a : AreDrafts refs (plain_sizes (all_meant bytes ops)) bytes ops drafts) where
+  module _ (drafts : List Draft) (a : AreDrafts refs (shortest_sizes refs (all_meant bytes ops)) bytes ops drafts) where
     draft_simple : (k : ℕ) (d : Draft) → k < length drafts → (¬ IsBranch (get_or drafts k d).op.code) × ((get_or drafts k d).op.code ≢ 163)
     draft_simple k d lt =
         let count : length (all_meant bytes ops) ≡ length ops = length-map ops (meant bytes) in
@@ -129,13 +129,13 @@ module _ (refs bytes : List ℕ) (ops : List Op) (simple : AreSimple ops) where
           };
     }
 
-  all_put : (old new : List ℕ) (i r : ℕ) → length ops ≤ i → ArePut refs bytes ops old new i r → Adds (IsPut refs (plain_sizes (all_meant bytes ops)) bytes ops) old new
+  all_put : (old new : List ℕ) (i r : ℕ) → length ops ≤ i → ArePut refs bytes ops old new i r → Adds (IsPut refs (shortest_sizes refs (all_meant bytes ops)) bytes ops) old new
   all_put old new i r le p =
       let os = all_meant bytes ops in
       let none : drop i ops ≡ [] = drop_all i ops le in
-      let drafted : AreDrafts refs (plain_sizes os) bytes ops p.drafts = record {
+      let drafted : AreDrafts refs (shortest_sizes refs os) bytes ops p.drafts = record {
         renamed = sym (append-nil (all_ops bytes p.drafts)) ∙ ap (λ (z : List Op). all_ops bytes p.drafts ++ with_refs (drop r refs) (all_meant bytes z)) (sym none) ∙ p.made;
-        slots = sym (append-nil (all_slots p.drafts)) ∙ ap (λ (z : List Op). all_slots p.drafts ++ plain_slots (all_meant bytes z)) (sym none) ∙ p.slots ∙ sym (slots_plain os);
+        slots = sym (append-nil (all_slots p.drafts)) ∙ ap (λ (z : List Op). all_slots p.drafts ++ needed_slots (all_meant bytes z) (with_refs (drop r refs) (all_meant bytes z))) (sym none) ∙ p.slots ∙ sym (slots_needed os (with_refs refs os) (refs_count refs os));
       } in (
         p.own,
         record {
@@ -150,8 +150,8 @@ module _ (refs bytes : List ℕ) (ops : List Op) (simple : AreSimple ops) where
         p.items,
       )
 
-  pub simple_written : (old new : List ℕ) (i r : ℕ) → IsExpression Narrow (all_meant bytes ops) bytes → AreSmall refs → plain_length (all_meant bytes ops) < 2 ^ 63 → length ops ≤ i → ArePut refs bytes ops old new i r → Adds (IsWrittenPlain refs bytes ops) old new
+  pub simple_written : (old new : List ℕ) (i r : ℕ) → IsExpression Narrow (all_meant bytes ops) bytes → AreSmall refs → shortest_length refs (all_meant bytes ops) < 2 ^ 63 → length ops ≤ i → ArePut refs bytes ops old new i r → Adds (IsWrittenShortest refs bytes ops) old new
   simple_written old new i r was small fits le p =
       let (own, put, e) = all_put old new i r le p in
-      let sizes = plain_sizes (all_meant bytes ops) in
-      (own, record { written = record { put = put; expression = written refs sizes bytes ops own (plain_written refs bytes ops was small fits) put }; long = put_length refs bytes ops own put }, e)
+      let sizes = shortest_sizes refs (all_meant bytes ops) in
+      (own, record { written = record { put = put; expression = written refs sizes bytes ops own (shortest_written refs bytes ops was small fits) put }; long = put_length refs bytes ops own put }, e)

@@ -11,7 +11,9 @@ pub mod Drafts
 pub mod Fits
 pub mod Names
 pub mod Writing
-pub mod Plain
+pub mod Shortest
+pub mod Bounds
+pub mod Slots
 pub mod Nests
 pub mod Reading
 pub mod inside

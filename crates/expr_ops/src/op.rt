@@ -28,11 +28,13 @@ pub(crate) const SKIP: u8 = 0x2f;
 
 pub(crate) const CALL2: u8 = 0x98;
 
-pub(crate) const CALL4: u8 = 0x99;
+/// DW_OP_call4; a call with an operand of two bytes is held as one too (DWARF 5 section 2.5.1.5).
+pub const CALL4: u8 = 0x99;
 
 pub(crate) const IMPLICIT_VALUE: u8 = 0x9e;
 
-pub(crate) const ENTRY_VALUE: u8 = 0xa3;
+/// DW_OP_entry_value (DWARF 5 section 2.5.1.7).
+pub const ENTRY_VALUE: u8 = 0xa3;
 
 pub(crate) const CONST_TYPE: u8 = 0xa4;
 

@@ -5,12 +5,12 @@ ghost use Rattle.dw_base.specs.declared.fault.Reach.TheVariants.{Narrow};
 ghost use Rattle.expr_ops.specs.Expressions.{IsExpression};
 ghost use Rattle.expr_ops.specs.Ops.{all_meant};
 ghost use Rattle.expr_ops.specs.Puts.{Adds};
-ghost use Rattle.expr_ops.specs.Plain.{AreSimple, plain_length, IsWrittenPlain};
+ghost use Rattle.expr_ops.specs.Shortest.{AreSimple, shortest_length, IsWrittenShortest};
 
 use crate::op::{ENTRY_VALUE, Op};
-use crate::plain::plain_slot;
 use crate::put::put_op;
 use crate::segment::is_branch;
+use crate::shortest::needed_slot;
 use crate::write::with_next_ref;
 use dw_base::NoMemory;
 
@@ -34,14 +34,14 @@ fn put_simple(out: &mut Vec<u8>, ops: &[Op], refs: &[u64], bytes: &[u8]) -> Resu
     requires old { IsExpression Narrow (all_meant bytes.now ops.now) bytes.now }
     requires simple { AreSimple ops.now }
     requires refs { All (λ n. n < 2 ^ 32) refs.now }
-    requires fits { plain_length (all_meant bytes.now ops.now) < 2 ^ 63 }
-    ensures ok { OnOk result (Adds (IsWrittenPlain refs.now bytes.now ops.now) out.old.items out.new.items) }
+    requires fits { shortest_length refs.now (all_meant bytes.now ops.now) < 2 ^ 63 }
+    ensures ok { OnOk result (Adds (IsWrittenShortest refs.now bytes.now ops.now) out.old.items out.new.items) }
     ensures err { OnErr result (Extends out.old.items out.new.items) }
 {
     let mut ref_at = 0;
     for op in ops {
         let next = with_next_ref(op, refs, &mut ref_at);
-        put_op(out, &next, plain_slot(op, 0), bytes)?;
+        put_op(out, &next, needed_slot(op, &next, 0), bytes)?;
     }
     Ok(())
 }
@@ -56,8 +56,8 @@ pub(crate) fn write_simple(
     requires old { IsExpression Narrow (all_meant bytes.now ops.now) bytes.now }
     requires simple { AreSimple ops.now }
     requires refs { All (λ n. n < 2 ^ 32) refs.now }
-    requires fits { plain_length (all_meant bytes.now ops.now) < 2 ^ 63 }
-    ensures ok { OnOk result (Adds (IsWrittenPlain refs.now bytes.now ops.now) out.old.items out.new.items) }
+    requires fits { shortest_length refs.now (all_meant bytes.now ops.now) < 2 ^ 63 }
+    ensures ok { OnOk result (Adds (IsWrittenShortest refs.now bytes.now ops.now) out.old.items out.new.items) }
     ensures err { OnErr result (out.new.items ≡ out.old.items) }
 {
     let start = out.len();

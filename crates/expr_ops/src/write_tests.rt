@@ -1,5 +1,5 @@
 // Expressions written with new references, whose bytes follow from DWARF 5 section 7.7.1.
-use crate::{plain_len, read_expr, write_plain};
+use crate::{read_expr, shortest_len, write_shortest};
 use dw_base::{Reach, Refusal};
 use std::alloc::Global;
 
@@ -13,16 +13,18 @@ fn rewritten(
     let ops = read_expr(alloc, bytes, 0, Reach::Narrow)?;
     let refs = [u64::from(first), u64::from(second)];
     let mut made = Vec::new(alloc);
-    write_plain(&mut made, &ops, &refs, bytes)?;
-    Ok((made, plain_len(&ops, bytes)))
+    write_shortest(&mut made, &ops, &refs, bytes)?;
+    Ok((made, shortest_len(&ops, &refs, bytes)))
 }
 
 #[test]
 fn references_are_written(rt: HostRuntime) -> Result<(), Refusal> {
-    let rows: [(&[u8], u32, u32, &[u8]); 12] = [
-        // call2 becomes call4
+    let rows: [(&[u8], u32, u32, &[u8]); 14] = [
+        // a call is a call2 where its number fits
         (&[0x98, 0x34, 0x12], 0x0403_0201, 0, &[0x99, 1, 2, 3, 4]),
-        (&[0x99, 1, 2, 3, 4], 7, 0, &[0x99, 7, 0, 0, 0]),
+        (&[0x99, 1, 2, 3, 4], 7, 0, &[0x98, 7, 0]),
+        (&[0x99, 1, 2, 3, 4], 65_535, 0, &[0x98, 0xff, 0xff]),
+        (&[0x98, 0x34, 0x12], 65_536, 0, &[0x99, 0, 0, 1, 0]),
         (
             &[0x9a, 1, 0, 0, 0],
             0xffff_fffe,
@@ -38,24 +40,14 @@ fn references_are_written(rt: HostRuntime) -> Result<(), Refusal> {
         ),
         (&[0xfd, 1, 0, 0, 0], 256, 0, &[0xfd, 0, 1, 0, 0]),
         // the bytes of const_type stay
-        (
-            &[0xa4, 0x2a, 2, 7, 8],
-            3,
-            0,
-            &[0xa4, 0x83, 0x80, 0x80, 0x80, 0, 2, 7, 8],
-        ),
+        (&[0xa4, 0x83, 0x80, 0, 2, 7, 8], 3, 0, &[0xa4, 3, 2, 7, 8]),
         (
             &[0xa5, 0x90, 5, 0x2a],
             0x1234,
             0,
-            &[0xa5, 0x90, 5, 0xb4, 0xa4, 0x80, 0x80, 0],
+            &[0xa5, 0x90, 5, 0xb4, 0x24],
         ),
-        (
-            &[0xa6, 8, 0x2a],
-            128,
-            0,
-            &[0xa6, 8, 0x80, 0x81, 0x80, 0x80, 0],
-        ),
+        (&[0xa6, 8, 0x2a], 128, 0, &[0xa6, 8, 0x80, 1]),
         (
             &[0xa7, 8, 0x2a],
             0xffff_ffff,
@@ -64,12 +56,7 @@ fn references_are_written(rt: HostRuntime) -> Result<(), Refusal> {
         ),
         // the generic type stays, and has a number all the same
         (&[0xa8, 0], 7, 0, &[0xa8, 0]),
-        (
-            &[0xa9, 0x80, 0, 0xa8, 0x2a],
-            7,
-            1,
-            &[0xa9, 0, 0xa8, 0x81, 0x80, 0x80, 0x80, 0],
-        ),
+        (&[0xa9, 0x80, 0, 0xa8, 0x2a], 7, 1, &[0xa9, 0, 0xa8, 1]),
     ];
     for (old, first, second, new) in rows {
         let (made, told) = rewritten(rt.alloc(), old, first, second)?;
@@ -81,52 +68,51 @@ fn references_are_written(rt: HostRuntime) -> Result<(), Refusal> {
 
 #[test]
 fn lengths_and_distances_follow(rt: HostRuntime) -> Result<(), Refusal> {
-    let rows: [(&[u8], u32, &[u8]); 10] = [
+    let rows: [(&[u8], u32, &[u8]); 11] = [
         (
             &[0x30, 0x28, 5, 0, 0xa8, 0xaa, 0x80, 0x80, 0, 0x96, 0x9f],
             42,
-            &[
-                0x30, 0x28, 6, 0, 0xa8, 0xaa, 0x80, 0x80, 0x80, 0, 0x96, 0x9f,
-            ],
+            &[0x30, 0x28, 2, 0, 0xa8, 0x2a, 0x96, 0x9f],
         ),
         // to the end, back, and over what shrinks
-        (
-            &[0x28, 2, 0, 0xa8, 0x2a],
-            1,
-            &[0x28, 6, 0, 0xa8, 0x81, 0x80, 0x80, 0x80, 0],
-        ),
+        (&[0x28, 2, 0, 0xa8, 0x2a], 200, &[0x28, 3, 0, 0xa8, 0xc8, 1]),
         (
             &[0x30, 0xa8, 0x2a, 0x2f, 0xfb, 0xff],
-            1,
-            &[0x30, 0xa8, 0x81, 0x80, 0x80, 0x80, 0, 0x2f, 0xf7, 0xff],
+            200,
+            &[0x30, 0xa8, 0xc8, 1, 0x2f, 0xfa, 0xff],
         ),
         (
             &[0x2f, 4, 0, 0x23, 0x85, 0x80, 0],
             0,
             &[0x2f, 2, 0, 0x23, 5],
         ),
+        (
+            &[0x28, 5, 0, 0x99, 1, 0, 0, 0, 0x96],
+            7,
+            &[0x28, 3, 0, 0x98, 7, 0, 0x96],
+        ),
         (&[0x11, 0xff, 0x7f], 0, &[0x11, 0x7f]),
         // the length of an entry_value, which was padded
         (
             &[0xa3, 0x83, 0, 0xa5, 5, 0x2a, 0x9f],
             0x1234,
-            &[0xa3, 7, 0xa5, 5, 0xb4, 0xa4, 0x80, 0x80, 0, 0x9f],
+            &[0xa3, 4, 0xa5, 5, 0xb4, 0x24, 0x9f],
         ),
         (
             &[0xa3, 4, 0xa3, 2, 0xa8, 0x2a],
-            1,
-            &[0xa3, 8, 0xa3, 6, 0xa8, 0x81, 0x80, 0x80, 0x80, 0],
+            16_384,
+            &[0xa3, 6, 0xa3, 4, 0xa8, 0x80, 0x80, 1],
         ),
         // a branch inside an entry_value, and one over it
         (
             &[0xa3, 6, 0x28, 2, 0, 0xa8, 0x2a, 0x96],
-            2,
-            &[0xa3, 10, 0x28, 6, 0, 0xa8, 0x82, 0x80, 0x80, 0x80, 0, 0x96],
+            300,
+            &[0xa3, 7, 0x28, 3, 0, 0xa8, 0xac, 2, 0x96],
         ),
         (
             &[0x2f, 4, 0, 0xa3, 2, 0xa8, 0x2a, 0x96],
-            1,
-            &[0x2f, 8, 0, 0xa3, 6, 0xa8, 0x81, 0x80, 0x80, 0x80, 0, 0x96],
+            300,
+            &[0x2f, 5, 0, 0xa3, 3, 0xa8, 0xac, 2, 0x96],
         ),
         (&[], 0, &[]),
     ];

@@ -4,7 +4,7 @@ ghost use Rattle.std.specs.List.{All};
 
 use crate::draws::Draws;
 use dw_base::{NoMemory, Reach, Refusal};
-use expr_ops::{Op, has_reference, push_expr, write_plain};
+use expr_ops::{Op, has_reference, push_expr, write_shortest};
 use std::alloc::Global;
 
 // How many expressions are drawn; they are read and written in turns.
@@ -126,7 +126,7 @@ fn with_expression(
     out.clear();
     push_expr(alloc, bytes, 0, Reach::Narrow, ops)?;
     new_refs(refs, ops, totals.operations)?;
-    write_plain(out, ops, refs, bytes)?;
+    write_shortest(out, ops, refs, bytes)?;
     let mut totals = totals;
     totals.operations = totals.operations.wrapping_add(ops.len() as u64);
     totals.bytes = totals.bytes.wrapping_add(out.len() as u64);

@@ -1,5 +1,6 @@
 -- Each entry and each code 0 has its place, behind the beginning of its unit.
-use Rattle.std.proofs.Common.{◌≡◌, ◌≤◌, ◌<◌, ◌+◌, ◌-◌, ℕ, zero, suc, List, [], ◌∷◌, length, slice_index, ◌∙◌, ap, arith}
+use Rattle.std.proofs.Common.{◌≡◌, ◌≤◌, ◌<◌, ◌+◌, ◌-◌, ℕ, zero, suc, List, [], ◌∷◌, length, slice_index, ◌∙◌, ap, refl, arith}
+use Rattle.std.specs.Prelude.{Bool, true, false, nat_eq, if◌then◌else◌}
 use Rattle.std.proofs.lemmas.List.{length-append}
 use Rattle.abbrev_tables.specs.Tables.{Declared}
 use Rattle.entry_arena.specs.declared.entry.Entry.{Entry}
@@ -9,6 +10,7 @@ use Rattle.entry_arena.specs.Walks.{Item, opened, Walks}
 use Rattle.entry_arena.specs.Walks.Item.{AnEntry, AnEnd}
 use Rattle.abbrev_tables.specs.declared.decl.Spec.{Spec}
 use Rattle.abbrev_tables.specs.Listings.{Listing}
+use Rattle.entry_read.specs.Heads.{type_unit, skeleton_unit, header_size}
 use Rattle.entry_read.specs.Units.{HeadAndForest, entries_at, declarations_of}
 use Rattle.unit_write.specs.declared.places.Places.{Places}
 use Rattle.unit_write.specs.Placing.{EntrySize, ArePlaced}
@@ -90,6 +92,24 @@ placed_have unit table columns numbers lens start entries ends to p =
       entries_after = λ k inside. let le : start + (entries_at unit.head - unit.head.at) ≤ slice_index entries k = entries_after (EntrySize table columns numbers unit.forest lens) 0 (start + (entries_at unit.head - unit.head.at)) p.whole.items entries ends to k p.placed inside in omega arith;
       ends_after = λ k inside. let le : start + (entries_at unit.head - unit.head.at) ≤ slice_index ends k = ends_after (EntrySize table columns numbers unit.forest lens) 0 (start + (entries_at unit.head - unit.head.at)) p.whole.items entries ends to k p.placed inside in omega arith;
     }
+
+-- a header has bytes, so that no entry stands at the first byte of its unit
+header_some : (a b : Bool) → 0 < (if a then 24 else if b then 20 else 12)
+header_some true b = omega arith
+header_some false true = omega arith
+header_some false false = omega arith
+
+pub has_header : (kind : ℕ) → 0 < header_size kind
+has_header kind = header_some (nat_eq kind type_unit) (nat_eq kind skeleton_unit)
+
+pub placed_behind : (unit : HeadAndForest) (table : Listing) (columns : List Spec) (numbers lens : List ℕ) (start : ℕ) (entries ends : List ℕ) (to : ℕ) → IsPlacedAt unit table columns numbers lens start entries ends to → (k : ℕ) → k < length unit.forest.entries → start < slice_index entries k
+placed_behind unit table columns numbers lens start entries ends to p k inside =
+    let have = placed_have unit table columns numbers lens start entries ends to p in
+    let count : length entries ≡ length unit.forest.entries = have.entries in
+    let from : start + (entries_at unit.head - unit.head.at) ≤ slice_index entries k = entries_after (EntrySize table columns numbers unit.forest lens) 0 (start + (entries_at unit.head - unit.head.at)) p.whole.items entries ends to k p.placed (omega (arith, count, inside)) in
+    let some = has_header unit.head.kind in
+    let begins : entries_at unit.head ≡ unit.head.at + header_size unit.head.kind = refl in
+    omega (arith, from, some, begins)
 
 pub all_placed : (world : World) (tables : List NewTable) (places : List Places) (size : ℕ) → ArePlacesOf world tables places size → AllHavePlaces world places
 all_placed world tables places size are = record {

@@ -1,22 +1,19 @@
 -- What the writer of a unit asks and gives, said of the unit that is held, its table and its new one.
 use Rattle.std.proofs.Common.{◌≡◌, ◌≢◌, ◌≤◌, ◌<◌, ◌+◌, ◌-◌, ◌^◌, ℕ, zero, suc, List, [], ◌∷◌, length, slice_index, ◌∙◌, sym, ap, subst, arith}
-use Rattle.std.specs.Prelude.{Result, Ok, Err, IfOk}
-use Rattle.dw_base.specs.declared.fault.NoMemory.{NoMemory}
-use Rattle.dw_base.specs.declared.fault.Reach.{Reach}
+use Rattle.dw_base.specs.declared.fault.Reach.TheVariants.{Narrow}
 use Rattle.abbrev_tables.specs.Tables.{Declared}
 use Rattle.abbrev_tables.specs.Listings.{Listing}
 use Rattle.fixed_width.specs.InitialLengths.{least_reserved}
+use Rattle.entry_read.specs.Expressions.{HasOperations}
 use Rattle.entry_read.specs.Heads.{type_unit}
 use Rattle.entry_read.specs.Units.{HeadAndForest, entries_at}
 use Rattle.unit_write.specs.declared.places.Places.{Places}
 use Rattle.unit_write.specs.declared.write.NewNumbers.{NewNumbers}
 use Rattle.unit_write.specs.Placing.{IsRenumbered}
-use Rattle.unit_write.specs.NewExpressions.{lens_of, AreEndsFor}
+use Rattle.unit_write.specs.NewExpressions.{AreEndsFor, AreWrittenShortest}
 use Rattle.unit_write.specs.Lens.{AreLensFor}
 use Rattle.unit_write.specs.Moved.{IsWritable, IsPlacedAt, IsWrittenAnew, new_values, lens_anew}
-use Rattle.unit_write.specs.declared.slots.Spot.{Spot}
-use Rattle.unit_write.specs.Slots.{AreSpotsOf, IsLaidOut, LayoutsHold}
-use Rattle.unit_write.proofs.FewLaws.{one_ends}
+use Rattle.unit_write.specs.Slots.{LayoutsHold}
 use Rattle.unit_write.proofs.LensLaws.{lens_fit}
 use Rattle.unit_write.proofs.UnitLaws.{placed_order}
 use Rattle.value_links.specs.Reading.{Reading, unit_at}
@@ -25,11 +22,12 @@ use Rattle.value_links.specs.declared.units.NamedTable.{NamedTable}
 use Rattle.rewriter.specs.declared.tables.NewTable.{NewTable}
 use Rattle.rewriter.specs.declared.new_places.NewPlaces.{NewPlaces}
 use Rattle.rewriter.specs.inside.Tables.{TableAnew, table_anew, new_table_at, AreTablesWritten}
-use Rattle.rewriter.specs.inside.Placed.{places_at, unit_in, AreEndsIn, AreWritable, IsPlacedBy, PlacesFollow, ArePlacesOf}
+use Rattle.rewriter.specs.inside.Placed.{places_at, unit_in, AreWritable, IsPlacedBy, PlacesFollow, ArePlacesOf}
 use Rattle.rewriter.specs.inside.Numbers.{AreNewNumbers}
-use Rattle.rewriter.specs.inside.Held.{table_for, IsPlacedFrom}
+use Rattle.rewriter.specs.inside.Held.{table_for}
 use Rattle.rewriter.proofs.Standing.{held_unit}
 use Rattle.rewriter.proofs.SpotNumbers.{spot_numbers}
+use Rattle.rewriter.proofs.UnitExpressions.{section_short}
 
 -- PLACES RISE
 
@@ -63,27 +61,32 @@ unit_ends world tables places size u are known =
     let small : size < least_reserved = are.small in
     omega arith
 
--- THE SIZES OF REFERENCES
+-- THE SIZES OF SLOTS
 
 -- as many new numbers as values, and as many ends
-module _ (file : List ℕ) (world : World) (r : Reading) (tables : List NewTable) (places : List Places) (new_places : NewPlaces) (u : ℕ) (new : NewNumbers) (holds : Holds file world r) (numbers : AreNewNumbers world r.links tables places new_places u new) where
-  numbers_counted : length new.held.items ≡ length (unit_in world.units u).forest.values
-  numbers_counted = numbers.count ∙ ap (λ (h : HeadAndForest). length h.forest.values) (sym (held_unit file world r u holds))
+module _ (file : List ℕ) (world : World) (r : Reading) (tables : List NewTable) (places : List Places) (new_places : NewPlaces) (u : ℕ) (new : NewNumbers) (is : IsWorldOf world.image Narrow world) (holds : Holds file world r) (known : u < length world.units) (numbers : AreNewNumbers world r.links tables places new_places u new) where
+  read_there : head_and_forest (unit_at r.links u) ≡ unit_in world.units u
+  read_there = sym (held_unit file world r u holds)
 
-  ends_counted : length new.ends.items ≡ length (unit_in world.units u).forest.values
-  ends_counted = numbers.ends_are.fit.rise.each
+  numbers_counted : length new.held.items ≡ length (unit_in world.units u).forest.values
+  numbers_counted = numbers.count ∙ ap (λ (h : HeadAndForest). length h.forest.values) read_there
+
+  ends_known : AreEndsFor (unit_in world.units u).forest new.expressions.ends.items
+  ends_known = subst (λ (h : HeadAndForest). AreEndsFor h.forest new.expressions.ends.items) read_there numbers.ends_are
 
   -- the sizes that the new numbers need are such as a unit can be written with
   anew_fits : AreLensFor (unit_in world.units u).forest (lens_anew (unit_in world.units u).forest (new_values new))
-  anew_fits = lens_fit (unit_in world.units u).forest (new_values new) numbers_counted ends_counted numbers.ends_are.fit numbers.fit
+  anew_fits =
+      let short : length (unit_in world.units u).forest.section < 2 ^ 32 = section_short world u is known in
+      lens_fit (unit_in world.units u).forest (new_values new) numbers_counted ends_known.rise.each ends_known (omega (arith, short)) numbers.fit
 
   -- they are those with which it has its places
-  pub placed_with : LayoutsHold → (reach : Reach) → IsWorldOf world.image reach world → u < length world.units → IsPlacedBy world tables u (places_at places u) → IsPlacedAt (unit_in world.units u) (table_for world u) (new_table_at tables (slice_index world.table_of u)).columns (new_table_at tables (slice_index world.table_of u)).numbers (lens_anew (unit_in world.units u).forest (new_values new)) (places_at places u).start (places_at places u).entries (places_at places u).ends (places_at places u).end
-  placed_with hold reach is known p =
-      let ends : p.expressions ≡ new.ends.items = one_ends (unit_in world.units u).forest (operations_at world.operations u) p.expressions new.ends.items p.plain numbers.ends_are in
-      let laid_out : IsLaidOut (unit_in world.units u) (table_for world u) (new_table_at tables (slice_index world.table_of u)).columns (new_table_at tables (slice_index world.table_of u)).numbers (lens_of new.ends.items) p.spots p.lens = subst (λ (e : List ℕ). IsLaidOut (unit_in world.units u) (table_for world u) (new_table_at tables (slice_index world.table_of u)).columns (new_table_at tables (slice_index world.table_of u)).numbers (lens_of e) p.spots p.lens) ends p.laid_out in
-      let counts = spot_numbers file world reach r tables places new_places u new p.spots is holds known numbers p.named in
-      let same : lens_anew (unit_in world.units u).forest (new_values new) ≡ p.lens = hold (unit_in world.units u) (table_for world u) (new_table_at tables (slice_index world.table_of u)).columns (new_table_at tables (slice_index world.table_of u)).numbers (new_values new) p.spots p.lens (places_at places u).start (places_at places u).entries (places_at places u).ends (places_at places u).end p.named numbers_counted ends_counted laid_out p.placed counts in
+  pub placed_with : LayoutsHold → IsPlacedBy world tables u (places_at places u) → IsPlacedAt (unit_in world.units u) (table_for world u) (new_table_at tables (slice_index world.table_of u)).columns (new_table_at tables (slice_index world.table_of u)).numbers (lens_anew (unit_in world.units u).forest (new_values new)) (places_at places u).start (places_at places u).entries (places_at places u).ends (places_at places u).end
+  placed_with hold p =
+      let operations : HasOperations Narrow (unit_in world.units u).forest (operations_at world.operations u) = is.operations.each u (unit_in [] 0) known in
+      let written : AreWrittenShortest (unit_in world.units u).forest (operations_at world.operations u) new.expressions.ends.items numbers.op_numbers new.expressions.bytes.items = subst (λ (h : HeadAndForest). AreWrittenShortest h.forest (operations_at world.operations u) new.expressions.ends.items numbers.op_numbers new.expressions.bytes.items) read_there numbers.expressions in
+      let counts = spot_numbers file world Narrow r tables places new_places u new is holds known numbers p in
+      let same : lens_anew (unit_in world.units u).forest (new_values new) ≡ p.lens = hold (unit_in world.units u) (table_for world u) (new_table_at tables (slice_index world.table_of u)).columns (new_table_at tables (slice_index world.table_of u)).numbers (operations_at world.operations u) (new_values new) numbers.op_numbers p.spots p.lens (places_at places u).start (places_at places u).entries (places_at places u).ends (places_at places u).end operations p.named numbers_counted ends_known.rise.each p.laid_out p.placed counts written in
       subst (λ (lens : List ℕ). IsPlacedAt (unit_in world.units u) (table_for world u) (new_table_at tables (slice_index world.table_of u)).columns (new_table_at tables (slice_index world.table_of u)).numbers lens (places_at places u).start (places_at places u).entries (places_at places u).ends (places_at places u).end) (sym same) p.placed
 
 -- WHAT IS READ OF THE PARTS
@@ -98,29 +101,6 @@ module _ (world : World) (tables : List NewTable) (u : ℕ) (unit : HeadAndFores
   back P read =
       subst (P (unit_in world.units u) (table_for world u)) anew_is (subst (λ (n : NamedTable). P (unit_in world.units u) n.table (table_anew anew)) old_is (subst (λ (h : HeadAndForest). P h old.table (table_anew anew)) unit_is read))
 
-  pub writable_there : (lens : List ℕ) → AreWritable world tables → u < length world.units → AreLensFor (unit_in world.units u).forest lens → IsWritable unit old.table anew.columns.items anew.numbers.items lens
-  writable_there lens writable known fit = there (λ h t n. IsWritable h t n.columns n.numbers lens) (writable u lens known fit)
-
-  -- a unit that was placed stands at its places
-  placed_back : (ends lens : List ℕ) (spots : List Spot) (start : ℕ) (places : Places) → AreEndsIn world u ends → AreSpotsOf (unit_in world.units u) spots → IsLaidOut unit old.table anew.columns.items anew.numbers.items (lens_of ends) spots lens → places.start ≡ start → places.end < least_reserved → IsPlacedAt unit old.table anew.columns.items anew.numbers.items lens start places.entries.items places.ends.items places.end → IsPlacedFrom world tables u start places
-  placed_back ends lens spots start places are named laid_out begins fits placed = record {
-    begins = begins;
-    placed = record {
-      expressions = ends;
-      plain = are;
-      spots = spots;
-      named = named;
-      lens = lens;
-      laid_out = back (λ h t n. IsLaidOut h t n.columns n.numbers (lens_of ends) spots lens) laid_out;
-      placed = back (λ h t n. IsPlacedAt h t n.columns n.numbers lens places.start places.entries.items places.ends.items places.end) (subst (λ (z : ℕ). IsPlacedAt unit old.table anew.columns.items anew.numbers.items lens z places.entries.items places.ends.items places.end) (sym begins) placed);
-    };
-    fits = fits;
-  }
-
-  pub all_placed_back : (ends lens : List ℕ) (spots : List Spot) (start : ℕ) (r : Result Places NoMemory) → AreEndsIn world u ends → AreSpotsOf (unit_in world.units u) spots → IsLaidOut unit old.table anew.columns.items anew.numbers.items (lens_of ends) spots lens → IfOk r (λ places. places.start ≡ start) → IfOk r (λ places. places.end < least_reserved) → IfOk r (λ places. IsPlacedAt unit old.table anew.columns.items anew.numbers.items lens start places.entries.items places.ends.items places.end) → IfOk r (IsPlacedFrom world tables u start)
-  all_placed_back ends lens spots start (Ok places) are named laid_out begins fits placed = placed_back ends lens spots start places are named laid_out begins fits placed
-  all_placed_back ends lens spots start (Err e) are named laid_out begins fits placed = tt
-
   abbrev Writes : HeadAndForest → Listing → TableAnew → NewNumbers → ℕ → List ℕ → Type 0
   Writes h t n new start section = (ds : List Declared) → IsRenumbered t n.columns n.numbers ds → IsWrittenAnew h t n.columns n.numbers ds new.table new.type_offset (new_values new) start section
 
@@ -128,7 +108,7 @@ module _ (world : World) (tables : List NewTable) (u : ℕ) (unit : HeadAndFores
   written_there new start at section start_is writes =
       subst (λ (z : ℕ). Writes (unit_in world.units u) (table_for world u) (new_table_at tables (slice_index world.table_of u)) new z section) start_is (back (λ h t n. Writes h t n new at section) writes)
 
-  module _ (file : List ℕ) (r : Reading) (places : List Places) (new_places : NewPlaces) (new : NewNumbers) (holds : Holds file world r) (numbers : AreNewNumbers world r.links tables places new_places u new) where
+  module _ (file : List ℕ) (r : Reading) (places : List Places) (new_places : NewPlaces) (new : NewNumbers) (is : IsWorldOf world.image Narrow world) (holds : Holds file world r) (known : u < length world.units) (numbers : AreNewNumbers world r.links tables places new_places u new) where
     read_is : unit ≡ head_and_forest (unit_at r.links u)
     read_is = unit_is ∙ held_unit file world r u holds
 
@@ -136,11 +116,11 @@ module _ (world : World) (tables : List NewTable) (u : ℕ) (unit : HeadAndFores
     held_counted = numbers.count ∙ ap (λ (h : HeadAndForest). length h.forest.values) (sym read_is)
 
     -- the ends of its expressions are those of the unit
-    pub ends_there : AreEndsFor unit.forest new.ends.items
-    ends_there = subst (λ (h : HeadAndForest). AreEndsFor h.forest new.ends.items) (sym unit_is) numbers.ends_are.fit
+    pub ends_there : AreEndsFor unit.forest new.expressions.ends.items
+    ends_there = subst (λ (h : HeadAndForest). AreEndsFor h.forest new.expressions.ends.items) (sym read_is) numbers.ends_are
 
-    pub filled_there : (k : ℕ) → k < length unit.forest.values → slice_index new.ends.items k ≤ length new.expressions.items
-    filled_there = subst (λ (h : HeadAndForest). (k : ℕ) → k < length h.forest.values → slice_index new.ends.items k ≤ length new.expressions.items) (sym read_is) numbers.filled
+    pub filled_there : (k : ℕ) → k < length unit.forest.values → slice_index new.expressions.ends.items k ≤ length new.expressions.bytes.items
+    filled_there = subst (λ (h : HeadAndForest). (k : ℕ) → k < length h.forest.values → slice_index new.expressions.ends.items k ≤ length new.expressions.bytes.items) (sym read_is) numbers.expressions.all
 
     pub type_none : unit.head.kind ≢ type_unit → new.type_offset ≡ 0
     type_none other = numbers.type_at.none (λ same. other (ap (λ (h : HeadAndForest). h.head.kind) read_is ∙ same))
@@ -152,9 +132,9 @@ module _ (world : World) (tables : List NewTable) (u : ℕ) (unit : HeadAndFores
         omega arith
 
     -- it can be written with the sizes that its new numbers need
-    pub writable_anew : AreWritable world tables → u < length world.units → IsWritable unit old.table anew.columns.items anew.numbers.items (lens_anew unit.forest (new_values new))
-    writable_anew writable known =
-        there (λ h t n. IsWritable h t n.columns n.numbers (lens_anew h.forest (new_values new))) (writable u (lens_anew (unit_in world.units u).forest (new_values new)) known (anew_fits file world r tables places new_places u new holds numbers))
+    pub writable_anew : AreWritable world tables → IsWritable unit old.table anew.columns.items anew.numbers.items (lens_anew unit.forest (new_values new))
+    writable_anew writable =
+        there (λ h t n. IsWritable h t n.columns n.numbers (lens_anew h.forest (new_values new))) (writable u (lens_anew (unit_in world.units u).forest (new_values new)) known (anew_fits file world r tables places new_places u new is holds known numbers))
 
     -- and stands at its places with them
     pub placed_there : (start end : ℕ) → start ≡ (places_at places u).start → end ≡ (places_at places u).end → IsPlacedAt (unit_in world.units u) (table_for world u) (new_table_at tables (slice_index world.table_of u)).columns (new_table_at tables (slice_index world.table_of u)).numbers (lens_anew (unit_in world.units u).forest (new_values new)) (places_at places u).start (places_at places u).entries (places_at places u).ends (places_at places u).end → IsPlacedAt unit old.table anew.columns.items anew.numbers.items (lens_anew unit.forest (new_values new)) start (places_at places u).entries (places_at places u).ends end

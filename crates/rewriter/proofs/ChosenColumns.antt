@@ -1,8 +1,8 @@
 -- Units can be written anew in columns that are in their least forms.
-use Rattle.std.proofs.Common.{◌≡◌, ◌≢◌, ◌≤◌, ◌<◌, ◌+◌, ◌*◌, ◌^◌, ◌∙◌, ℕ, List, length, take, drop, sym, ap, refl, subst, arith}
+use Rattle.std.proofs.Common.{◌≡◌, ◌≢◌, ◌<◌, ◌+◌, ◌∙◌, ℕ, List, length, drop, sym, ap, refl, subst, arith}
 use Rattle.std.specs.Prelude.{slice_index}
 use Rattle.std.specs.List.{Contains}
-use Rattle.std.proofs.lemmas.List.{get_or-map, get_or-take, get_or-drop, length-map, length-take, length-drop}
+use Rattle.std.proofs.lemmas.List.{get_or-map, length-map, length-take, length-drop}
 use Rattle.dw_base.specs.declared.fault.Reach.TheVariants.{Narrow}
 use Rattle.dw_base.specs.declared.fault.Span.{Span}
 use Rattle.leb_codec.specs.Leb.{least_unsigned_len}
@@ -17,7 +17,6 @@ use Rattle.abbrev_tables.specs.Listings.{Listing, decl_at, spec_at}
 use Rattle.entry_arena.specs.Arena.{entry_at, value_at}
 use Rattle.entry_arena.specs.Trees.{ValuesBetween}
 use Rattle.entry_arena.proofs.StepLaws.{values_counted}
-use Rattle.entry_read.specs.Expressions.{IsExprAt}
 use Rattle.entry_read.specs.Heads.{IsHead}
 use Rattle.entry_read.specs.Units.{HeadAndForest, declarations_of, IsUnitHeld}
 use Rattle.entry_read.proofs.Declarations.{declared_is}
@@ -27,14 +26,13 @@ use Rattle.unit_write.specs.Placing.{EntrySize, columns_of, values_in, among_val
 use Rattle.unit_write.specs.Lens.{AreLensFor}
 use Rattle.unit_write.specs.Moved.{IsWritable}
 use Rattle.value_links.specs.declared.units.NamedTable.{NamedTable}
-use Rattle.value_links.specs.Sections.{debug_info, debug_abbrev, info_name}
+use Rattle.value_links.specs.Sections.{debug_info}
 use Rattle.value_links.specs.Reading.{UnitRead, Reading, no_unit, unit_at, declarations}
 use Rattle.value_links.specs.Whole.{IsReading}
 use Rattle.value_links.specs.Faults.{IsValid}
 use Rattle.value_links.specs.World.{World, head_and_forest, named_by, table_at, Holds}
 use Rattle.value_links.specs.Uses.{column_meanings, uses_of}
-use Rattle.value_links.proofs.ExprLinks.{expr_inside}
-use Rattle.value_links.proofs.TabledUnits.{follow_head, read_with_table}
+use Rattle.value_links.proofs.TabledUnits.{follow_head}
 use Rattle.rewriter.specs.declared.tables.NewTable.{NewTable}
 use Rattle.rewriter.specs.inside.Tables.{TableAnew, new_table_at, AreTablesWritten}
 use Rattle.rewriter.specs.inside.Placed.{unit_in, AreWritable}
@@ -42,8 +40,7 @@ use Rattle.rewriter.proofs.UsedDeclarations.{unit_is, table_written, decl_known,
 use Rattle.rewriter.proofs.ColumnLaws.{IsSpelledBy, column_here, columns_count, column_spelled}
 use Rattle.rewriter.proofs.MeaningsAmong.{meaning_among}
 use Rattle.rewriter.proofs.MovedValues.{value_here}
-use Rattle.rewriter.proofs.DebugSizes.{debug_short}
-use Rattle.rewriter.proofs.SizedValues.{Fits, values_sized}
+use Rattle.rewriter.proofs.SizedValues.{values_sized}
 
 -- a value that means an expression is one
 expr_span : (section : List ℕ) (v : Value) → IsExpr (meant_in section v) → (span : Span) × (v ≡ value.Expr span)
@@ -109,19 +106,6 @@ module _ (numbers_sized : NumbersHaveSizes) (expressions_sized : ExpressionsHave
   unit_head : (u : ℕ) → u < length r.links.units → IsHead (debug_info file) (unit_at r.links u).head
   unit_head u inside = follow_head (debug_info file) r.links.units 0 (length (debug_info file)) u read.links.units.tiled inside
 
-  -- its expressions have fewer than 2^64 bytes
-  lens_fit : (u : ℕ) (lens : List ℕ) → u < length r.links.units → AreLensFor (unit_at r.links u).forest lens → (k : ℕ) → k < length (unit_at r.links u).forest.values → Fits (meant_in (unit_at r.links u).forest.section (value_at (unit_at r.links u).forest.values k)) (slice_index lens k)
-  lens_fit u lens inside are k within expr =
-      let unit : UnitRead = unit_at r.links u in
-      let is = unit_is read holds written u inside in
-      let section : length unit.forest.section ≡ length (debug_info file) = ap (λ (z : List ℕ). length z) is.section in
-      let short : length (debug_info file) ≤ 2 ^ 28 = debug_short file info_name refl valid in
-      let (span, same) = expr_span unit.forest.section (value_at unit.forest.values k) expr in
-      let here : IsExprAt unit.forest k span = record { inside = within; is = same } in
-      let lies : span.at + span.len ≤ length unit.forest.section = expr_inside (head_and_forest unit) unit.table (read_with_table (debug_info file) (debug_abbrev file) unit (unit_head u inside) is) k span here in
-      let few : slice_index lens k ≤ 3 * span.len = are.few k span here in
-      omega (arith, few, lies, section, short)
-
   -- there is a length for each value of an entry
   lens_of_entry : (u : ℕ) (lens : List ℕ) → AreLensFor (unit_at r.links u).forest lens → (id : ℕ) → length (among_values (unit_at r.links u).forest lens id) ≡ length (values_in (unit_at r.links u).forest id)
   lens_of_entry u lens are id =
@@ -130,23 +114,12 @@ module _ (numbers_sized : NumbersHaveSizes) (expressions_sized : ExpressionsHave
       let each : length lens ≡ length (unit_at r.links u).forest.values = are.each in
       omega (arith, each, length-take e.count (drop e.first lens), length-take e.count (drop e.first f.values), length-drop e.first lens, length-drop e.first f.values)
 
-  -- and each that is an expression has fewer than 2^64 bytes
-  lens_here_fit : (u : ℕ) (lens : List ℕ) → u < length r.links.units → AreLensFor (unit_at r.links u).forest lens → (id j : ℕ) → j < length (values_in (unit_at r.links u).forest id) → Fits (meant_in (unit_at r.links u).forest.section (value_at (values_in (unit_at r.links u).forest id) j)) (slice_index (among_values (unit_at r.links u).forest lens id) j)
-  lens_here_fit u lens inside are id j here =
-      let f = (unit_at r.links u).forest in
-      let e = entry_at (unit_at r.links u).forest.entries id in
-      let value = value_here f.values e.first e.count j here in
-      let size : length (take e.count (drop e.first f.values)) ≤ e.count = omega (arith, length-take e.count (drop e.first f.values)) in
-      let len : slice_index (among_values f lens id) j ≡ slice_index lens (e.first + j) = get_or-take e.count (drop e.first lens) j 0 (omega (arith, here, size)) ∙ get_or-drop e.first lens j 0 in
-      let there : Fits (meant_in f.section (value_at f.values (e.first + j))) (slice_index lens (e.first + j)) = lens_fit u lens inside are (e.first + j) value.1 in
-      subst (λ (n : ℕ). Fits (meant_in f.section (value_at (values_in f id) j)) n) (sym len) (subst (λ (v : Value). Fits (meant_in f.section v) (slice_index lens (e.first + j))) (sym value.0) there)
-
   -- something can be written for an entry
   entry_sized : (u : ℕ) (lens : List ℕ) → u < length r.links.units → AreLensFor (unit_at r.links u).forest lens → (id : ℕ) → id < length (unit_at r.links u).forest.entries → (size : ℕ) × EntrySize (unit_at r.links u).table (new_table u).columns (new_table u).numbers (unit_at r.links u).forest lens id size
   entry_sized u lens inside are id known =
       let unit : UnitRead = unit_at r.links u in
       let decl : ℕ = decl_of u id in
-      let sized = values_sized numbers_sized expressions_sized others_sized unit.forest.section (columns_of unit.table (new_table u).columns decl) (values_in unit.forest id) (among_values unit.forest lens id) (values_here u id inside known) (lens_of_entry u lens are id) (lens_here_fit u lens inside are id) (λ j here. value_spelled u id j inside known here) in
+      let sized = values_sized numbers_sized expressions_sized others_sized unit.forest.section (columns_of unit.table (new_table u).columns decl) (values_in unit.forest id) (among_values unit.forest lens id) (values_here u id inside known) (lens_of_entry u lens are id) (λ j here. value_spelled u id j inside known here) in
       (least_unsigned_len (slice_index (new_table u).numbers decl) + sized.0, (sized.0, sized.1, refl))
 
   unit_writable : (u : ℕ) (lens : List ℕ) → u < length r.links.units → AreLensFor (unit_at r.links u).forest lens → IsWritable (head_and_forest (unit_at r.links u)) (unit_at r.links u).table (new_table u).columns (new_table u).numbers lens

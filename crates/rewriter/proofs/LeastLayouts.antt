@@ -1,106 +1,107 @@
--- The references within each new unit have the least sizes under which they hold the places of what they name.
-use Rattle.std.proofs.Common.{◌≡◌, ◌≤◌, ◌<◌, ◌+◌, ◌∙◌, ℕ, zero, suc, List, [], ◌∷◌, length, take, get_or, Bool, true, cond, sym, ap, subst, refl, arith}
-use Rattle.std.specs.Prelude.{map, slice_index, count_by}
-use Rattle.std.specs.List.{All, AllZip, sum_by}
-use Rattle.std.proofs.lemmas.List.{take_all}
+-- The slots of each new unit have the least sizes under which they hold the places of what they name, and the lengths of expressions.
+use Rattle.std.proofs.Common.{◌≡◌, ◌≤◌, ◌<◌, ◌+◌, ◌++◌, ◌∙◌, ℕ, zero, suc, List, [], length, sym, ap, subst, refl, arith}
+use Rattle.std.specs.Prelude.{map, slice_index}
+use Rattle.std.specs.List.{All, AllZip}
 use Rattle.std.proofs.lemmas.List.Elements.{All-from_get_or, AllZip-get_or, length_all_zip}
-use Rattle.std.proofs.lemmas.List.Sums.{count_by_more_yes, sum_by-cons, sum_by-take-le}
-use Rattle.leb_codec.specs.Leb.{least_unsigned_len}
-use Rattle.leb_codec.specs.Layout.{SlotForm, row_at, slot_number, need}
+use Rattle.dw_base.specs.declared.fault.Reach.TheVariants.{Wide}
+use Rattle.dw_base.specs.declared.fault.Span.{Span}
+use Rattle.leb_codec.specs.Layout.{SlotRow, uleb, row_at}
+use Rattle.expr_ops.specs.Expressions.{Operation, IsExpression}
+use Rattle.expr_ops.specs.Ops.{all_meant}
+use Rattle.expr_ops.specs.Drafts.{with_refs}
+use Rattle.expr_ops.specs.Slots.{Aim}
+use Rattle.expr_ops.specs.Slots.Aim.{Place, Length}
 use Rattle.form_codec.specs.declared.value.Value.{Value}
-use Rattle.form_codec.specs.declared.value.Value.TheVariants as value
 use Rattle.form_codec.specs.Forms.{Meaning}
 use Rattle.form_codec.specs.Forms.Meaning.{Expression, InUnit, InSection, SectionPlace}
-use Rattle.form_codec.specs.Values.{meant_in}
+use Rattle.form_codec.specs.Values.{bytes_in, meant_in}
 use Rattle.abbrev_tables.specs.declared.decl.Spec.{Spec}
 use Rattle.abbrev_tables.specs.Listings.{Listing}
 use Rattle.entry_arena.specs.declared.entry.Entry.{Entry}
 use Rattle.entry_arena.specs.Arena.{value_at}
+use Rattle.entry_arena.specs.Operations.{HeldOps, ops_of}
 use Rattle.entry_arena.specs.Trees.{listed_to}
-use Rattle.entry_read.specs.Locals.{is_local, locals_in, locals_before, AreValuesBefore}
+use Rattle.entry_read.specs.Expressions.{IsExprAt}
+use Rattle.entry_read.specs.Slots.{value_aims, aims_before, aims_of, aim_at, meaning_at, expression_bytes, operations_in, AreValuesBefore, IsRowOf, slots_before}
 use Rattle.entry_read.specs.Units.{HeadAndForest}
 use Rattle.unit_write.specs.declared.places.Places.{Places}
 use Rattle.unit_write.specs.declared.slots.Spot.{Spot}
-use Rattle.unit_write.specs.Lens.{IsLocalAt}
-use Rattle.unit_write.specs.NewExpressions.{lens_of, made_of}
+use Rattle.unit_write.specs.NewExpressions.{made_of, refs_of, operations_anew, AreWrittenShortest}
 use Rattle.unit_write.specs.Values.{renewed}
 use Rattle.unit_write.specs.Moved.{NewValues, IsMovedEntry, AreMovedValues, IsPlacedAt, new_values}
-use Rattle.unit_write.specs.Slots.{spot_place, spot_at, AreSpotsOf, CountsTo, IsLaidOut, AreSpotNumbers}
+use Rattle.unit_write.specs.Slots.{spot_place, spot_at, IsSpotPlaced, aims_anew, IsLaidOut, AreSpotNumbers}
 use Rattle.value_links.specs.Sections.{debug_info, debug_abbrev}
 use Rattle.value_links.specs.Reading.{UnitRead, Reading, no_unit, unit_at, IsUnitRead}
-use Rattle.value_links.specs.Layouts.{IsSlotOf, HasLeastLayout}
+use Rattle.value_links.specs.Layouts.{place_told, HasLeastLayout}
 use Rattle.value_links.specs.Whole.{IsReading}
-use Rattle.value_links.specs.World.{World, head_and_forest, table_at, Holds}
+use Rattle.value_links.specs.World.{World, head_and_forest, table_at, operations_at, Holds}
 use Rattle.rewriter.specs.declared.tables.NewTable.{NewTable}
 use Rattle.rewriter.specs.declared.new_places.NewPlaces.{NewPlaces}
 use Rattle.rewriter.specs.inside.Tables.{new_table_at}
-use Rattle.rewriter.specs.inside.Placed.{places_at, unit_in, IsPlacedBy}
+use Rattle.rewriter.specs.inside.Placed.{PlacesAnew, places_at, unit_in, IsPlacedBy}
 use Rattle.rewriter.specs.inside.Units.{IsUnitMoved, AreUnitsWritten}
 use Rattle.rewriter.proofs.Meant.{read_unit_at}
-use Rattle.rewriter.proofs.SpotNumbers.{read_numbers}
+use Rattle.rewriter.proofs.NewExpressions.{expression_span}
+use Rattle.rewriter.proofs.WideExpressions.{was_expression}
+use Rattle.rewriter.proofs.MovedSlots.{AimMoves, zip_at, zip_counts}
+use Rattle.rewriter.proofs.SpotNumbers.{aims_moved, read_numbers, entries_later, named_there}
 use Rattle.rewriter.proofs.Standing.{held_count, held_unit}
 
--- REFERENCES AMONG VALUES
+-- VALUES THAT ARE RENEWED
 
--- a value that is renewed is a reference within the unit where the old one is
-local_renewed : (new : ℕ) (made : List ℕ) (m : Meaning) → is_local (renewed new made m) ≡ is_local m
-local_renewed new made (InUnit n) = refl
-local_renewed new made (InSection n) = refl
-local_renewed new made (SectionPlace n) = refl
-local_renewed new made (Expression bytes) = refl
-local_renewed new made m = refl
+-- what the slots of a value tell doesn't depend on the bytes of its expression
+aims_without : (new : ℕ) (made : List ℕ) (m : Meaning) (os : List Operation) → value_aims (renewed new made m) os ≡ value_aims (renewed new [] m) os
+aims_without new made (InUnit n) os = refl
+aims_without new made (InSection n) os = refl
+aims_without new made (SectionPlace n) os = refl
+aims_without new made (Expression bytes) os = refl
+aims_without new made m os = refl
 
--- and has the new number
-number_renewed : (new : ℕ) (made : List ℕ) (m : Meaning) (n : ℕ) → renewed new made m ≡ InUnit n → n ≡ new
-number_renewed new made (InUnit old) n e = cc e
-number_renewed new made (InSection old) n e = absurd (cc e)
-number_renewed new made (SectionPlace old) n e = absurd (cc e)
-number_renewed new made (Expression bytes) n e = absurd (cc e)
-number_renewed new made m n e = absurd (cc e)
-
--- as many among the first items of two lists pass, where each passes that does so in the other
-module _ {X : Type 0} (p q : X → Bool) (d : X) where
-  abbrev one : Bool → ℕ
-  one passes = cond {A = ℕ} passes 1 0
-
-  counts_alike : (xs ys : List X) (n : ℕ) → length ys ≡ length xs → ((k : ℕ) → k < length xs → q (get_or ys k d) ≡ p (get_or xs k d)) → count_by q (take n ys) ≡ count_by p (take n xs)
-  counts_alike [] [] zero size each = refl
-  counts_alike [] [] (suc n) size each = refl
-  counts_alike [] (y ∷ ys) n size each = absurd (omega (arith, size))
-  counts_alike (x ∷ xs) [] n size each = absurd (omega (arith, size))
-  counts_alike (x ∷ xs) (y ∷ ys) zero size each = refl
-  counts_alike (x ∷ xs) (y ∷ ys) (suc n) size each =
-      let first : one (q y) ≡ one (p x) = ap one (each 0 (omega arith)) in
-      let rest : count_by q (take n ys) ≡ count_by p (take n xs) = counts_alike xs ys n (omega (arith, size)) (λ k inside. each (suc k) (omega (arith, inside))) in
-      let new : count_by q (y ∷ take n ys) ≡ one (q y) + count_by q (take n ys) = sum_by-cons (λ (z : X). one (q z)) y (take n ys) in
-      let old : count_by p (x ∷ take n xs) ≡ one (p x) + count_by p (take n xs) = sum_by-cons (λ (z : X). one (p z)) x (take n xs) in
-      omega (arith, first, rest, new, old)
-
--- what passes has fewer before it than there are in all
-counted_below : {X : Type 0} (p : X → Bool) (xs : List X) (k : ℕ) (d : X) → k < length xs → p (get_or xs k d) ≡ true → count_by p (take k xs) < count_by p xs
-counted_below {X} p xs k d inside passes =
-    let more : count_by p (take (k + 1) xs) ≡ count_by p (take k xs) + 1 = count_by_more_yes p xs k d inside passes in
-    let all : count_by p (take (k + 1) xs) ≤ count_by p xs = sum_by-take-le (λ (x : X). cond {A = ℕ} (p x) 1 0) xs (k + 1) in
-    omega (arith, more, all)
+-- where the meanings of the first values are such, so are all that they tell
+aims_alike : (ms ns : ℕ → Meaning) (ops : ℕ → List Operation) (count : ℕ) → ((k : ℕ) → k < count → value_aims (ms k) (ops k) ≡ value_aims (ns k) (ops k)) → aims_before ms ops count ≡ aims_before ns ops count
+aims_alike ms ns ops zero each = refl
+aims_alike ms ns ops (suc k) each =
+    ap (λ (z : List Aim). z ++ value_aims (ms k) (ops k)) (aims_alike ms ns ops k (λ j less. each j (omega (arith, less)))) ∙ ap (λ (z : List Aim). aims_before ns ops k ++ z) (each k (omega arith))
 
 -- ONE UNIT
 
--- a unit that is written anew at its places, where its references count to these
-module _ (unit : HeadAndForest) (new : UnitRead) (table : Listing) (columns : List Spec) (numbers others : List ℕ) (anew : NewValues) (spots : List Spot) (lens : List ℕ) (start : ℕ) (entries ends : List ℕ) (to : ℕ) (named : AreSpotsOf unit spots) (laid : IsLaidOut unit table columns numbers others spots lens) (placed : IsPlacedAt unit table columns numbers lens start entries ends to) (counted : AreSpotNumbers unit.forest anew.held spots start entries ends) (values : AreMovedValues unit.forest anew new.forest.section (listed_to new.forest 0)) (moved : AllZip (IsMovedEntry numbers) unit.forest.entries new.forest.entries) (begins : new.head.at ≡ start) (places : map (λ (e : Entry). e.at) new.forest.entries ≡ entries) where
+-- a unit that is written anew at its places, where its slots count to these
+module _ (unit : HeadAndForest) (new : UnitRead) (table : Listing) (columns : List Spec) (numbers : List ℕ) (held : HeldOps) (anew : NewValues) (op_numbers : List ℕ) (spots : List Spot) (lens : List ℕ) (start : ℕ) (entries ends : List ℕ) (to : ℕ) (laid : IsLaidOut unit table columns numbers (operations_in unit.forest held) spots lens) (placed : IsPlacedAt unit table columns numbers lens start entries ends to) (counted : AreSpotNumbers unit.forest held anew.held op_numbers spots start entries ends) (values : AreMovedValues unit.forest anew new.forest.section (listed_to new.forest 0)) (moved : AllZip (IsMovedEntry numbers) unit.forest.entries new.forest.entries) (begins : new.head.at ≡ start) (places : map (λ (e : Entry). e.at) new.forest.entries ≡ entries) (written : AreWrittenShortest unit.forest held anew.ends op_numbers anew.expressions) (went : PlacesAnew) (follow : (k : ℕ) → k ≤ length unit.forest.values → AllZip (AimMoves unit.forest went unit.head.at) (aims_before (meaning_at unit.forest) (operations_in unit.forest held) k) (aims_before (λ (n : ℕ). renewed (slice_index anew.held n) [] (meaning_at unit.forest n)) (operations_anew unit.forest held op_numbers) k)) where
   abbrev no_entry : Entry
   no_entry = record { at = 0; len = 0; depth = 0; decl = 0; first = 0; count = 0 }
 
-  local_still : (k : ℕ) → k < length unit.forest.values → is_local (meant_in new.forest.section (value_at new.forest.values k)) ≡ is_local (meant_in unit.forest.section (value_at unit.forest.values k))
-  local_still k inside = ap is_local (values.each k inside) ∙ local_renewed (slice_index anew.held k) (made_of anew.ends anew.expressions k) (meant_in unit.forest.section (value_at unit.forest.values k))
+  abbrev olds : ℕ → List Aim
+  olds k = aims_before (meaning_at unit.forest) (operations_in unit.forest held) k
 
-  before_still : (n : ℕ) → locals_before new.forest n ≡ locals_before unit.forest n
-  before_still n = counts_alike (λ (v : Value). is_local (meant_in unit.forest.section v)) (λ (v : Value). is_local (meant_in new.forest.section v)) (value.Addr 0) unit.forest.values new.forest.values n values.count local_still
+  abbrev news : ℕ → List Aim
+  news k = aims_before (meaning_at new.forest) (operations_anew unit.forest held op_numbers) k
 
-  all_still : locals_in new.forest.section new.forest.values ≡ locals_in unit.forest.section unit.forest.values
-  all_still =
-      let n : ℕ = length new.forest.values in
-      let size = values.count in
-      ap (locals_in new.forest.section) (sym (take_all n new.forest.values (omega arith))) ∙ before_still n ∙ ap (locals_in unit.forest.section) (take_all n unit.forest.values (omega (arith, size)))
+  abbrev Goes : Aim → Aim → Type 0
+  Goes = AimMoves unit.forest went unit.head.at
+
+  -- the slots of the first values tell what they tell with the new numbers
+  aims_are : (k : ℕ) → k ≤ length unit.forest.values → aims_before (meaning_at new.forest) (operations_anew unit.forest held op_numbers) k ≡ aims_before (λ (n : ℕ). renewed (slice_index anew.held n) [] (meaning_at unit.forest n)) (operations_anew unit.forest held op_numbers) k
+  aims_are count inside =
+      aims_alike (meaning_at new.forest) (λ (n : ℕ). renewed (slice_index anew.held n) [] (meaning_at unit.forest n)) (operations_anew unit.forest held op_numbers) count (λ k less.
+      ap (λ (m : Meaning). value_aims m (operations_anew unit.forest held op_numbers k)) (values.each k (omega (arith, inside, less))) ∙ aims_without (slice_index anew.held k) (made_of anew.ends anew.expressions k) (meaning_at unit.forest k) (operations_anew unit.forest held op_numbers k))
+
+  aims_go : (k : ℕ) → k ≤ length unit.forest.values → AllZip Goes (olds k) (news k)
+  aims_go k inside = subst (AllZip Goes (olds k)) (sym (aims_are k inside)) (follow k inside)
+
+  before_still : (k : ℕ) → k ≤ length unit.forest.values → slots_before new.forest (operations_anew unit.forest held op_numbers) k ≡ slots_before unit.forest (operations_in unit.forest held) k
+  before_still k inside = sym (zip_counts Goes (olds k) (news k) (aims_go k inside))
+
+  all_go : AllZip Goes (aims_of unit.forest (operations_in unit.forest held)) (aims_of new.forest (operations_anew unit.forest held op_numbers))
+  all_go = subst (λ (n : ℕ). AllZip Goes (olds (length unit.forest.values)) (news n)) (sym values.count) (aims_go (length unit.forest.values) (omega arith))
+
+  all_still : length (aims_of new.forest (operations_anew unit.forest held op_numbers)) ≡ length (aims_of unit.forest (operations_in unit.forest held))
+  all_still = sym (zip_counts Goes (aims_of unit.forest (operations_in unit.forest held)) (aims_of new.forest (operations_anew unit.forest held op_numbers)) all_go)
+
+  -- each names its spot
+  all_placed : AllZip (IsSpotPlaced start entries ends) (aims_of new.forest (operations_anew unit.forest held op_numbers)) spots
+  all_placed =
+      let same : aims_of new.forest (operations_anew unit.forest held op_numbers) ≡ aims_anew unit.forest held anew.held op_numbers = ap news values.count ∙ aims_are (length unit.forest.values) (omega arith) in
+      subst (λ (z : List Aim). AllZip (IsSpotPlaced start entries ends) z spots) (sym same) counted
 
   -- the entries stand at their new places with the values that they had
   before_there : (place count : ℕ) → AreValuesBefore unit.forest entries place count → AreValuesBefore new.forest (map (λ (e : Entry). e.at) new.forest.entries) place count
@@ -126,62 +127,56 @@ module _ (unit : HeadAndForest) (new : UnitRead) (table : Listing) (columns : Li
             );
       }
 
-  -- one reference
-  module _ (k n : ℕ) (inside : k < length new.forest.values) (means : meant_in new.forest.section (value_at new.forest.values k) ≡ InUnit n) where
-    was_inside : k < length unit.forest.values
-    was_inside = subst (λ (z : ℕ). k < z) values.count inside
+  -- a slot that tells what an old one told has its row
+  row_goes : (i : ℕ) (old now : Aim) (spot : Spot) (row : SlotRow) → Goes old now → IsSpotPlaced start entries ends now spot → IsRowOf unit.forest (operations_in unit.forest held) entries laid.sizes start (spot_place entries ends spot) i old row → IsRowOf new.forest (operations_anew unit.forest held op_numbers) (map (λ (e : Entry). e.at) new.forest.entries) laid.sizes new.head.at (place_told new.head.at now) i now row
+  row_goes i (Place form n) (Place other m) spot row goes here is =
+      let place : spot_place entries ends spot ≡ new.head.at + m = sym here ∙ ap (λ (z : ℕ). z + m) (sym begins) in
+      let number = is.number in
+      record {
+        form_is = is.form_is ∙ goes.0;
+        from = is.from;
+        values = is.values;
+        before = subst (λ (z : ℕ). AreValuesBefore new.forest (map (λ (e : Entry). e.at) new.forest.entries) z is.values) place (before_there (spot_place entries ends spot) is.values is.before);
+        to = is.to ∙ sym (before_still is.values is.before.few);
+        number = omega (arith, number, place, begins);
+      }
+  row_goes i (Place form n) (Length fixed count) spot row goes here is = absurd goes
+  row_goes i (Length fixed count) (Place form n) spot row goes here is = absurd goes
+  row_goes i (Length fixed count) (Length size slots) spot row goes here is =
+      let fixed_is : fixed ≡ size = goes.0 in
+      let count_is : count ≡ slots = goes.1 in
+      is ∙ ap (λ (z : ℕ). record { form = uleb; fixed = z; from = suc i; to = suc i + count }) fixed_is ∙ ap (λ (z : ℕ). record { form = uleb; fixed = size; from = suc i; to = suc i + z }) count_is
 
-    was_local : IsLocalAt unit.forest k
-    was_local = sym (local_still k was_inside) ∙ ap is_local means
+  row_there : (i : ℕ) → i < length laid.rows → IsRowOf new.forest (operations_anew unit.forest held op_numbers) (map (λ (e : Entry). e.at) new.forest.entries) laid.sizes new.head.at (place_told new.head.at (aim_at (aims_of new.forest (operations_anew unit.forest held op_numbers)) i)) i (aim_at (aims_of new.forest (operations_anew unit.forest held op_numbers)) i) (row_at laid.rows i)
+  row_there i inside =
+      let was : List Aim = aims_of unit.forest (operations_in unit.forest held) in
+      let now : List Aim = aims_of new.forest (operations_anew unit.forest held op_numbers) in
+      let old_in : i < length was = subst (λ (z : ℕ). i < z) laid.slots.count inside in
+      let new_in : i < length now = subst (λ (z : ℕ). i < z) (sym all_still) old_in in
+      row_goes i (aim_at was i) (aim_at now i) (spot_at spots i) (row_at laid.rows i) (zip_at Goes was now i (Length 0 0) (Length 0 0) all_go old_in) (zip_at (IsSpotPlaced start entries ends) now spots i (Length 0 0) _ all_placed new_in) (laid.slots.each laid.sizes lens start entries ends to laid.layout.same_length laid.lens_are placed i inside)
 
-    number_is : n ≡ slice_index anew.held k
-    number_is = number_renewed (slice_index anew.held k) (made_of anew.ends anew.expressions k) (meant_in unit.forest.section (value_at unit.forest.values k)) n (sym (values.each k was_inside) ∙ means)
+  -- an expression of the unit has its operations with their new references
+  spelled_there : (k : ℕ) (span : Span) → IsExprAt new.forest k span → IsExpression Wide (operations_anew unit.forest held op_numbers k) (bytes_in new.forest.section span)
+  spelled_there k span is =
+      let inside : k < length unit.forest.values = subst (λ (z : ℕ). k < z) values.count is.inside in
+      let now : meaning_at new.forest k ≡ Expression (bytes_in new.forest.section span) = ap (meant_in new.forest.section) is.is in
+      let (old, meant, made) = was_expression (slice_index anew.held k) (made_of anew.ends anew.expressions k) (bytes_in new.forest.section span) (meaning_at unit.forest k) (sym (values.each k inside) ∙ now) in
+      let (old_span, at, _) = expression_span unit.forest.section (value_at unit.forest.values k) old (sym meant) in
+      let e = written.each k old_span (record { inside = inside; is = at }) in
+      let refs : List ℕ = refs_of held op_numbers k in
+      let bytes : bytes_in unit.forest.section old_span ≡ expression_bytes (meaning_at unit.forest k) = sym (ap (λ (v : Value). expression_bytes (meant_in unit.forest.section v)) at) in
+      subst (λ (z : List ℕ). IsExpression Wide (with_refs refs (all_meant z (ops_of held k))) (bytes_in new.forest.section span)) bytes (subst (IsExpression Wide (with_refs refs (all_meant (bytes_in unit.forest.section old_span) (ops_of held k)))) made e.written.expression)
 
-    among_rows : locals_before unit.forest k < length laid.rows
-    among_rows =
-        let below : locals_before unit.forest k < locals_in unit.forest.section unit.forest.values = counted_below (λ (v : Value). is_local (meant_in unit.forest.section v)) unit.forest.values k (value.Addr 0) was_inside was_local in
-        subst (λ (z : ℕ). locals_before unit.forest k < z) (sym (laid.slots.count ∙ named.count)) below
-
-    counts : CountsTo unit.forest entries laid.sizes start (spot_place entries ends (spot_at spots (locals_before unit.forest k))) (row_at laid.rows (locals_before unit.forest k))
-    counts = laid.slots.each laid.sizes lens start entries ends to laid.layout.same_length laid.lens_are placed (locals_before unit.forest k) among_rows
-
-    place_is : spot_place entries ends (spot_at spots (locals_before unit.forest k)) ≡ new.head.at + n
-    place_is =
-        let place = counted k was_inside was_local in
-        let number = number_is in
-        omega (arith, place, number, begins)
-
-    counts_so : slot_number laid.sizes (row_at laid.rows (locals_before unit.forest k)) ≡ n
-    counts_so =
-        let number = counts.number in
-        let place = place_is in
-        omega (arith, number, place, begins)
-
-    slot_there : IsSlotOf new laid.sizes n (row_at laid.rows (locals_before new.forest k))
-    slot_there =
-        let old : IsSlotOf new laid.sizes n (row_at laid.rows (locals_before unit.forest k)) = record {
-          form = counts.form;
-          from = counts.from;
-          values = counts.values;
-          before = subst (λ (place : ℕ). AreValuesBefore new.forest (map (λ (e : Entry). e.at) new.forest.entries) place counts.values) place_is (before_there (spot_place entries ends (spot_at spots (locals_before unit.forest k))) counts.values counts.before);
-          to = counts.to ∙ sym (before_still counts.values);
-          number = counts_so;
-        } in
-        subst (λ (i : ℕ). IsSlotOf new laid.sizes n (row_at laid.rows i)) (sym (before_still k)) old
-
-    size_there : slice_index laid.sizes (locals_before new.forest k) ≡ least_unsigned_len n
-    size_there =
-        let tight = laid.tight (locals_before unit.forest k) among_rows in
-        ap (λ (z : ℕ). slice_index laid.sizes z) (before_still k) ∙ tight ∙ ap (λ (form : SlotForm). need form (slot_number laid.sizes (row_at laid.rows (locals_before unit.forest k)))) counts.form ∙ ap least_unsigned_len counts_so
-
-  -- the references of the new unit have the least layout
+  -- the slots of the new unit have the least layout
   least_layout : HasLeastLayout new
   least_layout = record {
+    ops = operations_anew unit.forest held op_numbers;
+    spelled = spelled_there;
     rows = laid.rows;
     sizes = laid.sizes;
-    count = laid.slots.count ∙ named.count ∙ sym all_still;
-    slots = slot_there;
-    sized = size_there;
+    count = laid.slots.count ∙ sym all_still;
+    slots = row_there;
+    sized = laid.tight;
     least = laid.least;
   }
 
@@ -195,16 +190,20 @@ module _ {file : List ℕ} {world : World} {tables : List NewTable} {places : Li
       let p : IsPlacedBy world tables u (places_at places u) = placed u (omega (arith, count, inside)) in
       let m : IsUnitMoved world r.links tables places new_places u (unit_at s.links u) = written.each u inside in
       let i : ℕ = slice_index world.table_of u in
-      let there : AreSpotsOf (head_and_forest (unit_at r.links u)) p.spots = subst (λ (h : HeadAndForest). AreSpotsOf h p.spots) same p.named in
+      let held : HeldOps = operations_at world.operations u in
+      let later = entries_later file world r tables places u holds p in
       let is : IsUnitRead (debug_info file) (debug_abbrev file) (unit_at r.links u) = read_unit_at file r u read.links.units.each inside in
-      least_layout (head_and_forest (unit_at r.links u)) (unit_at s.links u) (table_at world.tables i).table (new_table_at tables i).columns (new_table_at tables i).numbers (lens_of p.expressions) (new_values m.numbers) p.spots p.lens (places_at places u).start (places_at places u).entries (places_at places u).ends (places_at places u).end there
-      (subst (λ (h : HeadAndForest). IsLaidOut h (table_at world.tables i).table (new_table_at tables i).columns (new_table_at tables i).numbers (lens_of p.expressions) p.spots p.lens) same p.laid_out)
+      least_layout (head_and_forest (unit_at r.links u)) (unit_at s.links u) (table_at world.tables i).table (new_table_at tables i).columns (new_table_at tables i).numbers held (new_values m.numbers) m.numbered.op_numbers p.spots p.lens (places_at places u).start (places_at places u).entries (places_at places u).ends (places_at places u).end
+      (subst (λ (h : HeadAndForest). IsLaidOut h (table_at world.tables i).table (new_table_at tables i).columns (new_table_at tables i).numbers (operations_in h.forest held) p.spots p.lens) same p.laid_out)
       (subst (λ (h : HeadAndForest). IsPlacedAt h (table_at world.tables i).table (new_table_at tables i).columns (new_table_at tables i).numbers p.lens (places_at places u).start (places_at places u).entries (places_at places u).ends (places_at places u).end) same p.placed)
-      (read_numbers (debug_info file) (debug_abbrev file) world r.links tables places new_places u m.numbers p.spots is m.numbered there)
+      (read_numbers (debug_info file) (debug_abbrev file) world r.links tables places new_places u m.numbers is m.numbered later p.spots (named_there file world r tables places u holds p))
       m.values
       m.entries
       m.at
       m.entry_places
+      m.numbered.expressions
+      (places_at places u)
+      (aims_moved (debug_info file) (debug_abbrev file) world r.links tables places new_places u m.numbers is m.numbered later)
 
   pub least_layouts : All HasLeastLayout s.links.units
   least_layouts = All-from_get_or HasLeastLayout s.links.units no_unit (λ u inside. unit_layout u (subst (λ (z : ℕ). u < z) written.count inside))

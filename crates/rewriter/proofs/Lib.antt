@@ -68,6 +68,8 @@ pub mod SectionSizes
 pub mod SectionsAnew
 pub mod ShortestBytes
 pub mod SizedValues
+pub mod MovedSlots
+pub mod PlacedUnits
 pub mod SpotNumbers
 pub mod Stand
 pub mod Standing

@@ -10,9 +10,9 @@ use Rattle.dw_base.specs.declared.fault.Reach.TheVariants.{Narrow}
 use Rattle.dw_base.specs.declared.fault.Span.{Span}
 use Rattle.expr_ops.specs.declared.op.Op.{Op}
 use Rattle.expr_ops.specs.Ops.{all_meant}
-use Rattle.expr_ops.specs.Plain.{IsWrittenPlain}
+use Rattle.expr_ops.specs.Shortest.{IsWrittenShortest}
 use Rattle.expr_ops.specs.Puts.{Adds}
-use Rattle.expr_ops.proofs.PlainLaws.{expression_sized}
+use Rattle.expr_ops.proofs.NextRefs.{AreSmall}
 use Rattle.expr_ops.proofs.Reaches.{narrow_wide}
 use Rattle.list_model.specs.declared.contribution.Contribution.{Contribution}
 use Rattle.list_model.specs.declared.entry.EntryKind.{EntryKind}
@@ -30,18 +30,20 @@ use Rattle.value_links.specs.ListFaults.{expression_bytes}
 use Rattle.value_links.specs.World.{World, Holds}
 use Rattle.rewriter.specs.inside.Numbers.{IsNewExpression}
 use Rattle.rewriter.specs.inside.ListNumbers.{AreListReferences, IsReadAgain, LinksSomething, IsExpressionPut}
+use Rattle.rewriter.proofs.MovedExpressions.{taken_small, shortest_thrice}
 use Rattle.rewriter.proofs.NamedOperations.{operation_named}
 use Rattle.rewriter.proofs.ListPieces.{EndAt, end_more, pieces_more}
 
 -- ---- one expression
 
 -- it is written from its operations, with their new references
-pub put_expression : (world : World) (places : List Places) (u : ℕ) (bytes old new : List ℕ) (ops : List Op) (refs : List ℕ) → IsReadAgain bytes ops → AreListReferences world places u ops refs → Adds (IsWrittenPlain refs bytes ops) old new → IsExpressionPut world places u bytes old new
+pub put_expression : (world : World) (places : List Places) (u : ℕ) (bytes old new : List ℕ) (ops : List Op) (refs : List ℕ) → IsReadAgain bytes ops → AreListReferences world places u ops refs → Adds (IsWrittenShortest refs bytes ops) old new → IsExpressionPut world places u bytes old new
 put_expression world places u bytes old new ops refs read are (made, written, behind) = record {
   made = made;
   behind = behind;
   few =
-      let thrice = (expression_sized Narrow (all_meant bytes ops) bytes read.spelled).thrice in
+      let small : AreSmall refs = subst AreSmall (sym are.taken) (taken_small ops are.numbers (All-from_get_or (λ (n : ℕ). n < 2 ^ 32) are.numbers 0 are.fit)) in
+      let thrice = shortest_thrice Narrow refs (all_meant bytes ops) bytes read.spelled small in
       omega (arith, thrice, written.long);
   is = λ file r holds linked. record {
     ops = ops;
@@ -54,7 +56,7 @@ put_expression world places u bytes old new ops refs read are (made, written, be
           let named = operation_named r.links u bytes ops (narrow_wide (all_meant bytes ops) bytes read.spelled) linked k inside in
           are.each k inside file r named.0 holds named.1;
     };
-    written = subst (λ (z : List ℕ). IsWrittenPlain z bytes ops made) are.taken written;
+    written = subst (λ (z : List ℕ). IsWrittenShortest z bytes ops made) are.taken written;
   };
 }
 

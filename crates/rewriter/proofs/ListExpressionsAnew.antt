@@ -13,7 +13,7 @@ use Rattle.unit_write.specs.NewExpressions.{refs_among}
 use Rattle.value_links.specs.Reading.{Linkable, Reading, lists_of}
 use Rattle.value_links.specs.Operations.{IsSomeExpression, LinkedOperation, LinksExpression}
 use Rattle.value_links.specs.Lists.{IsOwner, HasUnitOffset, AreExpressionsRead, AreWithinReach, owner_unit, expressions_at}
-use Rattle.value_links.specs.TidyLists.{IsPlain, ArePlain}
+use Rattle.value_links.specs.TidyLists.{IsShort, AreShort}
 use Rattle.value_links.specs.World.{World}
 use Rattle.rewriter.specs.declared.tables.NewTable.{NewTable}
 use Rattle.rewriter.specs.declared.new_places.NewPlaces.{NewPlaces}
@@ -54,8 +54,8 @@ same_owner_unit r s None count = count
 some_wide : (r : Linkable) (places : List Places) (u : ℕ) (bytes made : List ℕ) → IsNewExpression r places u bytes made → IsSomeExpression Wide made
 some_wide r places u bytes made is = (with_refs (refs_among is.ops is.numbers) (all_meant bytes is.ops), is.written.written.expression)
 
-plainly : (r : Linkable) (places : List Places) (u : ℕ) (bytes made : List ℕ) → IsNewExpression r places u bytes made → IsPlain bytes made
-plainly r places u bytes made is = (refs_among is.ops is.numbers, is.ops, is.spelled, is.written)
+shortly : (r : Linkable) (places : List Places) (u : ℕ) (bytes made : List ℕ) → IsNewExpression r places u bytes made → IsShort bytes made
+shortly r places u bytes made is = (refs_among is.ops is.numbers, is.ops, is.spelled, is.written)
 
 -- the operations of the bytes name what they may
 abbrev LinksSome : Linkable → ℕ → List ℕ → Type 0
@@ -108,7 +108,7 @@ module _ {file : List ℕ} {world : World} {tables : List NewTable} {places : Li
       zip_all (IsNewExpression r.links places (owner_unit r.links is.owner)) (λ (bytes : List ℕ). Unit {0}) (IsSomeExpression Wide) (λ bytes made one _. some_wide r.links places (owner_unit r.links is.owner) bytes made one) (olds k) (news k) is.each (λ i d less. tt)
 
   -- and they are the old ones
-  pub expressions_plain : (k : ℕ) → k < length (lists_of r kind) → ArePlain kind r s k
-  expressions_plain k inside =
+  pub expressions_short : (k : ℕ) → k < length (lists_of r kind) → AreShort kind r s k
+  expressions_short k inside =
       let is = (anew all kind k inside).expressions in
-      zip_weaker (IsNewExpression r.links places (owner_unit r.links is.owner)) IsPlain (plainly r.links places (owner_unit r.links is.owner)) (olds k) (news k) is.each
+      zip_weaker (IsNewExpression r.links places (owner_unit r.links is.owner)) IsShort (shortly r.links places (owner_unit r.links is.owner)) (olds k) (news k) is.each

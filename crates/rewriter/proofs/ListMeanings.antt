@@ -30,7 +30,7 @@ use Rattle.rewriter.proofs.MovedViews.{new_run, run_moves}
 use Rattle.rewriter.proofs.MovedLinks.{link_follows}
 use Rattle.rewriter.proofs.ListNames.{value_links, was_named, name_stays, name_came, owner_stays}
 use Rattle.rewriter.proofs.FrozenLists.{old_list, new_list, anew, gives_stay, frozen_entries, frozen_stays, was_frozen, new_gives}
-use Rattle.rewriter.proofs.ListExpressionsAnew.{expressions_mean, expressions_read, expressions_plain}
+use Rattle.rewriter.proofs.ListExpressionsAnew.{expressions_mean, expressions_read, expressions_short}
 
 abbrev no_run : ViewRead
 no_run = record { list = 0; at = 0; pairs = [] }
@@ -158,7 +158,7 @@ module _ {file : List ℕ} {world : World} {tables : List NewTable} {places : Li
     part = λ k inside. (anew all kind k inside).part;
     values = value_tidy;
     named = (all.lists kind).named;
-    expressions = expressions_plain all kind;
+    expressions = expressions_short all kind;
     filled = filled;
   }
 

@@ -61,7 +61,7 @@ module _ {file : List ℕ} {world : World} {tables : List NewTable} {places : Li
       let stands = stands_in all u id inside known in
       let number : ℕ → Meaning → Meaning = λ k meaning. renewed_by m.numbers (e.first + k) meaning in
       let size : length (new_values all u id) ≡ length values = as_many (unit_at r.links u).forest.values (unit_at s.links u).forest.values e.first e.count m.values.count in
-      attributes_move (Moves u id) old (unit_at s.links u).forest.section columns values stands.values_at number (λ before c after evs v more place is_columns is_values valued. record { name = refl; number = slice_index m.numbers.held.items (e.first + length evs); made = made_of m.numbers.ends.items m.numbers.expressions.items (e.first + length evs); numbered = m.numbered.each id (e.first + length evs) c.name (meant_in old v) place (has_value all u id inside known stands before c after evs v more place is_columns is_values valued); value = refl }) [] columns [] values (new_values all u id) 0 stands.values_at (e.at + e.len) refl refl refl refl stands.valued size (λ k k_in. values_mean all u id inside k k_in ∙ ap (λ (z : ℕ). number z (meant_in old (value_at values k))) (omega arith))
+      attributes_move (Moves u id) old (unit_at s.links u).forest.section columns values stands.values_at number (λ before c after evs v more place is_columns is_values valued. record { name = refl; number = slice_index m.numbers.held.items (e.first + length evs); made = made_of m.numbers.expressions.ends.items m.numbers.expressions.bytes.items (e.first + length evs); numbered = m.numbered.each id (e.first + length evs) c.name (meant_in old v) place (has_value all u id inside known stands before c after evs v more place is_columns is_values valued); value = refl }) [] columns [] values (new_values all u id) 0 stands.values_at (e.at + e.len) refl refl refl refl stands.valued size (λ k k_in. values_mean all u id inside k k_in ∙ ap (λ (z : ℕ). number z (meant_in old (value_at values k))) (omega arith))
 
   pub attributes_moved : (u id : ℕ) → u < length r.links.units → id < length (unit_at r.links u).forest.entries → AllZip (IsMovedAttribute r.links places new_places u id) (says r.links u (entry_of (unit_at r.links u) id)).attributes (says s.links u (entry_of (unit_at s.links u) id)).attributes
   attributes_moved u id inside known =

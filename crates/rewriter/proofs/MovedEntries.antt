@@ -40,7 +40,7 @@ no_entry = record { at = 0; len = 0; depth = 0; decl = 0; first = 0; count = 0 }
 
 -- a value with a number among those of a unit, with its new number or the new bytes of its expression
 abbrev pub renewed_by : NewNumbers → ℕ → Meaning → Meaning
-renewed_by numbers k meaning = renewed (slice_index numbers.held.items k) (made_of numbers.ends.items numbers.expressions.items k) meaning
+renewed_by numbers k meaning = renewed (slice_index numbers.held.items k) (made_of numbers.expressions.ends.items numbers.expressions.bytes.items k) meaning
 
 -- the declaration of an entry is the same, but for its code, which is the new number, and for the forms of its columns
 pub record IsSameDeclared (r s : Reading) (numbers : List ℕ) (u id : ℕ) : Type 0 where

@@ -1,24 +1,29 @@
 -- An expression that is written anew has its operations, and they name what they named.
-use Rattle.std.proofs.Common.{◌≡◌, ◌≢◌, ◌≤◌, ◌<◌, ◌+◌, ◌*◌, ◌⊎◌, ◌∙◌, inl, inr, true≢false, ℕ, zero, suc, List, [], ◌∷◌, length, sym, ap, subst, refl, arith}
+use Rattle.std.proofs.Common.{◌≡◌, ◌≢◌, ◌≤◌, ◌<◌, ◌+◌, ◌*◌, ◌^◌, ◌⊎◌, ◌∙◌, inl, inr, true≢false, ℕ, zero, suc, List, [], ◌∷◌, length, sym, ap, subst, refl, arith}
 use Rattle.std.specs.Prelude.{Bool, true, false, nat_eq, nat_le, if◌then◌else◌, slice_index}
 use Rattle.std.specs.List.{AllZip, Contains}
 use Rattle.std.proofs.lemmas.Bool.{ne_eqb}
+use Rattle.std.proofs.lemmas.List.Elements.{All-nil, All-cons, All-head, All-tail}
+use Rattle.dw_base.specs.declared.fault.Reach.{Reach}
 use Rattle.dw_base.specs.declared.fault.Reach.TheVariants.{Wide}
 use Rattle.form_codec.specs.Forms.Meaning.{InSection}
 use Rattle.expr_ops.specs.declared.op.Op.{Op}
 use Rattle.expr_ops.specs.declared.names.Named.{Named}
 use Rattle.expr_ops.specs.declared.names.Named.TheVariants.{Nothing, BaseType, UnitEntry, SectionEntry}
-use Rattle.expr_ops.specs.Expressions.{Operation}
+use Rattle.expr_ops.specs.Expressions.{Operation, IsExpression}
 use Rattle.expr_ops.specs.Ops.{meant, all_meant}
 use Rattle.expr_ops.specs.Drafts.{has_reference, is_generic, first_or, rest_of, with_a, with_ref, with_refs, op_at}
 use Rattle.expr_ops.specs.Names.{named_by}
-use Rattle.expr_ops.specs.Plain.{plain_length}
+use Rattle.expr_ops.specs.Shortest.{shortest_length}
 use Rattle.expr_ops.proofs.Levels.{expression_once}
 use Rattle.expr_ops.proofs.NameLaws.{reference_named}
+use Rattle.expr_ops.proofs.NeededFew.{shortest_less}
+use Rattle.expr_ops.proofs.NextRefs.{AreSmall}
+use Rattle.expr_ops.proofs.PlainBytes.{plain_length}
 use Rattle.expr_ops.proofs.PlainLaws.{expression_sized}
 use Rattle.entry_arena.specs.declared.entry.Target.TheVariants.{Entry as TheEntry}
 use Rattle.entry_arena.specs.Arena.{IsEntryAt}
-use Rattle.entry_read.specs.Heads.{type_unit, skeleton_unit, header_size}
+use Rattle.entry_read.specs.Heads.{header_size}
 use Rattle.entry_read.specs.Units.{entries_at}
 use Rattle.unit_write.specs.declared.places.Places.{Places}
 use Rattle.unit_write.specs.NewExpressions.{refs_among}
@@ -37,6 +42,7 @@ use Rattle.rewriter.specs.inside.Tables.{new_table_at}
 use Rattle.rewriter.specs.inside.Placed.{places_at}
 use Rattle.rewriter.specs.inside.Numbers.{MovesEntry, IsNewReference, IsNewExpression}
 use Rattle.rewriter.specs.inside.Follows.{AreReadAnew}
+use Rattle.rewriter.proofs.Arranged.{has_header}
 use Rattle.rewriter.proofs.MovedPlaces.{entry_moves}
 use Rattle.rewriter.proofs.MovedEntries.{moved}
 use Rattle.rewriter.proofs.ValuesStay.{new_read}
@@ -49,22 +55,14 @@ generic_stays true n is = refl
 generic_stays false n is = is
 
 -- and another number isn't
-not_generic : (b : Bool) (n : ℕ) → 0 < n → (if b then nat_eq n 0 else false) ≡ false
+pub not_generic : (b : Bool) (n : ℕ) → 0 < n → (if b then nat_eq n 0 else false) ≡ false
 not_generic true n some = ne_eqb n 0 (λ none. omega (arith, none, some))
 not_generic false n some = refl
 
 never_generic : (code n : ℕ) → 0 < n → is_generic code n ≡ true → ⊥
 never_generic code n some is = true≢false (sym is ∙ not_generic (nat_le 168 code) n some)
 
--- a header has bytes, so that what stands behind one isn't where it begins
-header_some : (a b : Bool) → 0 < (if a then 24 else if b then 20 else 12)
-header_some true b = omega arith
-header_some false true = omega arith
-header_some false false = omega arith
-
-has_header : (kind : ℕ) → 0 < header_size kind
-has_header kind = header_some (nat_eq kind type_unit) (nat_eq kind skeleton_unit)
-
+-- what stands behind a header isn't where the header begins
 behind : (at size n : ℕ) → at + size ≤ at + n → 0 < size → 0 < n
 behind at size n from some = omega arith
 
@@ -84,7 +82,7 @@ none_named r s u v UnitEntry code n aim none links = absurd (none (λ (e : UnitE
 none_named r s u v SectionEntry code n aim none links = absurd (none (λ (e : SectionEntry ≡ Nothing). cc (e)))
 
 -- the references of operations are those of the first and of the others
-one_more : (b : Bool) (o : Operation) (n : ℕ) (refs : List ℕ) (os : List Operation) → (if b then with_ref (first_or 0 (if b then n ∷ refs else refs)) o ∷ with_refs (rest_of (if b then n ∷ refs else refs)) os else (o ∷ with_refs (if b then n ∷ refs else refs) os)) ≡ (if b then with_ref n o else o) ∷ with_refs refs os
+pub one_more : (b : Bool) (o : Operation) (n : ℕ) (refs : List ℕ) (os : List Operation) → (if b then with_ref (first_or 0 (if b then n ∷ refs else refs)) o ∷ with_refs (rest_of (if b then n ∷ refs else refs)) os else (o ∷ with_refs (if b then n ∷ refs else refs) os)) ≡ (if b then with_ref n o else o) ∷ with_refs refs os
 one_more true o n refs os = refl
 one_more false o n refs os = refl
 
@@ -144,11 +142,29 @@ had_unit_offset r places u bytes made is has =
     let (one, among, counts) = some_counts (refs_among is.ops is.numbers) (all_meant bytes is.ops) has.one (subst (λ (z : List Operation). Contains z has.one) same has.among) has.counts in
     record { operations = all_meant bytes is.ops; spelled = is.spelled; one = one; among = among; counts = counts }
 
--- and it has at most three times the bytes
+-- references below 2^32 that are taken stay so
+taken_by : (b : Bool) (n : ℕ) (refs : List ℕ) → n < 2 ^ 32 → AreSmall refs → AreSmall (if b then n ∷ refs else refs)
+taken_by true n refs small rest = All-cons (λ (z : ℕ). z < 2 ^ 32) n refs small rest
+taken_by false n refs small rest = rest
+
+pub taken_small : (ops : List Op) (numbers : List ℕ) → AreSmall numbers → AreSmall (refs_among ops numbers)
+taken_small [] numbers small = All-nil (λ (z : ℕ). z < 2 ^ 32)
+taken_small (op ∷ ops) [] small = All-nil (λ (z : ℕ). z < 2 ^ 32)
+taken_small (op ∷ ops) (n ∷ ns) small =
+    taken_by (has_reference op.code) n (refs_among ops ns) (All-head (λ (z : ℕ). z < 2 ^ 32) n ns small) (taken_small ops ns (All-tail (λ (z : ℕ). z < 2 ^ 32) n ns small))
+
+-- so the new bytes are at most three times the old ones
+pub shortest_thrice : (reach : Reach) (refs : List ℕ) (os : List Operation) (bytes : List ℕ) → IsExpression reach os bytes → AreSmall refs → shortest_length refs os ≤ 3 * length bytes
+shortest_thrice reach refs os bytes spelled small =
+    let less : shortest_length refs os ≤ plain_length os = shortest_less refs os small in
+    let most : plain_length os ≤ 3 * length bytes = (expression_sized reach os bytes spelled).thrice in
+    omega (arith, less, most)
+
+-- likewise where it is one of a unit or of a list
 pub made_thrice : (r : Linkable) (places : List Places) (u : ℕ) (bytes made : List ℕ) → IsNewExpression r places u bytes made → length made ≤ 3 * length bytes
 made_thrice r places u bytes made is =
-    let size : length made ≡ plain_length (all_meant bytes is.ops) = is.written.long in
-    let most : plain_length (all_meant bytes is.ops) ≤ 3 * length bytes = (expression_sized Wide (all_meant bytes is.ops) bytes is.spelled).thrice in
+    let size : length made ≡ shortest_length (refs_among is.ops is.numbers) (all_meant bytes is.ops) = is.written.long in
+    let most = shortest_thrice Wide (refs_among is.ops is.numbers) (all_meant bytes is.ops) bytes is.spelled (taken_small is.ops is.numbers is.numbered.fit) in
     omega (arith, size, most)
 
 module _ {file : List ℕ} {world : World} {tables : List NewTable} {places : List Places} {new_places : NewPlaces} {info abbrevs : List ℕ} {r s : Reading} (all : AreReadAnew file world tables places new_places info abbrevs r s) where

@@ -2,7 +2,6 @@
 use Rattle.std.proofs.Common.{◌≡◌, ◌≤◌, ◌<◌, ◌+◌, ◌-◌, ◌^◌, ℕ, List, [], length, drop, slice_index, ◌∙◌, sym, ap, refl, subst, arith}
 use Rattle.std.proofs.lemmas.List.{get_or-take, get_or-drop, length-take, length-drop}
 use Rattle.std.proofs.lemmas.List.Elements.{All-take, All-drop, All-from_get_or}
-use Rattle.dw_base.specs.declared.fault.Reach.{Reach}
 use Rattle.dw_base.specs.declared.fault.Reach.TheVariants.{Narrow, Wide}
 use Rattle.dw_base.specs.declared.fault.Span.{Span}
 use Rattle.expr_ops.specs.declared.op.Op.{Op}
@@ -18,11 +17,11 @@ use Rattle.form_codec.specs.Forms.Meaning.{Expression}
 use Rattle.form_codec.specs.Values.{bytes_in, meant_in}
 use Rattle.entry_arena.specs.Arena.{entry_at, value_at}
 use Rattle.entry_arena.specs.Operations.{HeldOps, range_of, for_value, ops_of}
-use Rattle.entry_read.specs.Expressions.{IsExprAt}
+use Rattle.entry_read.specs.Expressions.{IsExprAt, HasOperations}
 use Rattle.entry_read.specs.Units.{HeadAndForest}
 use Rattle.unit_write.specs.declared.places.Places.{Places}
 use Rattle.unit_write.specs.declared.write.NewNumbers.{NewNumbers}
-use Rattle.unit_write.specs.NewExpressions.{made_of, AreWrittenPlain}
+use Rattle.unit_write.specs.NewExpressions.{made_of, AreEndsFor, AreWrittenShortest}
 use Rattle.value_links.specs.Sections.{debug_info, debug_abbrev}
 use Rattle.value_links.specs.Reading.{Linkable, Reading, unit_at}
 use Rattle.value_links.specs.Values.{HasValueAt}
@@ -31,7 +30,7 @@ use Rattle.value_links.specs.World.{World, operations_at, head_and_forest, Holds
 use Rattle.rewriter.specs.declared.tables.NewTable.{NewTable}
 use Rattle.rewriter.specs.declared.new_places.NewPlaces.{NewPlaces}
 use Rattle.rewriter.specs.inside.Tables.{new_table_at}
-use Rattle.rewriter.specs.inside.Placed.{PlacesAnew, places_anew, places_at, unit_in, AreEndsIn}
+use Rattle.rewriter.specs.inside.Placed.{PlacesAnew, places_anew, places_at, unit_in}
 use Rattle.rewriter.specs.inside.Numbers.{IsNewNumber, AreNewReferences, IsNewExpression, IsNewValue, AreNewNumbers}
 use Rattle.rewriter.specs.inside.Held.{MeansSomething, table_for, entry_in, name_in, value_in, AreNumbered, IsReferenceOf, AreOperationsNumbered, IsTypeMoved}
 use Rattle.rewriter.proofs.NamedOperations.{operation_named, reference_still}
@@ -108,35 +107,46 @@ module _ (world : World) (u : ℕ) (is : IsWorldOf world.image Narrow world) (kn
       let value_is : value_in world u id j ≡ value.Expr span = ap (value_at (unit_in world.units u).forest.values) at ∙ stands.is in
       (id, name_in world u id j, subst (MeansSomething world u id (name_in world u id j)) value_is (((unit_means world u Narrow is known).entries id there).means j below))
 
-module _ (file : List ℕ) (world : World) (r : Reading) (places : List Places) (u : ℕ) (own : HeadAndForest) (operations : HeldOps) (is : IsWorldOf world.image Narrow world) (holds : Holds file world r) (known : u < length world.units) (own_is : own ≡ unit_in world.units u) (operations_are : operations ≡ operations_at world.operations u) (numbers ends expressions : List ℕ) (numbered : AreOperationsNumbered world places u numbers) (written : AreWrittenPlain own.forest operations ends numbers expressions) where
-  own_written : AreWrittenPlain (unit_in world.units u).forest (operations_at world.operations u) ends numbers expressions
-  own_written =
-      subst (λ (h : HeadAndForest). AreWrittenPlain h.forest (operations_at world.operations u) ends numbers expressions) own_is (subst (λ (o : HeldOps). AreWrittenPlain own.forest o ends numbers expressions) operations_are written)
+module _ (file : List ℕ) (world : World) (r : Reading) (places : List Places) (u : ℕ) (own : HeadAndForest) (operations : HeldOps) (is : IsWorldOf world.image Narrow world) (holds : Holds file world r) (known : u < length world.units) (own_is : own ≡ unit_in world.units u) (operations_are : operations ≡ operations_at world.operations u) (numbers ends expressions : List ℕ) (numbered : AreOperationsNumbered world places u numbers) where
+  held_there : unit_in world.units u ≡ head_and_forest (unit_at r.links u)
+  held_there = held_unit file world r u holds
 
-  -- the bytes of each value are there
-  pub expressions_filled : (k : ℕ) → k < length (unit_in world.units u).forest.values → slice_index ends k ≤ length expressions
-  expressions_filled = own_written.all
-
-  -- each expression has its new bytes
-  pub expressions_made : (number : ℕ) (span : Span) → IsExprAt (unit_in world.units u).forest number span → IsNewExpression r.links places u (bytes_in (unit_in world.units u).forest.section span) (made_of ends expressions number)
-  expressions_made number span stands =
+  -- the operations of an expression have their new references
+  own_references : (number : ℕ) (span : Span) → IsExprAt (unit_in world.units u).forest number span → AreNewReferences r.links places u (ops_of (operations_at world.operations u) number) (for_value (operations_at world.operations u) numbers number)
+  own_references number span stands =
       let (id, name, means) = expression_means world u is known number span stands in
-      let same : (unit_in world.units u).forest.section ≡ (unit_at r.links u).forest.section = ap (λ (h : HeadAndForest). h.forest.section) (held_unit file world r u holds) in
-      let narrow : IsExpression Narrow (all_meant (bytes_in (unit_in world.units u).forest.section span) (ops_of (operations_at world.operations u) number)) (bytes_in (unit_in world.units u).forest.section span) = (is.operations.each u (unit_in [] 0) known).spelled number span stands in
-      let wide : IsExpression Wide (all_meant (bytes_in (unit_in world.units u).forest.section span) (ops_of (operations_at world.operations u) number)) (bytes_in (unit_in world.units u).forest.section span) = narrow_wide _ _ narrow in
-      let read : IsExpression Wide (all_meant (bytes_in (unit_at r.links u).forest.section span) (ops_of (operations_at world.operations u) number)) (bytes_in (unit_at r.links u).forest.section span) = subst (λ (s : List ℕ). IsExpression Wide (all_meant (bytes_in s span) (ops_of (operations_at world.operations u) number)) (bytes_in s span)) same wide in
+      let narrow = (is.operations.each u (unit_in [] 0) known).spelled number span stands in
+      let wide = narrow_wide _ _ narrow in
+      let read : IsExpression Wide (all_meant (bytes_in (unit_at r.links u).forest.section span) (ops_of (operations_at world.operations u) number)) (bytes_in (unit_at r.links u).forest.section span) = subst (λ (h : HeadAndForest). IsExpression Wide (all_meant (bytes_in h.forest.section span) (ops_of (operations_at world.operations u) number)) (bytes_in h.forest.section span)) held_there wide in
+      references_of file world r places u holds numbers numbered number (means_named file world r u holds id name span (ops_of (operations_at world.operations u) number) means read)
+
+  pub references_there : (number : ℕ) (span : Span) → IsExprAt (unit_at r.links u).forest number span → AreNewReferences r.links places u (ops_of (operations_at world.operations u) number) (for_value (operations_at world.operations u) numbers number)
+  references_there = subst (λ (h : HeadAndForest). (number : ℕ) (span : Span) → IsExprAt h.forest number span → AreNewReferences r.links places u (ops_of (operations_at world.operations u) number) (for_value (operations_at world.operations u) numbers number)) held_there own_references
+
+  -- so an expression that is written with them is a new one
+  pub expressions_made : AreWrittenShortest (unit_at r.links u).forest (operations_at world.operations u) ends numbers expressions → (number : ℕ) (span : Span) → IsExprAt (unit_at r.links u).forest number span → IsNewExpression r.links places u (bytes_in (unit_at r.links u).forest.section span) (made_of ends expressions number)
+  expressions_made written number span stands =
+      let there : HasOperations Narrow (unit_at r.links u).forest (operations_at world.operations u) = subst (λ (h : HeadAndForest). HasOperations Narrow h.forest (operations_at world.operations u)) held_there (is.operations.each u (unit_in [] 0) known) in
       record {
         ops = ops_of (operations_at world.operations u) number;
-        spelled = wide;
+        spelled = narrow_wide _ _ (there.spelled number span stands);
         numbers = for_value (operations_at world.operations u) numbers number;
-        numbered = references_of file world r places u holds numbers numbered number (means_named file world r u holds id name span (ops_of (operations_at world.operations u) number) means read);
-        written = own_written.each number span stands;
+        numbered = references_there number span stands;
+        written = written.each number span stands;
       }
+
+  -- what holds of the parts that were read holds of those that are held
+  pub ends_known : AreEndsFor own.forest ends → AreEndsFor (unit_at r.links u).forest ends
+  ends_known = subst (λ (h : HeadAndForest). AreEndsFor own.forest ends → AreEndsFor h.forest ends) (own_is ∙ held_there) (λ are. are)
+
+  pub written_known : AreWrittenShortest own.forest operations ends numbers expressions → AreWrittenShortest (unit_at r.links u).forest (operations_at world.operations u) ends numbers expressions
+  written_known written =
+      subst (λ (h : HeadAndForest). AreWrittenShortest h.forest (operations_at world.operations u) ends numbers expressions) (own_is ∙ held_there) (subst (λ (o : HeldOps). AreWrittenShortest own.forest o ends numbers expressions) operations_are written)
 
 -- ALL OF A UNIT
 
 -- a value that means an expression is one
-expression_span : (section : List ℕ) (v : Value) (bytes : List ℕ) → Expression bytes ≡ meant_in section v → (span : Span) × (v ≡ value.Expr span) × (bytes_in section span ≡ bytes)
+pub expression_span : (section : List ℕ) (v : Value) (bytes : List ℕ) → Expression bytes ≡ meant_in section v → (span : Span) × (v ≡ value.Expr span) × (bytes_in section span ≡ bytes)
 expression_span section (value.Expr span) bytes e = (span, refl, cc (e))
 expression_span section v bytes e = absurd (cc (e))
 
@@ -145,36 +155,35 @@ value_renewed : (r : Linkable) (places : List Places) (new_places : NewPlaces) (
 value_renewed r places new_places u id name (Expression bytes) new made number expression = expression bytes refl
 value_renewed r places new_places u id name meaning new made number expression = number
 
--- the new bytes of the expressions of a unit, as it is held
-abbrev MadeIn : Reading → List Places → ℕ → List ℕ → List ℕ → HeadAndForest → Type 0
-MadeIn r places u ends expressions h =
-    (number : ℕ) (span : Span) → IsExprAt h.forest number span → IsNewExpression r.links places u (bytes_in h.forest.section span) (made_of ends expressions number)
-
-module _ (file : List ℕ) (world : World) (r : Reading) (tables : List NewTable) (places : List Places) (new_places : NewPlaces) (u : ℕ) (reach : Reach) (own : HeadAndForest) (mine : Places) (new : NewNumbers) (is : IsWorldOf world.image reach world) (holds : Holds file world r) (known : u < length world.units) where
+module _ (file : List ℕ) (world : World) (r : Reading) (tables : List NewTable) (places : List Places) (new_places : NewPlaces) (u : ℕ) (own : HeadAndForest) (mine : Places) (new : NewNumbers) (is : IsWorldOf world.image Narrow world) (holds : Holds file world r) (known : u < length world.units) where
   numbers_there : AreNumbered world places new_places u new.held.items → NumbersIn r places new_places u new.held.items (head_and_forest (unit_at r.links u)) (unit_at r.links u).table
   numbers_there held =
       let size : length world.units ≡ length r.links.units = held_count file world r holds in
       let first : NumbersIn r places new_places u new.held.items (unit_in world.units u) (table_for world u) = λ id j a b. held.each id j a b file r holds in
       subst (NumbersIn r places new_places u new.held.items (head_and_forest (unit_at r.links u))) (table_known file world r u holds (omega (arith, size, known))) (subst (λ (h : HeadAndForest). NumbersIn r places new_places u new.held.items h (table_for world u)) (held_unit file world r u holds) first)
 
-  made_there : MadeIn r places u new.ends.items new.expressions.items (unit_in world.units u) → (id number name : ℕ) (bytes : List ℕ) (place : ℕ) → HasValueAt (unit_at r.links u) id number name (Expression bytes) place → IsNewExpression r.links places u bytes (made_of new.ends.items new.expressions.items number)
+  made_there : ((number : ℕ) (span : Span) → IsExprAt (unit_at r.links u).forest number span → IsNewExpression r.links places u (bytes_in (unit_at r.links u).forest.section span) (made_of new.expressions.ends.items new.expressions.bytes.items number)) → (id number name : ℕ) (bytes : List ℕ) (place : ℕ) → HasValueAt (unit_at r.links u) id number name (Expression bytes) place → IsNewExpression r.links places u bytes (made_of new.expressions.ends.items new.expressions.bytes.items number)
   made_there made id number name bytes place h =
-      let all : MadeIn r places u new.ends.items new.expressions.items (head_and_forest (unit_at r.links u)) = subst (MadeIn r places u new.ends.items new.expressions.items) (held_unit file world r u holds) made in
-      let (inside, here) = value_among (debug_info world.image) (debug_abbrev world.image) (unit_at r.links u) (unit_reads file world r u reach is holds known) id number name (Expression bytes) place h in
+      let (inside, here) = value_among (debug_info world.image) (debug_abbrev world.image) (unit_at r.links u) (unit_reads file world r u Narrow is holds known) id number name (Expression bytes) place h in
       let (span, is_span, same) = expression_span (unit_at r.links u).forest.section h.value bytes h.meant in
-      subst (λ (z : List ℕ). IsNewExpression r.links places u z (made_of new.ends.items new.expressions.items number)) same (all number span (record { inside = inside; is = here ∙ is_span }))
+      subst (λ (z : List ℕ). IsNewExpression r.links places u z (made_of new.expressions.ends.items new.expressions.bytes.items number)) same (made number span (record { inside = inside; is = here ∙ is_span }))
 
-  pub are_new_numbers : own ≡ unit_in world.units u → places_anew mine ≡ places_at places u → new.end ≡ mine.end → new.table ≡ (new_table_at tables (slice_index world.table_of u)).at → IsTypeMoved own (places_anew mine) new.type_offset → AreNumbered world places new_places u new.held.items → AreEndsIn world u new.ends.items → ((k : ℕ) → k < length (unit_in world.units u).forest.values → slice_index new.ends.items k ≤ length new.expressions.items) → ((number : ℕ) (span : Span) → IsExprAt (unit_in world.units u).forest number span → IsNewExpression r.links places u (bytes_in (unit_in world.units u).forest.section span) (made_of new.ends.items new.expressions.items number)) → AreNewNumbers world r.links tables places new_places u new
-  are_new_numbers own_is mine_is end table_is type held ends filled made = record {
-    ends = end ∙ ap (λ (p : PlacesAnew). p.end) mine_is;
-    table_at = table_is;
-    type_at = type_moved file world r places u own mine new.type_offset holds own_is mine_is type;
-    type_fits = type.fits;
-    count = held.size.1 refl ∙ ap (λ (h : HeadAndForest). length h.forest.values) (held_unit file world r u holds);
-    fit = All-from_get_or (λ (number : ℕ). number < 2 ^ 32) new.held.items 0 (λ k within. held.fit k within);
-    ends_are = ends;
-    filled = subst (λ (h : HeadAndForest). (k : ℕ) → k < length h.forest.values → slice_index new.ends.items k ≤ length new.expressions.items) (held_unit file world r u holds) filled;
-    each = λ id number name meaning place h.
-        value_renewed r.links places new_places u id name meaning (slice_index new.held.items number) (made_of new.ends.items new.expressions.items number) (attribute_numbered r places new_places u new.held.items (debug_info world.image) (debug_abbrev world.image) (unit_reads file world r u reach is holds known) (numbers_there held) id number name meaning place h) (λ bytes same.
-        made_there made id number name bytes place (subst (λ (m : Meaning). HasValueAt (unit_at r.links u) id number name m place) same h));
-  }
+  pub are_new_numbers : (operations : HeldOps) → own ≡ unit_in world.units u → operations ≡ operations_at world.operations u → places_anew mine ≡ places_at places u → new.end ≡ mine.end → new.table ≡ (new_table_at tables (slice_index world.table_of u)).at → IsTypeMoved own (places_anew mine) new.type_offset → AreNumbered world places new_places u new.held.items → (numbers : List ℕ) → AreOperationsNumbered world places u numbers → AreEndsFor own.forest new.expressions.ends.items → AreWrittenShortest own.forest operations new.expressions.ends.items numbers new.expressions.bytes.items → AreNewNumbers world r.links tables places new_places u new
+  are_new_numbers operations own_is operations_are mine_is end table_is type held numbers numbered ends written =
+      let there = written_known file world r places u own operations is holds known own_is operations_are numbers new.expressions.ends.items new.expressions.bytes.items numbered written in
+      let made = expressions_made file world r places u own operations is holds known own_is operations_are numbers new.expressions.ends.items new.expressions.bytes.items numbered there in
+      record {
+        ends = end ∙ ap (λ (p : PlacesAnew). p.end) mine_is;
+        table_at = table_is;
+        type_at = type_moved file world r places u own mine new.type_offset holds own_is mine_is type;
+        type_fits = type.fits;
+        count = held.size.1 refl ∙ ap (λ (h : HeadAndForest). length h.forest.values) (held_unit file world r u holds);
+        fit = All-from_get_or (λ (number : ℕ). number < 2 ^ 32) new.held.items 0 (λ k within. held.fit k within);
+        ends_are = ends_known file world r places u own operations is holds known own_is operations_are numbers new.expressions.ends.items new.expressions.bytes.items numbered ends;
+        op_numbers = numbers;
+        references = references_there file world r places u own operations is holds known own_is operations_are numbers new.expressions.ends.items new.expressions.bytes.items numbered;
+        expressions = there;
+        each = λ id number name meaning place h.
+            value_renewed r.links places new_places u id name meaning (slice_index new.held.items number) (made_of new.expressions.ends.items new.expressions.bytes.items number) (attribute_numbered r places new_places u new.held.items (debug_info world.image) (debug_abbrev world.image) (unit_reads file world r u Narrow is holds known) (numbers_there held) id number name meaning place h) (λ bytes same.
+            made_there made id number name bytes place (subst (λ (m : Meaning). HasValueAt (unit_at r.links u) id number name m place) same h));
+      }

@@ -1,6 +1,6 @@
 -- Something can be written for each value of an entry in columns that are written and spell it.
-use Rattle.std.proofs.Common.{◌≡◌, ◌<◌, ◌+◌, ◌^◌, ◌∙◌, ℕ, suc, List, [], ◌∷◌, length, true, false, sym, ap, refl, subst, arith, inl, inr}
-use Rattle.std.specs.Prelude.{ℤ, slice_index}
+use Rattle.std.proofs.Common.{◌≡◌, ◌<◌, ◌+◌, ◌∙◌, ℕ, suc, List, [], ◌∷◌, length, true, false, sym, ap, refl, subst, arith, inl, inr}
+use Rattle.std.specs.Prelude.{ℤ}
 use Rattle.std.proofs.lemmas.Bool.{cases_Bool}
 use Rattle.form_codec.specs.declared.form.Form.{Form}
 use Rattle.form_codec.specs.declared.form.Form.TheVariants as form
@@ -14,7 +14,7 @@ use Rattle.abbrev_tables.specs.declared.decl.Spec.{Spec}
 use Rattle.abbrev_tables.specs.Listings.{spec_at}
 use Rattle.entry_arena.specs.Arena.{value_at}
 use Rattle.unit_write.specs.Values.{is_moving, HasSize, HaveSize}
-use Rattle.unit_write.specs.Sizes.{IsExpr, HoldsNumber, NumbersHaveSizes, ExpressionsHaveSizes, ShortestHaveSizes}
+use Rattle.unit_write.specs.Sizes.{HoldsNumber, NumbersHaveSizes, ExpressionsHaveSizes, ShortestHaveSizes}
 use Rattle.unit_write.specs.inside.Puts.{shape_moves}
 use Rattle.unit_write.proofs.ValueLaws.{shape_is, expr_form}
 use Rattle.rewriter.proofs.ShortestBytes.{shortest_bytes}
@@ -32,39 +32,35 @@ holds_number form.RefAddr c m bytes moves written p = subst (HoldsNumber 16) (sy
 holds_number form.SecOffset c m bytes moves written p = subst (HoldsNumber 23) (sym p.1) refl
 holds_number f c m bytes moves written p = absurd (cc (moves))
 
--- an expression has fewer than 2^64 bytes
-abbrev pub Fits : Meaning → ℕ → Type 0
-Fits m len = IsExpr m → len < 2 ^ 64
-
 module _ (numbers : NumbersHaveSizes) (expressions : ExpressionsHaveSizes) (others : ShortestHaveSizes) where
   -- an expression of so many bytes can be written, and so can each value that stays
-  stays_sized : (column : Spec) (m : Meaning) (len : ℕ) (bytes : List ℕ) → Fits m len → is_moving m ≡ false → SpellsValue column.form column.constant m bytes → (size : ℕ) × HasSize column m len size
-  stays_sized column (Expression made) len bytes fits stays s = expressions column made len (fits tt) (expr_form column.form column.constant made bytes s)
-  stays_sized column m len bytes fits stays s =
+  stays_sized : (column : Spec) (m : Meaning) (len : ℕ) (bytes : List ℕ) → is_moving m ≡ false → SpellsValue column.form column.constant m bytes → (size : ℕ) × HasSize column m len size
+  stays_sized column (Expression made) len bytes stays s = expressions column made len (expr_form column.form column.constant made bytes s)
+  stays_sized column m len bytes stays s =
       let few = shortest_bytes column.form column.constant m bytes s in
       (length few.0, others column m len few.0 bytes stays (λ none. none) s few.1)
 
   -- a value that a column spells can be written in it, where it has a form that is written
-  value_sized : (column : Spec) (m : Meaning) (len : ℕ) (bytes : List ℕ) → Fits m len → IsChoice column.form → SpellsValue column.form column.constant m bytes → (size : ℕ) × HasSize column m len size
-  value_sized column m len bytes fits choice s =
+  value_sized : (column : Spec) (m : Meaning) (len : ℕ) (bytes : List ℕ) → IsChoice column.form → SpellsValue column.form column.constant m bytes → (size : ℕ) × HasSize column m len size
+  value_sized column m len bytes choice s =
       elim (cases_Bool (is_moving m)) [
         | inl moves ↦
             let shape : shape_moves (shape_of s.form column.constant) ≡ true = sym (shape_is (shape_of s.form column.constant) m bytes s.spelled) ∙ moves in
             let written : is_written s.form ≡ true = ap is_written (code_once s.form choice.0 (s.known ∙ sym choice.1)) ∙ choice.2 in
             let held = holds_number s.form column.constant m bytes shape written s.spelled in
             numbers column m len (subst (λ (z : ℕ). HoldsNumber z m) s.known held)
-        | inr stays ↦ stays_sized column m len bytes fits stays s
+        | inr stays ↦ stays_sized column m len bytes stays s
       ]
 
   -- and so can those of an entry, in columns that spell them
-  pub values_sized : (section : List ℕ) (columns : List Spec) (values : List Value) (lens : List ℕ) → length values ≡ length columns → length lens ≡ length values → ((j : ℕ) → j < length values → Fits (meant_in section (value_at values j)) (slice_index lens j)) → ((j : ℕ) → j < length values → IsSpelledBy (spec_at columns j) (meant_in section (value_at values j))) → (size : ℕ) × HaveSize section columns values lens size
-  values_sized section [] [] [] same each fit spelled = (0, refl)
-  values_sized section [] [] (l ∷ ls) same each fit spelled = absurd (omega arith)
-  values_sized section [] (v ∷ vs) lens same each fit spelled = absurd (omega arith)
-  values_sized section (c ∷ cs) [] lens same each fit spelled = absurd (omega arith)
-  values_sized section (c ∷ cs) (v ∷ vs) [] same each fit spelled = absurd (omega arith)
-  values_sized section (c ∷ cs) (v ∷ vs) (l ∷ ls) same each fit spelled =
+  pub values_sized : (section : List ℕ) (columns : List Spec) (values : List Value) (lens : List ℕ) → length values ≡ length columns → length lens ≡ length values → ((j : ℕ) → j < length values → IsSpelledBy (spec_at columns j) (meant_in section (value_at values j))) → (size : ℕ) × HaveSize section columns values lens size
+  values_sized section [] [] [] same each spelled = (0, refl)
+  values_sized section [] [] (l ∷ ls) same each spelled = absurd (omega arith)
+  values_sized section [] (v ∷ vs) lens same each spelled = absurd (omega arith)
+  values_sized section (c ∷ cs) [] lens same each spelled = absurd (omega arith)
+  values_sized section (c ∷ cs) (v ∷ vs) [] same each spelled = absurd (omega arith)
+  values_sized section (c ∷ cs) (v ∷ vs) (l ∷ ls) same each spelled =
       let (choice, bytes, s) : IsSpelledBy c (meant_in section v) = spelled 0 (omega arith) in
-      let one = value_sized c (meant_in section v) l bytes (fit 0 (omega arith)) choice s in
-      let rest = values_sized section cs vs ls (omega arith) (omega arith) (λ j a. fit (suc j) (omega arith)) (λ j a. spelled (suc j) (omega arith)) in
+      let one = value_sized c (meant_in section v) l bytes choice s in
+      let rest = values_sized section cs vs ls (omega arith) (omega arith) (λ j a. spelled (suc j) (omega arith)) in
       (one.0 + rest.0, (one.0, rest.0, one.1, rest.1, refl))

@@ -1,39 +1,43 @@
--- The new number of each reference within a unit is that of the new place of what the reference names.
-use Rattle.std.proofs.Common.{◌≡◌, ◌<◌, ◌+◌, ◌∙◌, inl, inr, ℕ, List, length, true, sym, ap, subst, refl, arith}
+-- Each slot of a unit that is written anew tells the new place of what it named.
+use Rattle.std.proofs.Common.{◌≡◌, ◌≤◌, ◌<◌, ◌+◌, ◌∙◌, inl, inr, ℕ, zero, suc, List, [], length, sym, ap, subst, refl, arith}
 use Rattle.std.specs.Prelude.{slice_index}
+use Rattle.std.specs.List.{AllZip}
 use Rattle.std.proofs.lemmas.Bool.{cases_lt}
 use Rattle.dw_base.specs.declared.fault.Reach.{Reach}
+use Rattle.expr_ops.specs.Expressions.{Operation}
+use Rattle.expr_ops.specs.Slots.{Aim, expression_aims}
+use Rattle.expr_ops.specs.Slots.Aim.{Place, Length}
 use Rattle.form_codec.specs.Forms.{Meaning}
-use Rattle.form_codec.specs.Forms.Meaning.{InUnit}
-use Rattle.form_codec.specs.Values.{meant_in}
+use Rattle.form_codec.specs.Forms.Meaning.{Expression, InUnit, InSection, SectionPlace}
 use Rattle.entry_arena.specs.Arena.{Arena, chain_end_at, value_at}
+use Rattle.entry_arena.specs.Operations.{HeldOps, ops_of, for_value}
 use Rattle.entry_arena.specs.Order.{IsInOrder}
-use Rattle.entry_read.specs.Locals.{is_local, locals_before}
+use Rattle.entry_read.specs.Slots.{value_aims, aims_before, aims_of, meaning_at, expression_bytes, operations_in}
 use Rattle.entry_read.specs.Units.{HeadAndForest}
 use Rattle.entry_read.proofs.OwnerLaws.{values_belong}
 use Rattle.entry_read.proofs.PlaceLaws.{units_lie}
 use Rattle.unit_write.specs.declared.places.Places.{Places}
 use Rattle.unit_write.specs.declared.slots.Spot.{Spot}
-use Rattle.unit_write.specs.declared.slots.Spot.TheVariants.{Entry as TheEntry, End as TheEnd}
+use Rattle.unit_write.specs.declared.slots.Spot.TheVariants.{Entry as TheEntry, End as TheEnd, Nothing as NoSpot}
 use Rattle.unit_write.specs.declared.write.NewNumbers.{NewNumbers}
-use Rattle.unit_write.specs.NewExpressions.{made_of}
-use Rattle.unit_write.specs.Slots.{IsSpotAt, spot_place, spot_at, AreSpotsOf, AreSpotNumbers}
+use Rattle.unit_write.specs.NewExpressions.{made_of, operations_anew}
+use Rattle.unit_write.specs.Slots.{IsSpotAt, IsSpotFor, IsSpotPlaced, spot_place, aims_anew, AreSpotsOf, AreSpotNumbers}
+use Rattle.unit_write.specs.Values.{renewed}
 use Rattle.value_links.specs.Sections.{debug_info, debug_abbrev}
 use Rattle.value_links.specs.Reading.{UnitRead, Linkable, Reading, declarations, unit_at, IsUnitRead}
-use Rattle.value_links.specs.World.{World, head_and_forest, Holds, IsWorldOf}
+use Rattle.value_links.specs.World.{World, head_and_forest, operations_at, Holds, IsWorldOf}
 use Rattle.value_links.proofs.EntryValues.{value_stands}
 use Rattle.value_links.proofs.Targets.{entry_once, never_both}
 use Rattle.rewriter.specs.declared.tables.NewTable.{NewTable}
 use Rattle.rewriter.specs.declared.new_places.NewPlaces.{NewPlaces}
-use Rattle.rewriter.specs.inside.Placed.{PlacesAnew, places_at, unit_in}
+use Rattle.rewriter.specs.inside.Placed.{PlacesAnew, places_at, unit_in, IsPlacedBy}
 use Rattle.rewriter.specs.inside.Numbers.{MovesTo, IsNewValue, AreNewNumbers}
+use Rattle.rewriter.proofs.Arranged.{placed_behind}
 use Rattle.rewriter.proofs.Final.{unit_reads}
+use Rattle.rewriter.proofs.MovedSlots.{AimMoves, zip_append, operations_moved, expression_aims_move}
+use Rattle.rewriter.proofs.NewExpressions.{expression_span}
 use Rattle.rewriter.proofs.Standing.{held_unit}
-
--- a reference within the unit has a number
-pub local_number : (m : Meaning) → is_local m ≡ true → (n : ℕ) × (m ≡ InUnit n)
-local_number (InUnit n) local = (n, refl)
-local_number m local = absurd (cc local)
+use Rattle.rewriter.proofs.Zips.{zip_both}
 
 -- of the codes 0 that end chains each stands at a place of its own
 end_once : (f : Arena) → IsInOrder f → (i j : ℕ) → i < length f.ends → j < length f.ends → (chain_end_at f.ends i).at ≡ (chain_end_at f.ends j).at → i ≡ j
@@ -51,27 +55,81 @@ spot_moves f order places (TheEntry id) old new here moves = elim moves [
   | inl m ↦ sym m.to ∙ ap (λ (z : ℕ). slice_index places.entries z) (entry_once f order m.id id old (m.inside, m.from) here)
   | inr m ↦ absurd (never_both f order id (chain_end_at f.ends m.number).entry old here (m.number, m.inside, ap (λ (z : ℕ). record { entry = (chain_end_at f.ends m.number).entry; at = z }) m.from))
 ]
+spot_moves f order places NoSpot old new here moves = absurd here
 spot_moves f order places (TheEnd number) old new here moves = elim moves [
   | inl m ↦ absurd (never_both f order m.id (chain_end_at f.ends number).entry old (m.inside, m.from) (number, here.0, ap (λ (z : ℕ). record { entry = (chain_end_at f.ends number).entry; at = z }) here.1))
   | inr m ↦ sym m.to ∙ ap (λ (z : ℕ). slice_index places.ends z) (end_once f order m.number number m.inside here.0 (m.from ∙ sym here.1))
 ]
 
--- each reference of a unit that was read counts to the new place of what it names
-pub read_numbers : (info abbrevs : List ℕ) (world : World) (r : Linkable) (tables : List NewTable) (places : List Places) (new_places : NewPlaces) (u : ℕ) (new : NewNumbers) (spots : List Spot) → IsUnitRead info abbrevs (unit_at r u) → AreNewNumbers world r tables places new_places u new → AreSpotsOf (head_and_forest (unit_at r u)) spots → AreSpotNumbers (unit_at r u).forest new.held.items spots (places_at places u).start (places_at places u).entries (places_at places u).ends
-read_numbers info abbrevs world r tables places new_places u new spots is numbered named k inside local =
-    let unit : UnitRead = unit_at r u in
-    let owned = values_belong info unit.head (declarations unit) unit.forest is.section is.entries in
-    let lies = units_lie info unit.head (declarations unit) unit.forest is.section is.entries in
-    let (n, means) = local_number (meant_in (unit_at r u).forest.section (value_at (unit_at r u).forest.values k)) local in
-    let (id, name, place, stands) = value_stands info abbrevs unit is owned k inside in
-    let value : IsNewValue r places new_places u id name (InUnit n) (slice_index new.held.items k) (made_of new.ends.items new.expressions.items k) =
-    subst (λ (m : Meaning). IsNewValue r places new_places u id name m (slice_index new.held.items k) (made_of new.ends.items new.expressions.items k)) means (numbered.each id k name (meant_in (unit_at r u).forest.section (value_at (unit_at r u).forest.values k)) place stands) in
-    spot_moves (unit_at r u).forest lies.order (places_at places u) (spot_at spots (locals_before (unit_at r u).forest k)) ((unit_at r u).head.at + n) ((places_at places u).start + slice_index new.held.items k) (named.each k n inside means) value
+-- what a slot tells that has moved is the place of what it names
+spot_placed : (f : Arena) → IsInOrder f → (places : PlacesAnew) (at : ℕ) (old new : Aim) (spot : Spot) → AimMoves f places at old new → IsSpotFor f at old spot → IsSpotPlaced places.start places.entries places.ends new spot
+spot_placed f order places at (Place form n) (Place other new) spot moves here = spot_moves f order places spot (at + n) (places.start + new) here moves.1
+spot_placed f order places at (Place form n) (Length fixed count) spot moves here = absurd moves
+spot_placed f order places at (Length fixed count) (Place form n) spot moves here = absurd moves
+spot_placed f order places at (Length fixed count) (Length size number) spot moves here = tt
+
+-- THE VALUES OF A UNIT
+
+module _ (info abbrevs : List ℕ) (world : World) (r : Linkable) (tables : List NewTable) (places : List Places) (new_places : NewPlaces) (u : ℕ) (new : NewNumbers) (is : IsUnitRead info abbrevs (unit_at r u)) (numbered : AreNewNumbers world r tables places new_places u new) (later : (k : ℕ) → k < length (unit_at r u).forest.entries → (places_at places u).start < slice_index (places_at places u).entries k) where
+  abbrev held : HeldOps
+  held = operations_at world.operations u
+
+  abbrev Aims : Aim → Aim → Type 0
+  Aims = AimMoves (unit_at r u).forest (places_at places u) (unit_at r u).head.at
+
+  -- a reference within the unit has the number of the new place of what it names
+  reference_moves : (k n : ℕ) → k < length (unit_at r u).forest.values → meaning_at (unit_at r u).forest k ≡ InUnit n → MovesTo (unit_at r u).forest (places_at places u) ((unit_at r u).head.at + n) ((places_at places u).start + slice_index new.held.items k)
+  reference_moves k n inside means =
+      let unit : UnitRead = unit_at r u in
+      let owned = values_belong info unit.head (declarations unit) unit.forest is.section is.entries in
+      let (id, name, place, stands) = value_stands info abbrevs unit is owned k inside in
+      subst (λ (m : Meaning). IsNewValue r places new_places u id name m (slice_index new.held.items k) (made_of new.expressions.ends.items new.expressions.bytes.items k)) means (numbered.each id k name (meaning_at (unit_at r u).forest k) place stands)
+
+  -- and the slots of an expression tell what they told
+  expression_moves : (k : ℕ) (bytes : List ℕ) → k < length (unit_at r u).forest.values → meaning_at (unit_at r u).forest k ≡ Expression bytes → AllZip Aims (expression_aims (operations_in (unit_at r u).forest (operations_at world.operations u) k)) (expression_aims (operations_anew (unit_at r u).forest (operations_at world.operations u) numbered.op_numbers k))
+  expression_moves k bytes inside means =
+      let (span, at, _) = expression_span (unit_at r u).forest.section (value_at (unit_at r u).forest.values k) bytes (sym means) in
+      let are = numbered.references k span (record { inside = inside; is = at }) in
+      let outer : List ℕ = expression_bytes (meaning_at (unit_at r u).forest k) in
+      let moved = operations_moved r places u later outer (ops_of held k) (for_value held numbered.op_numbers k) are.count are.each in
+      expression_aims_move r places u later (operations_in (unit_at r u).forest held k) (operations_anew (unit_at r u).forest held numbered.op_numbers k) moved
+
+  value_by : (m : Meaning) (new_number : ℕ) (made : List ℕ) (os news : List Operation) → ((n : ℕ) → m ≡ InUnit n → MovesTo (unit_at r u).forest (places_at places u) ((unit_at r u).head.at + n) ((places_at places u).start + new_number)) → ((bytes : List ℕ) → m ≡ Expression bytes → AllZip Aims (expression_aims os) (expression_aims news)) → AllZip Aims (value_aims m os) (value_aims (renewed new_number made m) news)
+  value_by (InUnit n) new_number made os news reference expression = ((refl, reference n refl), tt)
+  value_by (Expression bytes) new_number made os news reference expression = expression bytes refl
+  value_by (InSection n) new_number made os news reference expression = tt
+  value_by (SectionPlace n) new_number made os news reference expression = tt
+  value_by m new_number made os news reference expression = tt
+
+  -- those of the first so many values
+  pub aims_moved : (k : ℕ) → k ≤ length (unit_at r u).forest.values → AllZip (AimMoves (unit_at r u).forest (places_at places u) (unit_at r u).head.at) (aims_before (meaning_at (unit_at r u).forest) (operations_in (unit_at r u).forest (operations_at world.operations u)) k) (aims_before (λ (n : ℕ). renewed (slice_index new.held.items n) [] (meaning_at (unit_at r u).forest n)) (operations_anew (unit_at r u).forest (operations_at world.operations u) numbered.op_numbers) k)
+  aims_moved zero inside = tt
+  aims_moved (suc k) inside =
+      let f : Arena = (unit_at r u).forest in
+      zip_append Aims (aims_before (meaning_at f) (operations_in f held) k) (value_aims (meaning_at f k) (operations_in f held k)) (aims_before (λ (n : ℕ). renewed (slice_index new.held.items n) [] (meaning_at f n)) (operations_anew f held numbered.op_numbers) k) (value_aims (renewed (slice_index new.held.items k) [] (meaning_at f k)) (operations_anew f held numbered.op_numbers k)) (aims_moved k (omega (arith, inside)))
+      (value_by (meaning_at f k) (slice_index new.held.items k) [] (operations_in f held k) (operations_anew f held numbered.op_numbers k) (λ n means. reference_moves k n (omega (arith, inside)) means) (λ bytes means. expression_moves k bytes (omega (arith, inside)) means))
+
+  -- so each slot of a unit that was read tells the new place of what it names
+  pub read_numbers : (spots : List Spot) → AreSpotsOf (head_and_forest (unit_at r u)) (operations_in (unit_at r u).forest (operations_at world.operations u)) spots → AreSpotNumbers (unit_at r u).forest (operations_at world.operations u) new.held.items numbered.op_numbers spots (places_at places u).start (places_at places u).entries (places_at places u).ends
+  read_numbers spots named =
+      let f : Arena = (unit_at r u).forest in
+      let lies = units_lie info (unit_at r u).head (declarations (unit_at r u)) f is.section is.entries in
+      zip_both Aims (IsSpotFor f (unit_at r u).head.at) (IsSpotPlaced (places_at places u).start (places_at places u).entries (places_at places u).ends) (spot_placed f lies.order (places_at places u) (unit_at r u).head.at) (aims_of f (operations_in f held)) (aims_anew f held new.held.items numbered.op_numbers) spots (aims_moved (length f.values) (omega arith)) named
+
+-- what is known of the unit that is held
+module _ (file : List ℕ) (world : World) (r : Reading) (tables : List NewTable) (places : List Places) (u : ℕ) (holds : Holds file world r) (p : IsPlacedBy world tables u (places_at places u)) where
+  -- its entries stand behind its first byte
+  pub entries_later : (k : ℕ) → k < length (unit_at r.links u).forest.entries → (places_at places u).start < slice_index (places_at places u).entries k
+  entries_later =
+      subst (λ (h : HeadAndForest). (k : ℕ) → k < length h.forest.entries → (places_at places u).start < slice_index (places_at places u).entries k) (held_unit file world r u holds) (placed_behind (unit_in world.units u) _ _ _ _ (places_at places u).start (places_at places u).entries (places_at places u).ends (places_at places u).end p.placed)
+
+  pub named_there : AreSpotsOf (head_and_forest (unit_at r.links u)) (operations_in (unit_at r.links u).forest (operations_at world.operations u)) p.spots
+  named_there = subst (λ (h : HeadAndForest). AreSpotsOf h (operations_in h.forest (operations_at world.operations u)) p.spots) (held_unit file world r u holds) p.named
 
 -- the same of the unit that is held
-pub spot_numbers : (file : List ℕ) (world : World) (reach : Reach) (r : Reading) (tables : List NewTable) (places : List Places) (new_places : NewPlaces) (u : ℕ) (new : NewNumbers) (spots : List Spot) → IsWorldOf world.image reach world → Holds file world r → u < length world.units → AreNewNumbers world r.links tables places new_places u new → AreSpotsOf (unit_in world.units u) spots → AreSpotNumbers (unit_in world.units u).forest new.held.items spots (places_at places u).start (places_at places u).entries (places_at places u).ends
-spot_numbers file world reach r tables places new_places u new spots is holds known numbered named =
+pub spot_numbers : (file : List ℕ) (world : World) (reach : Reach) (r : Reading) (tables : List NewTable) (places : List Places) (new_places : NewPlaces) (u : ℕ) (new : NewNumbers) → IsWorldOf world.image reach world → (holds : Holds file world r) → u < length world.units → (numbered : AreNewNumbers world r.links tables places new_places u new) → (p : IsPlacedBy world tables u (places_at places u)) → AreSpotNumbers (unit_in world.units u).forest (operations_at world.operations u) new.held.items numbered.op_numbers p.spots (places_at places u).start (places_at places u).entries (places_at places u).ends
+spot_numbers file world reach r tables places new_places u new is holds known numbered p =
     let same : unit_in world.units u ≡ head_and_forest (unit_at r.links u) = held_unit file world r u holds in
     let read : IsUnitRead (debug_info world.image) (debug_abbrev world.image) (unit_at r.links u) = unit_reads file world r u reach is holds known in
-    let there : AreSpotsOf (head_and_forest (unit_at r.links u)) spots = subst (λ (h : HeadAndForest). AreSpotsOf h spots) same named in
-    subst (λ (h : HeadAndForest). AreSpotNumbers h.forest new.held.items spots (places_at places u).start (places_at places u).entries (places_at places u).ends) (sym same) (read_numbers (debug_info world.image) (debug_abbrev world.image) world r.links tables places new_places u new spots read numbered there)
+    subst (λ (h : HeadAndForest). AreSpotNumbers h.forest (operations_at world.operations u) new.held.items numbered.op_numbers p.spots (places_at places u).start (places_at places u).entries (places_at places u).ends) (sym same)
+    (read_numbers (debug_info world.image) (debug_abbrev world.image) world r.links tables places new_places u new read numbered (entries_later file world r tables places u holds p) p.spots (named_there file world r tables places u holds p))

@@ -1,20 +1,13 @@
 -- What the writer of expressions asks of a unit that is held.
-use Rattle.std.proofs.Common.{◌≡◌, ◌≤◌, ◌<◌, ◌+◌, ◌*◌, ◌^◌, ◌∙◌, ℕ, List, [], length, false, slice_index, get_or, sym, ap, refl, subst, arith}
+use Rattle.std.proofs.Common.{◌≡◌, ◌≤◌, ◌<◌, ◌*◌, ◌^◌, ◌∙◌, ℕ, List, [], length, slice_index, get_or, sym, ap, refl, subst, arith}
 use Rattle.std.proofs.lemmas.List.{get_or_read}
 use Rattle.dw_base.specs.declared.fault.Reach.TheVariants.{Narrow}
-use Rattle.form_codec.specs.declared.value.Value.{Value}
-use Rattle.form_codec.specs.Values.{meant_in}
-use Rattle.entry_arena.specs.Arena.{Arena, value_at}
 use Rattle.entry_arena.specs.Operations.{HeldOps}
-use Rattle.entry_read.specs.Locals.{is_local}
 use Rattle.entry_read.specs.Expressions.{HasOperations}
 use Rattle.entry_read.specs.Units.{HeadAndForest}
-use Rattle.unit_write.specs.Lens.{AreLensFor}
-use Rattle.unit_write.specs.NewExpressions.{begin_of, lens_of, AreEndsFor, ArePlainEnds}
-use Rattle.unit_write.proofs.EndLaws.{lens_len, len_at}
 use Rattle.value_links.specs.Sections.{debug_info, info_name}
 use Rattle.value_links.specs.World.{World, operations_at, IsWorldOf}
-use Rattle.rewriter.specs.inside.Placed.{unit_in, AreEndsIn}
+use Rattle.rewriter.specs.inside.Placed.{unit_in}
 use Rattle.rewriter.proofs.DebugSizes.{debug_short}
 use Rattle.rewriter.proofs.Standing.{held_unit}
 use Rattle.rewriter.proofs.Final.{unit_reads}
@@ -23,18 +16,8 @@ use Rattle.rewriter.proofs.Final.{unit_reads}
 pub number_read : (world : World) (u : ℕ) (table_of : List ℕ) (i : ℕ) → u < length world.table_of → table_of ≡ world.table_of → i ≡ get_or table_of u i → i ≡ slice_index world.table_of u
 number_read world u table_of i inside same is = get_or_read world.table_of u i inside (subst (λ (z : List ℕ). i ≡ get_or z u i) same is) 0
 
--- how long the new expressions are, where no reference within the unit has a byte
-pub plain_lens : (f : Arena) (ends : List ℕ) → AreEndsFor f ends → AreLensFor f (lens_of ends)
-plain_lens f ends h = record {
-  each = lens_len 0 ends ∙ h.rise.each;
-  few = λ k span is. let few : slice_index ends k ≤ begin_of ends k + 3 * span.len = h.few k span is in omega (arith, len_at ends k, few);
-  narrow = λ k inside local.
-      let none : slice_index ends k ≡ begin_of ends k = h.none k inside (λ span is. let other : is_local (meant_in f.section (value_at f.values k)) ≡ false = ap (λ (v : Value). is_local (meant_in f.section v)) is.is in absurd (cc (local, other))) in
-      omega (arith, len_at ends k, none);
-}
-
 -- the section of a unit within the narrow limits
-unit_short : (world : World) (u : ℕ) → IsWorldOf world.image Narrow world → u < length world.units → length (unit_in world.units u).forest.section ≤ 2 ^ 28
+pub unit_short : (world : World) (u : ℕ) → IsWorldOf world.image Narrow world → u < length world.units → length (unit_in world.units u).forest.section ≤ 2 ^ 28
 unit_short world u is known =
     let read = unit_reads world.image world is.r u Narrow is is.holds known in
     let same : (unit_in world.units u).forest.section ≡ debug_info world.image = ap (λ (h : HeadAndForest). h.forest.section) (held_unit world.image world is.r u is.holds) ∙ read.section in
@@ -53,8 +36,3 @@ module _ (world : World) (u : ℕ) (own : HeadAndForest) (operations : HeldOps) 
   -- the new expressions of a section within the narrow limits fit 32 bits
   pub section_room : 3 * length own.forest.section < 2 ^ 32
   section_room = subst (λ (h : HeadAndForest). 3 * length h.forest.section < 2 ^ 32) (sym own_is) (let short : length (unit_in world.units u).forest.section ≤ 2 ^ 28 = unit_short world u is known in omega (arith, short))
-
-  -- the ends that were found are those of the unit
-  pub ends_in : (ends : List ℕ) → ArePlainEnds own.forest operations ends → AreEndsIn world u ends
-  ends_in ends are =
-      subst (λ (h : HeadAndForest). ArePlainEnds h.forest (operations_at world.operations u) ends) own_is (subst (λ (o : HeldOps). ArePlainEnds own.forest o ends) operations_are are)

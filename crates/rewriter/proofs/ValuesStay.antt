@@ -132,14 +132,14 @@ module _ {file : List ℕ} {world : World} {tables : List NewTable} {places : Li
       ap (λ (z : List Value). meant_in (unit_at s.links u).forest.section (value_at z k)) (values_are all u id inside known) ∙ values_mean all u id inside k k_in
 
   -- what an old value becomes
-  numbered_as : (u id number name : ℕ) (meaning : Meaning) (place : ℕ) (inside : u < length r.links.units) → HasValueAt (unit_at r.links u) id number name meaning place → IsNewValue r.links places new_places u id name meaning (slice_index (moved all u inside).numbers.held.items number) (made_of (moved all u inside).numbers.ends.items (moved all u inside).numbers.expressions.items number)
+  numbered_as : (u id number name : ℕ) (meaning : Meaning) (place : ℕ) (inside : u < length r.links.units) → HasValueAt (unit_at r.links u) id number name meaning place → IsNewValue r.links places new_places u id name meaning (slice_index (moved all u inside).numbers.held.items number) (made_of (moved all u inside).numbers.expressions.ends.items (moved all u inside).numbers.expressions.bytes.items number)
   numbered_as u id number name meaning place inside h = (moved all u inside).numbered.each id number name meaning place h
 
   pub value_went : (u id number name : ℕ) (meaning : Meaning) (place : ℕ) → u < length r.links.units → HasValueAt (unit_at r.links u) id number name meaning place → (new : Meaning) × (now : ℕ) × HasValueAt (unit_at s.links u) id number name new now × IsMovedValue u id name meaning new
   value_went u id number name meaning place inside h =
       let v = value_of (unit_at r.links u) id number name meaning place h in
       let held : ℕ = slice_index (moved all u inside).numbers.held.items number in
-      let made : List ℕ = made_of (moved all u inside).numbers.ends.items (moved all u inside).numbers.expressions.items number in
+      let made : List ℕ = made_of (moved all u inside).numbers.expressions.ends.items (moved all u inside).numbers.expressions.bytes.items number in
       let same = same_declared all u id inside v.known in
       let means : meant_in (unit_at s.links u).forest.section (value_at (values_of (unit_at s.links u) id) v.k) ≡ renewed held made meaning =
       same_meant u id inside v.known v.k v.value_in
@@ -164,7 +164,7 @@ module _ {file : List ℕ} {world : World} {tables : List NewTable} {places : Li
       let same = same_declared all u id inside known in
       let old : Meaning = meant_in (unit_at r.links u).forest.section (value_at (values_of (unit_at r.links u) id) v.k) in
       let held : ℕ = slice_index (moved all u inside).numbers.held.items number in
-      let made : List ℕ = made_of (moved all u inside).numbers.ends.items (moved all u inside).numbers.expressions.items number in
+      let made : List ℕ = made_of (moved all u inside).numbers.expressions.ends.items (moved all u inside).numbers.expressions.bytes.items number in
       let column_in : v.k < length (declaration_of (unit_at r.links u) id).columns = subst (λ (z : ℕ). v.k < z) same.named.count v.column_in in
       let value_in : v.k < length (values_of (unit_at r.links u) id) = subst (λ (z : ℕ). v.k < z) (values_count u id inside known) v.value_in in
       let numbered : number ≡ (entry_of (unit_at r.links u) id).first + v.k = v.numbered ∙ ap (λ (z : ℕ). z + v.k) (entry_moved all u id inside known).first in

@@ -2,9 +2,6 @@
 use Rattle.std.proofs.Common.{◌≡◌, ◌≤◌, ◌<◌, ◌+◌, ◌-◌, ◌∙◌, ℕ, List, [], length, sym, ap, subst, refl, arith}
 use Rattle.std.specs.Prelude.{slice_index}
 use Rattle.dw_base.specs.declared.fault.Reach.TheVariants.{Wide}
-use Rattle.dw_base.specs.declared.fault.Span.{Span}
-use Rattle.form_codec.specs.declared.value.Value.{Value}
-use Rattle.form_codec.specs.declared.value.Value.TheVariants as value
 use Rattle.form_codec.specs.Forms.{Meaning}
 use Rattle.form_codec.specs.Forms.Meaning.{Expression, InUnit, InSection, SectionPlace}
 use Rattle.form_codec.specs.Values.{bytes_in, meant_in}
@@ -12,7 +9,7 @@ use Rattle.abbrev_tables.specs.Listings.{spec_at}
 use Rattle.expr_ops.specs.Expressions.{IsExpression}
 use Rattle.expr_ops.specs.Ops.{all_meant}
 use Rattle.expr_ops.specs.Drafts.{with_refs}
-use Rattle.expr_ops.specs.Plain.{IsWrittenPlain}
+use Rattle.expr_ops.specs.Shortest.{IsWrittenShortest}
 use Rattle.entry_arena.specs.Arena.{value_at}
 use Rattle.unit_write.specs.declared.places.Places.{Places}
 use Rattle.unit_write.specs.NewExpressions.{made_of, refs_among}
@@ -28,6 +25,7 @@ use Rattle.rewriter.specs.inside.Numbers.{IsNewValue, IsNewExpression}
 use Rattle.rewriter.specs.inside.Follows.{AreReadAnew, ExpressionsAreWide, ExpressionsAreTidy}
 use Rattle.rewriter.proofs.Meant.{owners, values_size, value_same}
 use Rattle.rewriter.proofs.MovedEntries.{moved}
+use Rattle.rewriter.proofs.NewExpressions.{expression_span}
 use Rattle.rewriter.proofs.ValuesStay.{IsValueOf, value_there, old_read}
 
 -- MEANINGS
@@ -37,17 +35,12 @@ bytes_of (Expression bytes) = bytes
 bytes_of meaning = []
 
 -- a value that is renewed is an expression where the old one is
-was_expression : (new : ℕ) (made bytes : List ℕ) (meaning : Meaning) → renewed new made meaning ≡ Expression bytes → (old : List ℕ) × (meaning ≡ Expression old) × (made ≡ bytes)
+pub was_expression : (new : ℕ) (made bytes : List ℕ) (meaning : Meaning) → renewed new made meaning ≡ Expression bytes → (old : List ℕ) × (meaning ≡ Expression old) × (made ≡ bytes)
 was_expression new made bytes (Expression old) e = (old, refl, ap bytes_of e)
 was_expression new made bytes (InUnit n) e = absurd (cc (e))
 was_expression new made bytes (InSection n) e = absurd (cc (e))
 was_expression new made bytes (SectionPlace n) e = absurd (cc (e))
 was_expression new made bytes meaning e = absurd (cc (e))
-
--- and its bytes are those of a span
-spanned : (section bytes : List ℕ) (v : Value) → meant_in section v ≡ Expression bytes → (span : Span) × (v ≡ value.Expr span) × (bytes_in section span ≡ bytes)
-spanned section bytes (value.Expr span) e = (span, refl, ap bytes_of e)
-spanned section bytes v e = absurd (cc (e))
 
 -- VALUES BY THEIR NUMBERS
 
@@ -86,12 +79,12 @@ stands_somewhere info abbrevs unit number is inside =
 
 module _ {file : List ℕ} {world : World} {tables : List NewTable} {places : List Places} {new_places : NewPlaces} {info abbrevs : List ℕ} {r s : Reading} (all : AreReadAnew file world tables places new_places info abbrevs r s) where
   -- an expression is written anew
-  new_expression : (u number : ℕ) (inside : u < length r.links.units) → number < length (unit_at r.links u).forest.values → (bytes : List ℕ) → meant_in (unit_at r.links u).forest.section (value_at (unit_at r.links u).forest.values number) ≡ Expression bytes → IsNewExpression r.links places u bytes (made_of (moved all u inside).numbers.ends.items (moved all u inside).numbers.expressions.items number)
+  new_expression : (u number : ℕ) (inside : u < length r.links.units) → number < length (unit_at r.links u).forest.values → (bytes : List ℕ) → meant_in (unit_at r.links u).forest.section (value_at (unit_at r.links u).forest.values number) ≡ Expression bytes → IsNewExpression r.links places u bytes (made_of (moved all u inside).numbers.expressions.ends.items (moved all u inside).numbers.expressions.bytes.items number)
   new_expression u number inside known bytes meant =
       let m = moved all u inside in
       let v = stands_somewhere _ _ (unit_at r.links u) number (old_read all u inside) known in
-      let is : IsNewValue r.links places new_places u v.id v.name (meant_in (unit_at r.links u).forest.section (value_at (unit_at r.links u).forest.values number)) (slice_index m.numbers.held.items number) (made_of m.numbers.ends.items m.numbers.expressions.items number) = m.numbered.each v.id number v.name (meant_in (unit_at r.links u).forest.section (value_at (unit_at r.links u).forest.values number)) v.place v.stands in
-      subst (λ (z : Meaning). IsNewValue r.links places new_places u v.id v.name z (slice_index m.numbers.held.items number) (made_of m.numbers.ends.items m.numbers.expressions.items number)) meant is
+      let is : IsNewValue r.links places new_places u v.id v.name (meant_in (unit_at r.links u).forest.section (value_at (unit_at r.links u).forest.values number)) (slice_index m.numbers.held.items number) (made_of m.numbers.expressions.ends.items m.numbers.expressions.bytes.items number) = m.numbered.each v.id number v.name (meant_in (unit_at r.links u).forest.section (value_at (unit_at r.links u).forest.values number)) v.place v.stands in
+      subst (λ (z : Meaning). IsNewValue r.links places new_places u v.id v.name z (slice_index m.numbers.held.items number) (made_of m.numbers.expressions.ends.items m.numbers.expressions.bytes.items number)) meant is
 
   expressions_wide : AreExpressionsWithin s.links Wide
   expressions_wide u number span now_in is =
@@ -99,7 +92,7 @@ module _ {file : List ℕ} {world : World} {tables : List NewTable} {places : Li
       let m = moved all u inside in
       let known : number < length (unit_at r.links u).forest.values = subst (λ (z : ℕ). number < z) m.values.count is.inside in
       let now : meant_in (unit_at s.links u).forest.section (value_at (unit_at s.links u).forest.values number) ≡ Expression (bytes_in (unit_at s.links u).forest.section span) = ap (meant_in (unit_at s.links u).forest.section) is.is in
-      let (old, meant, made) = was_expression (slice_index m.numbers.held.items number) (made_of m.numbers.ends.items m.numbers.expressions.items number) (bytes_in (unit_at s.links u).forest.section span) (meant_in (unit_at r.links u).forest.section (value_at (unit_at r.links u).forest.values number)) (sym (m.values.each number known) ∙ now) in
+      let (old, meant, made) = was_expression (slice_index m.numbers.held.items number) (made_of m.numbers.expressions.ends.items m.numbers.expressions.bytes.items number) (bytes_in (unit_at s.links u).forest.section span) (meant_in (unit_at r.links u).forest.section (value_at (unit_at r.links u).forest.values number)) (sym (m.values.each number known) ∙ now) in
       let e = new_expression u number inside known old meant in
       (with_refs (refs_among e.ops e.numbers) (all_meant old e.ops), subst (IsExpression Wide (with_refs (refs_among e.ops e.numbers) (all_meant old e.ops))) made e.written.written.expression)
 
@@ -107,18 +100,18 @@ module _ {file : List ℕ} {world : World} {tables : List NewTable} {places : Li
   expressions_tidy u number old inside is =
       let m = moved all u inside in
       let bytes : List ℕ = bytes_in (unit_at r.links u).forest.section old in
-      let made : List ℕ = made_of m.numbers.ends.items m.numbers.expressions.items number in
+      let made : List ℕ = made_of m.numbers.expressions.ends.items m.numbers.expressions.bytes.items number in
       let meant : meant_in (unit_at r.links u).forest.section (value_at (unit_at r.links u).forest.values number) ≡ Expression bytes = ap (meant_in (unit_at r.links u).forest.section) is.is in
       let now : meant_in (unit_at s.links u).forest.section (value_at (unit_at s.links u).forest.values number) ≡ Expression made = m.values.each number is.inside ∙ ap (renewed (slice_index m.numbers.held.items number) made) meant in
       let e = new_expression u number inside is.inside bytes meant in
-      let (span, there, same) = spanned (unit_at s.links u).forest.section made (value_at (unit_at s.links u).forest.values number) now in
+      let (span, there, same) = expression_span (unit_at s.links u).forest.section (value_at (unit_at s.links u).forest.values number) made (sym now) in
       record {
         new = span;
         stands = record { inside = subst (λ (z : ℕ). number < z) (sym m.values.count) is.inside; is = there };
         refs = refs_among e.ops e.numbers;
         ops = e.ops;
         spelled = e.spelled;
-        written = subst (IsWrittenPlain (refs_among e.ops e.numbers) bytes e.ops) (sym same) e.written;
+        written = subst (IsWrittenShortest (refs_among e.ops e.numbers) bytes e.ops) (sym same) e.written;
       }
 
 pub expressions_are_wide : ExpressionsAreWide

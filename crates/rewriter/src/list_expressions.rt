@@ -11,7 +11,7 @@ ghost use Rattle.rewriter.specs.inside.ListNumbers.{owner_in, IsOwnedIn, AreList
 
 use crate::numbers::{entry_place, op_number};
 use dw_base::{NoMemory, Reach, Refusal};
-use expr_ops::{Named, Op, has_reference, named_by, push_expr, write_plain};
+use expr_ops::{Named, Op, has_reference, named_by, push_expr, write_shortest};
 use list_model::ListKind;
 use list_write::NewExpressions;
 use loc_lists::{bytes_of, is_item};
@@ -106,7 +106,7 @@ fn put_expression(
 {
     read_again(alloc, bytes, ops)?;
     let refs = new_references(alloc, world, places, owner, ops)?;
-    write_plain(out, ops, &refs, bytes)
+    write_shortest(out, ops, &refs, bytes)
 }
 
 /// The new expressions of the items of a list, in their order, with the numbers of references at the new places of what these name.

@@ -27,7 +27,7 @@ use form_codec::Value;
 use list_model::ListKind;
 use list_write::Moved;
 use std::alloc::Global;
-use unit_write::{NewNumbers, Places, expression_ends, write_expressions};
+use unit_write::{NewNumbers, Places, write_expressions};
 use value_links::{Link, OpLink, World};
 
 // The bytes of a contribution's header, behind which its offsets begin (DWARF 5 section 7.28).
@@ -415,8 +415,7 @@ pub fn new_numbers(
     let numbers = op_numbers(alloc, world, places, unit)?;
     let own = &world.units()[unit as usize];
     let operations = &world.operations()[unit as usize];
-    let ends = expression_ends(alloc, own, operations)?;
-    let expressions = write_expressions(alloc, own, operations, &ends, &numbers)?;
+    let expressions = write_expressions(alloc, own, operations, &numbers)?;
     let new = &places[unit as usize];
     let table = world.table_numbers()[unit as usize] as usize;
     Ok(NewNumbers {
@@ -424,7 +423,6 @@ pub fn new_numbers(
         table: tables[table].at,
         type_offset: new_type_offset(own, new),
         held,
-        ends,
         expressions,
     })
 }

@@ -10,7 +10,7 @@ use crate::spots::spots_of;
 use crate::tables::NewTable;
 use dw_base::NoMemory;
 use std::alloc::Global;
-use unit_write::{Places, expression_ends, lay_out, place_unit};
+use unit_write::{Places, lay_out, place_unit, slots_fit};
 use value_links::World;
 
 // Where the unit with a number stands, from a place on, which leaves room for it.
@@ -28,9 +28,10 @@ fn place_numbered(
     ensures placed { IfOk result (IsPlacedFrom world.now tables.now.items number start) }
     ensures most { IfOk result (λ places. places.end ≤ start + most_bytes (unit_in world.now.units number)) }
 {
+    // A law, which costs nothing: the unit has few slots.
+    slots_fit();
     let unit = &world.units()[number];
     let operations = &world.operations()[number];
-    let ends = expression_ends(alloc, unit, operations)?;
     let spots = spots_of(alloc, world, number as u32)?;
     let table = world.table_numbers()[number] as usize;
     let old = &world.tables()[table];
@@ -39,17 +40,17 @@ fn place_numbered(
     let lens = lay_out(
         alloc,
         unit,
+        operations,
         decls,
         &new.columns,
         &new.numbers,
-        &ends,
         &spots,
     )?;
     place_unit(alloc, unit, decls, &new.columns, &new.numbers, &lens, start)
 }
 
 /// Where the units of a file stand in the new .debug_info, with their entries and the codes 0 that end chains, by the new columns
-/// and codes of their tables, the references within each unit in their least sizes. There is room for them: the file is within the
+/// and codes of their tables, the slots of each unit in their least sizes. There is room for them: the file is within the
 /// narrow limits. The only error is want of memory.
 pub fn place_units(
     alloc: Global,

@@ -182,10 +182,10 @@ const CONVERTED_LOCATIONS: [u8; 34] = [
     0x10, 4, 0xa3, 1, 0x55, 0x9f, 0,
 ];
 
-// The base type stands at 0x3e now, and the reference of an expression to it has five bytes.
-const LEAST_CONVERTED_LOCATIONS: [u8; 38] = [
-    0x22, 0, 0, 0, 5, 0, 8, 0, 1, 0, 0, 0, 4, 0, 0, 0, 1, 0, 3, 0, 4, 7, 0x30, 0xa8, 0xbe, 0x80,
-    0x80, 0x80, 0, 4, 4, 0x10, 4, 0xa3, 1, 0x55, 0x9f, 0,
+// The base type stands at 0x3e now.
+const LEAST_CONVERTED_LOCATIONS: [u8; 34] = [
+    0x1e, 0, 0, 0, 5, 0, 8, 0, 1, 0, 0, 0, 4, 0, 0, 0, 1, 0, 3, 0, 4, 3, 0x30, 0xa8, 0x3e, 4, 4,
+    0x10, 4, 0xa3, 1, 0x55, 0x9f, 0,
 ];
 
 #[test]

@@ -24,7 +24,7 @@ use Rattle.entry_arena.specs.Spellings.{SpellsValues}
 use Rattle.entry_arena.proofs.SpellingLaws.{cut, values_found}
 use Rattle.entry_read.specs.Units.{declarations_of}
 use Rattle.unit_write.specs.Values.{HasSize, HaveSize}
-use Rattle.unit_write.specs.NewExpressions.{lens_of, made_of}
+use Rattle.unit_write.specs.NewExpressions.{lens_of, made_of, new_len}
 use Rattle.unit_write.specs.Placing.{columns_of, values_in, among_values, EntrySize, ArePlaced, IsRenumbered}
 use Rattle.entry_read.specs.Short.{WrittenBetween, StandsShort, EndsShort}
 use Rattle.unit_write.specs.Moved.{NewValues, IsMovedEntry, IsMovedEnd, lens_anew}
@@ -33,7 +33,7 @@ use Rattle.entry_arena.proofs.Between.{length_between}
 use Rattle.entry_arena.proofs.OnwardLaws.{walks_go_on}
 use Rattle.unit_write.proofs.EndLaws.{made_len}
 use Rattle.unit_write.proofs.LensLaws.{anew_at}
-use Rattle.unit_write.proofs.ValueLaws.{len_anew, size_written}
+use Rattle.unit_write.proofs.ValueLaws.{size_written}
 use Rattle.unit_write.proofs.PutLaws.{values_as}
 use Rattle.unit_write.proofs.ShortLaws.{renamed, values_short, entry_short, first_short, end_short}
 
@@ -45,12 +45,12 @@ values_spelled section anew i (c ∷ cs) (v ∷ vs) bytes (first, rest, w, p, e)
 
 -- the lengths of values, of which the first has a number, are those of what is written
 abbrev AreLensOf : List ℕ → NewValues → ℕ → List Value → List ℕ → Type 0
-AreLensOf section anew i vs lens = (k : ℕ) → k < length vs → get_or lens k 0 ≡ len_anew (meant_in section (value_at vs k)) (get_or anew.held (i + k) 0) (get_or (lens_of anew.ends) (i + k) 0)
+AreLensOf section anew i vs lens = (k : ℕ) → k < length vs → get_or lens k 0 ≡ new_len (meant_in section (value_at vs k)) (get_or anew.held (i + k) 0) (get_or (lens_of anew.ends) (i + k) 0)
 
 later_lens : (section : List ℕ) (anew : NewValues) (i : ℕ) (v : Value) (vs : List Value) (len : ℕ) (lens : List ℕ) → AreLensOf section anew i (v ∷ vs) (len ∷ lens) → AreLensOf section anew (suc i) vs lens
 later_lens section anew i v vs len lens each k lt =
     let same : i + suc k ≡ suc i + k = omega arith in
-    each (suc k) (omega arith) ∙ ap (λ (n : ℕ). len_anew (meant_in section (value_at vs k)) (get_or anew.held n 0) (get_or (lens_of anew.ends) n 0)) same
+    each (suc k) (omega arith) ∙ ap (λ (n : ℕ). new_len (meant_in section (value_at vs k)) (get_or anew.held n 0) (get_or (lens_of anew.ends) n 0)) same
 
 values_sized : (section : List ℕ) (anew : NewValues) (count i : ℕ) (cs : List Spec) (vs : List Value) (lens bytes : List ℕ) (size : ℕ) → AreNew anew count → i + length vs ≤ count → AreLensOf section anew i vs lens → HaveSize section cs vs lens size → PutsValues section anew i cs vs bytes → HaveSize section cs vs lens (length bytes)
 values_sized section anew count i [] [] [] bytes size new inside each has p = ap length p
@@ -60,7 +60,7 @@ values_sized section anew count i (c ∷ cs) [] lens bytes size new inside each 
 values_sized section anew count i (c ∷ cs) (v ∷ vs) [] bytes size new inside each has p = absurd has
 values_sized section anew count i (c ∷ cs) (v ∷ vs) (n ∷ lens) bytes size new inside each has (first, rest, w, p, e) =
     let m = meant_in section v in
-    let len : n ≡ len_anew m (get_or anew.held i 0) (get_or (lens_of anew.ends) i 0) = each 0 (omega arith) ∙ ap (λ (j : ℕ). len_anew m (get_or anew.held j 0) (get_or (lens_of anew.ends) j 0)) (add-zero i) in
+    let len : n ≡ new_len m (get_or anew.held i 0) (get_or (lens_of anew.ends) i 0) = each 0 (omega arith) ∙ ap (λ (j : ℕ). new_len m (get_or anew.held j 0) (get_or (lens_of anew.ends) j 0)) (add-zero i) in
     let old = subst (λ (z : ℕ). HasSize c m z has.0) len has.2 in
     let written = size_written c m (get_or anew.held i 0) (get_or (lens_of anew.ends) i 0) has.0 (made_of anew.ends anew.expressions i) first old (made_len anew count i new (omega arith)) w in
     let own : HasSize c m n (length first) = subst (λ (z : ℕ). HasSize c m z (length first)) (sym len) written in
@@ -142,7 +142,7 @@ entry_lens f anew id new inside k lt =
     let own : length (values_in f id) ≡ count = count_in f id inside in
     let below : k < count = omega arith in
     let there : value_at f.values (first + k) ≡ value_at (values_in f id) k = sym (get_or-take count (drop first f.values) k _ below ∙ get_or-drop first f.values k _) in
-    get_or-take count (drop first (lens_anew f anew)) k 0 below ∙ get_or-drop first (lens_anew f anew) k 0 ∙ anew_at f anew new.numbers new.each (first + k) (omega arith) ∙ ap (λ (v : Value). len_anew (meant_in f.section v) (get_or anew.held (first + k) 0) (get_or (lens_of anew.ends) (first + k) 0)) there
+    get_or-take count (drop first (lens_anew f anew)) k 0 below ∙ get_or-drop first (lens_anew f anew) k 0 ∙ anew_at f anew new.numbers new.each (first + k) (omega arith) ∙ ap (λ (v : Value). new_len (meant_in f.section v) (get_or anew.held (first + k) 0) (get_or (lens_of anew.ends) (first + k) 0)) there
 
 entry_sized : (table : Listing) (columns : List Spec) (numbers : List ℕ) (anew : NewValues) (f : Arena) (id size : ℕ) (bytes : List ℕ) → AreNew anew (length f.values) → (entry_at f.entries id).first + (entry_at f.entries id).count ≤ length f.values → EntrySize table columns numbers f (lens_anew f anew) id size → PutsEntry table columns numbers anew f id bytes → EntrySize table columns numbers f (lens_anew f anew) id (length bytes)
 entry_sized table columns numbers anew f id size bytes new inside has p =

@@ -12,7 +12,8 @@ use Rattle.expr_ops.specs.Drafts.{has_reference}
 use Rattle.expr_ops.specs.Expressions.{IsExpression}
 use Rattle.expr_ops.specs.Ops.{all_meant}
 use Rattle.expr_ops.specs.Puts.{Adds}
-use Rattle.expr_ops.specs.Plain.{plain_length, IsWrittenPlain}
+use Rattle.expr_ops.specs.Shortest.{shortest_length, IsWrittenShortest}
+use Rattle.expr_ops.specs.Bounds.{ShortestIsFew}
 use Rattle.form_codec.specs.declared.value.Value.{Value}
 use Rattle.form_codec.specs.declared.value.Value.TheVariants as value
 use Rattle.form_codec.specs.Values.{bytes_in, LiesIn}
@@ -20,8 +21,8 @@ use Rattle.entry_arena.specs.Arena.{Arena, value_at}
 use Rattle.entry_arena.specs.Operations.{HeldOps, ops_of}
 use Rattle.entry_arena.specs.Order.{IsInOrder, ComesBefore}
 use Rattle.entry_read.specs.Expressions.{IsExprAt, HasOperations}
-use Rattle.unit_write.specs.NewExpressions.{begin_of, made_of, refs_among, refs_of, ArePlainEnds, AreWrittenPlain}
-use Rattle.unit_write.specs.inside.Expressions.{IsNone, IsPlainLen, PutsExpression}
+use Rattle.unit_write.specs.NewExpressions.{begin_of, made_of, refs_among, refs_of, AreEndsFor}
+use Rattle.unit_write.specs.inside.Expressions.{IsNone, PutsExpression}
 use Rattle.unit_write.proofs.FewLaws.{expr_or_other}
 
 -- REFERENCES
@@ -90,7 +91,7 @@ begin_push ends e zero lt = refl
 begin_push ends e (suc k) lt = get_or_append_left ends (e ∷ []) 0 k (omega arith)
 
 -- the value stands at a place before those behind it
-span_before : (f : Arena) (i j : ℕ) (s t : Span) → IsInOrder f → i < j → IsExprAt f i s → IsExprAt f j t → s.at + s.len ≤ t.at
+pub span_before : (f : Arena) (i j : ℕ) (s t : Span) → IsInOrder f → i < j → IsExprAt f i s → IsExprAt f j t → s.at + s.len ≤ t.at
 span_before f i j s t order lt a b =
     let before : ComesBefore (value_at f.values i) (value_at f.values j) = order.spans.rising i j lt b.inside in
     let first = subst (λ (v : Value). ComesBefore v (value_at f.values j)) a.is before in
@@ -100,32 +101,42 @@ span_before f i j s t order lt a b =
 pub span_inside : (f : Arena) (k : ℕ) (s : Span) → IsInOrder f → IsExprAt f k s → s.at + s.len ≤ length f.section
 span_inside f k s order a = subst (λ (v : Value). LiesIn (length f.section) v) a.is (order.spans.inside k a.inside)
 
--- the ends of the first n values are found
-pub record EndsFound (f : Arena) (held : HeldOps) (ends : List ℕ) (n end : ℕ) : Type 0 where
+-- made of so many bytes from a place on, the bytes of a value stay where more follow
+made_more : (out more : List ℕ) (begin end : ℕ) → begin ≤ end → end ≤ length out → take (end - begin) (drop begin (out ++ more)) ≡ take (end - begin) (drop begin out)
+made_more out more begin end rising inside =
+    let rest : length (drop begin out) ≡ length out - begin = length-drop begin out in
+    ap (take (end - begin)) (drop-append-le begin out more (omega arith)) ∙ take-append-le (end - begin) (drop begin out) more (omega arith)
+
+-- those that were put last
+made_last : (out more : List ℕ) (begin end : ℕ) → length out ≡ begin → end ≡ begin + length more → take (end - begin) (drop begin (out ++ more)) ≡ more
+made_last out more begin end before size = ap (take (end - begin)) (drop_at out more begin before) ∙ take_all (end - begin) more (omega arith)
+
+-- the expressions of the first n values are written, and these are their ends
+pub record ExpressionsPut (f : Arena) (held : HeldOps) (numbers : List ℕ) (n : ℕ) (ends out : List ℕ) : Type 0 where
   pub within : n ≤ length f.values
   pub count : length ends ≡ n
-  pub last : end ≡ begin_of ends n
+  pub last : length out ≡ begin_of ends n
   pub place : ℕ
   pub inside : place ≤ length f.section
-  pub most : end ≤ 3 * place
+  pub most : length out ≤ 3 * place
   pub behind : (k : ℕ) (span : Span) → n ≤ k → IsExprAt f k span → place ≤ span.at
   pub rising : (k : ℕ) → k < n → begin_of ends k ≤ get_or ends k 0
-  pub below : (k : ℕ) → k < n → get_or ends k 0 ≤ end
-  pub plain : (k : ℕ) (span : Span) → k < n → IsExprAt f k span → get_or ends k 0 ≡ begin_of ends k + plain_length (all_meant (bytes_in f.section span) (ops_of held k))
+  pub below : (k : ℕ) → k < n → get_or ends k 0 ≤ length out
   pub few : (k : ℕ) (span : Span) → k < n → IsExprAt f k span → get_or ends k 0 ≤ begin_of ends k + 3 * span.len
   pub none : (k : ℕ) → k < n → IsNone f k → get_or ends k 0 ≡ begin_of ends k
+  pub each : (k : ℕ) (span : Span) → k < n → IsExprAt f k span → IsWrittenShortest (refs_of held numbers k) (bytes_in f.section span) (ops_of held k) (made_of ends out k)
 
--- where the bytes of values end that are behind another
-record IsBehind (f : Arena) (n end : ℕ) : Type 0 where
+-- so many bytes are not too many for the values before a place
+record IsBehind (f : Arena) (n size : ℕ) : Type 0 where
   place : ℕ
   inside : place ≤ length f.section
-  most : end ≤ 3 * place
+  most : size ≤ 3 * place
   behind : (k : ℕ) (span : Span) → n ≤ k → IsExprAt f k span → place ≤ span.at
 
-module _ (f : Arena) (held : HeldOps) where
-  pub none_found : (ends : List ℕ) → ends ≡ [] → EndsFound f held ends 0 0
-  none_found ends is =
-      subst (λ (z : List ℕ). EndsFound f held z 0 0) (sym is) (record {
+module _ (f : Arena) (held : HeldOps) (numbers : List ℕ) where
+  pub none_put : (ends out : List ℕ) → ends ≡ [] → out ≡ [] → ExpressionsPut f held numbers 0 ends out
+  none_put ends out no_ends no_bytes =
+      let none : ExpressionsPut f held numbers 0 [] [] = record {
         within = omega arith;
         count = refl;
         last = refl;
@@ -135,66 +146,68 @@ module _ (f : Arena) (held : HeldOps) where
         behind = λ k span lt is. omega arith;
         rising = λ k lt. absurd (omega arith);
         below = λ k lt. absurd (omega arith);
-        plain = λ k span lt is. absurd (omega arith);
         few = λ k span lt is. absurd (omega arith);
         none = λ k lt is. absurd (omega arith);
-      })
+        each = λ k span lt is. absurd (omega arith);
+      } in
+      subst (λ (z : List ℕ). ExpressionsPut f held numbers 0 z out) (sym no_ends) (subst (λ (z : List ℕ). ExpressionsPut f held numbers 0 [] z) (sym no_bytes) none)
 
-  pub all_found : (ends : List ℕ) (n end : ℕ) → length f.values ≤ n → EndsFound f held ends n end → ArePlainEnds f held ends
-  all_found ends n end all h =
+  pub all_ends : (n : ℕ) (ends out : List ℕ) → length f.values ≤ n → ExpressionsPut f held numbers n ends out → AreEndsFor f ends
+  all_ends n ends out all h =
       let same : length f.values ≡ n = let within : n ≤ length f.values = h.within in omega arith in
       let place : h.place ≤ length f.section = h.inside in
-      let most : end ≤ 3 * h.place = h.most in
+      let most : length out ≤ 3 * h.place = h.most in
       record {
-        fit = record {
-          rise = record {
-            each = h.count ∙ sym same;
-            rising = λ k lt. h.rising k (omega arith);
-            inside = λ k lt. let below : get_or ends k 0 ≤ end = h.below k (omega arith) in omega arith;
-          };
-          few = λ k span is. h.few k span (let lt : k < length f.values = is.inside in omega arith) is;
-          none = λ k lt other. h.none k (omega arith) other;
+        rise = record {
+          each = h.count ∙ sym same;
+          rising = λ k lt. h.rising k (omega arith);
+          inside = λ k lt. let below : get_or ends k 0 ≤ length out = h.below k (omega arith) in omega arith;
         };
-        plain = λ k span is. h.plain k span (let lt : k < length f.values = is.inside in omega arith) is;
+        few = λ k span is. h.few k span (let lt : k < length f.values = is.inside in omega arith) is;
+        none = λ k lt other. h.none k (omega arith) other;
       }
 
-module _ (f : Arena) (held : HeldOps) (order : IsInOrder f) where
-  next_place : (ends : List ℕ) (n end len : ℕ) → n < length f.values → EndsFound f held ends n end → IsPlainLen f held n len → IsBehind f (n + 1) (end + len)
-  next_place ends n end len lt h own =
+module _ (f : Arena) (held : HeldOps) (numbers : List ℕ) (order : IsInOrder f) (n : ℕ) (ends out new : List ℕ) (lt : n < length f.values) (h : ExpressionsPut f held numbers n ends out) (p : PutsExpression f held numbers n out new) where
+  long : length new ≡ length out + length p.made
+  long = ap length p.behind ∙ length-append out p.made
+
+  next_place : IsBehind f (n + 1) (length new)
+  next_place =
+      let size = long in
+      let most : length out ≤ 3 * h.place = h.most in
       elim (expr_or_other f n lt) [
         | inl e ↦
             let s : Span = e.0 in
             let before : h.place ≤ s.at = h.behind n s (omega arith) e.1 in
-            let few : len ≤ 3 * s.len = own.few s e.1 in
-            let most : end ≤ 3 * h.place = h.most in
+            let few : length p.made ≤ 3 * s.len = p.few s e.1 in
             record {
               place = s.at + s.len;
               inside = span_inside f n s order e.1;
-              most = omega arith;
+              most = omega (arith, size, most, before, few);
               behind = λ k span later is. span_before f n k s span order (omega arith) e.1 is;
             }
         | inr none ↦
-            let size : len ≡ 0 = own.none none in
-            let most : end ≤ 3 * h.place = h.most in
-            record { place = h.place; inside = h.inside; most = omega arith; behind = λ k span later is. h.behind k span (omega arith) is }
+            let empty : length p.made ≡ 0 = ap length (p.none none) in
+            record { place = h.place; inside = h.inside; most = omega (arith, size, most, empty); behind = λ k span later is. h.behind k span (omega arith) is }
       ]
 
-  -- so none is past three times the section's bytes
-  pub next_below : (ends : List ℕ) (n end len : ℕ) → n < length f.values → EndsFound f held ends n end → IsPlainLen f held n len → end + len ≤ 3 * length f.section
-  next_below ends n end len lt h own =
-      let b = next_place ends n end len lt h own in
-      let most : end + len ≤ 3 * b.place = b.most in
+  -- so they are no more than three times the section's
+  pub next_below : length new ≤ 3 * length f.section
+  next_below =
+      let b = next_place in
+      let most : length new ≤ 3 * b.place = b.most in
       let inside : b.place ≤ length f.section = b.inside in
       omega arith
 
   -- what is true of the ends before and of the new one is true of all
-  all_ends : (Q : ℕ → ℕ → ℕ → Type 0) (ends : List ℕ) (n e : ℕ) → length ends ≡ n → ((k : ℕ) → k < n → Q k (begin_of ends k) (get_or ends k 0)) → Q n (begin_of ends n) e → (k : ℕ) → k < n + 1 → Q k (begin_of (ends ++ e ∷ []) k) (get_or (ends ++ e ∷ []) k 0)
-  all_ends Q ends n e count before own k lt =
+  each_end : (Q : ℕ → ℕ → ℕ → Type 0) (e : ℕ) → ((k : ℕ) → k < n → Q k (begin_of ends k) (get_or ends k 0)) → Q n (begin_of ends n) e → (k : ℕ) → k < n + 1 → Q k (begin_of (ends ++ e ∷ []) k) (get_or (ends ++ e ∷ []) k 0)
+  each_end Q e before own k less =
+      let count : length ends ≡ n = h.count in
       let begin : begin_of (ends ++ e ∷ []) k ≡ begin_of ends k = begin_push ends e k (omega arith) in
       elim (cases_lt k n) [
-        | inl less ↦
+        | inl earlier ↦
             let end : get_or (ends ++ e ∷ []) k 0 ≡ get_or ends k 0 = get_or_append_left ends (e ∷ []) 0 k (omega arith) in
-            let first = subst (λ (z : ℕ). Q k z (get_or ends k 0)) (sym begin) (before k less) in
+            let first = subst (λ (z : ℕ). Q k z (get_or ends k 0)) (sym begin) (before k earlier) in
             subst (λ (z : ℕ). Q k (begin_of (ends ++ e ∷ []) k) z) (sym end) first
         | inr more ↦
             let same : k ≡ n = omega arith in
@@ -204,100 +217,27 @@ module _ (f : Arena) (held : HeldOps) (order : IsInOrder f) where
             subst (λ (z : ℕ). Q k (begin_of (ends ++ e ∷ []) k) z) (sym end) first
       ]
 
-  pub more_found : (ends new : List ℕ) (n end len e : ℕ) → n < length f.values → EndsFound f held ends n end → IsPlainLen f held n len → e ≡ end + len → new ≡ ends ++ e ∷ [] → EndsFound f held new (n + 1) e
-  more_found ends new n end len e lt h own is pushed =
-      let b = next_place ends n end len lt h own in
-      let last : end ≡ begin_of ends n = h.last in
-      subst (λ (z : List ℕ). EndsFound f held z (n + 1) e) (sym pushed) (record {
+  pub more_put : (others : List ℕ) (e : ℕ) → e ≡ length new → others ≡ ends ++ e ∷ [] → ExpressionsPut f held numbers (n + 1) others new
+  more_put others e is pushed =
+      let b = next_place in
+      let size = long in
+      let last : length out ≡ begin_of ends n = h.last in
+      let kept : (k : ℕ) → k < n → take (get_or ends k 0 - begin_of ends k) (drop (begin_of ends k) new) ≡ made_of ends out k = λ k less. ap (λ (z : List ℕ). take (get_or ends k 0 - begin_of ends k) (drop (begin_of ends k) z)) p.behind ∙ made_more out p.made (begin_of ends k) (get_or ends k 0) (h.rising k less) (h.below k less) in
+      let own : take (e - begin_of ends n) (drop (begin_of ends n) new) ≡ p.made = ap (λ (z : List ℕ). take (e - begin_of ends n) (drop (begin_of ends n) z)) p.behind ∙ made_last out p.made (begin_of ends n) e last (omega (arith, is, size, last)) in
+      subst (λ (z : List ℕ). ExpressionsPut f held numbers (n + 1) z new) (sym pushed) (record {
         within = omega arith;
         count = length_push ends e ∙ ap (λ (z : ℕ). z + 1) h.count;
-        last = sym (subst (λ (z : ℕ). get_or (0 ∷ (ends ++ e ∷ [])) z 0 ≡ e) (sym (add-one n)) (get_or_push ends e 0 n h.count));
+        last = sym (subst (λ (z : ℕ). get_or (0 ∷ (ends ++ e ∷ [])) z 0 ≡ length new) (sym (add-one n)) (get_or_push ends e 0 n h.count ∙ is));
         place = b.place;
         inside = b.inside;
-        most = subst (λ (z : ℕ). z ≤ 3 * b.place) (sym is) b.most;
+        most = b.most;
         behind = b.behind;
-        rising = all_ends (λ k x y. x ≤ y) ends n e h.count h.rising (omega arith);
-        below = all_ends (λ k x y. y ≤ e) ends n e h.count (λ k less. let before : get_or ends k 0 ≤ end = h.below k less in omega arith) (omega arith);
-        plain = λ k span less at. all_ends (λ i x y. (s : Span) → IsExprAt f i s → y ≡ x + plain_length (all_meant (bytes_in f.section s) (ops_of held i))) ends n e h.count (λ i before s there. h.plain i s before there) (λ s there. let size : len ≡ plain_length (all_meant (bytes_in f.section s) (ops_of held n)) = own.plain s there in omega arith) k less span at;
-        few = λ k span less at. all_ends (λ i x y. (s : Span) → IsExprAt f i s → y ≤ x + 3 * s.len) ends n e h.count (λ i before s there. h.few i s before there) (λ s there. let size : len ≤ 3 * s.len = own.few s there in omega arith) k less span at;
-        none = λ k less no_expr. all_ends (λ i x y. IsNone f i → y ≡ x) ends n e h.count h.none (λ other. let size : len ≡ 0 = own.none other in omega arith) k less no_expr;
+        rising = each_end (λ k x y. x ≤ y) e h.rising (omega (arith, is, size, last));
+        below = each_end (λ k x y. y ≤ length new) e (λ k less. let before : get_or ends k 0 ≤ length out = h.below k less in omega (arith, before, size)) (omega (arith, is));
+        few = λ k span less at. each_end (λ i x y. (s : Span) → IsExprAt f i s → y ≤ x + 3 * s.len) e (λ i before s there. h.few i s before there) (λ s there. let few : length p.made ≤ 3 * s.len = p.few s there in omega (arith, few, is, size, last)) k less span at;
+        none = λ k less no_expr. each_end (λ i x y. IsNone f i → y ≡ x) e h.none (λ other. let empty : length p.made ≡ 0 = ap length (p.none other) in omega (arith, empty, is, size, last)) k less no_expr;
+        each = λ k span less at. each_end (λ i x y. (s : Span) → IsExprAt f i s → IsWrittenShortest (refs_of held numbers i) (bytes_in f.section s) (ops_of held i) (take (y - x) (drop x new))) e (λ i before s there. subst (λ (z : List ℕ). IsWrittenShortest (refs_of held numbers i) (bytes_in f.section s) (ops_of held i) z) (sym (kept i before)) (h.each i s before there)) (λ s there. subst (λ (z : List ℕ). IsWrittenShortest (refs_of held numbers n) (bytes_in f.section s) (ops_of held n) z) (sym own) (p.written s there)) k less span at;
       })
-
--- BYTES
-
--- the bytes of a value stay where more follow
-made_more : (ends out more : List ℕ) (k : ℕ) → begin_of ends k ≤ get_or ends k 0 → get_or ends k 0 ≤ length out → made_of ends (out ++ more) k ≡ made_of ends out k
-made_more ends out more k rising inside =
-    let begin : ℕ = begin_of ends k in
-    let size : ℕ = get_or ends k 0 - begin in
-    let rest : length (drop begin out) ≡ length out - begin = length-drop begin out in
-    ap (take size) (drop-append-le begin out more (omega arith)) ∙ take-append-le size (drop begin out) more (omega arith)
-
--- those that were put last
-made_last : (ends out more : List ℕ) (k : ℕ) → length out ≡ begin_of ends k → length more ≡ get_or ends k 0 - begin_of ends k → made_of ends (out ++ more) k ≡ more
-made_last ends out more k before size =
-    ap (take (get_or ends k 0 - begin_of ends k)) (drop_at out more (begin_of ends k) before) ∙ take_all (get_or ends k 0 - begin_of ends k) more (omega arith)
-
--- the expressions of the first n values are written
-pub record ExpressionsPut (f : Arena) (held : HeldOps) (ends numbers : List ℕ) (n : ℕ) (out : List ℕ) : Type 0 where
-  pub within : n ≤ length f.values
-  pub size : length out ≡ begin_of ends n
-  pub all : (k : ℕ) → k < n → get_or ends k 0 ≤ length out
-  pub each : (k : ℕ) (span : Span) → k < n → IsExprAt f k span → IsWrittenPlain (refs_of held numbers k) (bytes_in f.section span) (ops_of held k) (made_of ends out k)
-
-module _ (f : Arena) (held : HeldOps) (ends numbers : List ℕ) (fit : ArePlainEnds f held ends) where
-  pub no_expression : (out : List ℕ) → out ≡ [] → ExpressionsPut f held ends numbers 0 out
-  no_expression out is = record {
-    within = omega arith;
-    size = ap length is;
-    all = λ k lt. absurd (omega arith);
-    each = λ k span lt at. absurd (omega arith);
-  }
-
-  -- a value gets as many bytes as its ends say
-  put_len : (n : ℕ) (out new : List ℕ) → n < length f.values → (p : PutsExpression f held numbers n out new) → length p.made ≡ get_or ends n 0 - begin_of ends n
-  put_len n out new lt p =
-      elim (expr_or_other f n lt) [
-        | inl e ↦
-            let long : length p.made ≡ plain_length (all_meant (bytes_in f.section e.0) (ops_of held n)) = (p.written e.0 e.1).long in
-            let plain : get_or ends n 0 ≡ begin_of ends n + plain_length (all_meant (bytes_in f.section e.0) (ops_of held n)) = fit.plain n e.0 e.1 in
-            omega arith
-        | inr none ↦
-            let empty : length p.made ≡ 0 = ap length (p.none none) in
-            let same : get_or ends n 0 ≡ begin_of ends n = fit.fit.none n lt none in
-            omega arith
-      ]
-
-  pub expression_put : (n : ℕ) (out new : List ℕ) → n < length f.values → ExpressionsPut f held ends numbers n out → PutsExpression f held numbers n out new → ExpressionsPut f held ends numbers (n + 1) new
-  expression_put n out new lt h p =
-      let rising : begin_of ends n ≤ get_or ends n 0 = fit.fit.rise.rising n lt in
-      let size : length out ≡ begin_of ends n = h.size in
-      let own : length p.made ≡ get_or ends n 0 - begin_of ends n = put_len n out new lt p in
-      let total : length (out ++ p.made) ≡ length out + length p.made = length-append out p.made in
-      let end : length (out ++ p.made) ≡ get_or ends n 0 = omega arith in
-      subst (λ (z : List ℕ). ExpressionsPut f held ends numbers (n + 1) z) (sym p.behind) (record {
-        within = omega arith;
-        size = subst (λ (z : ℕ). length (out ++ p.made) ≡ get_or (0 ∷ ends) z 0) (sym (add-one n)) end;
-        all = λ k less. elim (cases_lt k n) [
-          | inl before ↦ let fits : get_or ends k 0 ≤ length out = h.all k before in omega arith
-          | inr more ↦ let same : k ≡ n = omega arith in subst (λ (z : ℕ). get_or ends z 0 ≤ length (out ++ p.made)) (sym same) (omega arith)
-        ];
-        each = λ k span less at. elim (cases_lt k n) [
-          | inl before ↦
-              let fits : get_or ends k 0 ≤ length out = h.all k before in
-              subst (λ (z : List ℕ). IsWrittenPlain (refs_of held numbers k) (bytes_in f.section span) (ops_of held k) z) (sym (made_more ends out p.made k (fit.fit.rise.rising k at.inside) fits)) (h.each k span before at)
-          | inr more ↦
-              let same : n ≡ k = omega arith in
-              let here = subst (λ (z : ℕ). (s : Span) → IsExprAt f z s → IsWrittenPlain (refs_of held numbers z) (bytes_in f.section s) (ops_of held z) (made_of ends (out ++ p.made) z)) same (λ s there. subst (λ (z : List ℕ). IsWrittenPlain (refs_of held numbers n) (bytes_in f.section s) (ops_of held n) z) (sym (made_last ends out p.made n size own)) (p.written s there)) in
-              here span at
-        ];
-      })
-
-  pub all_expressions : (n : ℕ) (out : List ℕ) → length f.values ≤ n → ExpressionsPut f held ends numbers n out → AreWrittenPlain f held ends numbers out
-  all_expressions n out all h = record {
-    all = λ k lt. h.all k (omega arith);
-    each = λ k span is. h.each k span (let lt : k < length f.values = is.inside in omega arith) is;
-  }
 
 -- ONE VALUE
 
@@ -322,30 +262,21 @@ lent_expr f g held k span bytes ops has is same b o =
     let first = subst (λ (z : List Op). IsExpression Narrow (all_meant (bytes_in f.section span) z) (bytes_in f.section span)) (sym o) (has.spelled k span is) in
     subst (λ (z : List ℕ). IsExpression Narrow (all_meant z ops) z) (sym own) first
 
-pub plain_len_is : (f g : Arena) (held : HeldOps) (k len : ℕ) (span : Span) (bytes : List ℕ) (ops : List Op) → IsInOrder f → IsExprAt f k span → g ≡ f → bytes ≡ bytes_in g.section span → ops ≡ ops_of held k → len ≡ plain_length (all_meant bytes ops) → len ≤ 3 * length bytes → IsPlainLen f held k len
-plain_len_is f g held k len span bytes ops order is same b o long most =
+pub expression_is_put : ShortestIsFew → (f g : Arena) (held : HeldOps) (numbers refs : List ℕ) (k : ℕ) (span : Span) (bytes : List ℕ) (ops : List Op) (old new : List ℕ) → IsInOrder f → IsExprAt f k span → IsExpression Narrow (all_meant bytes ops) bytes → All IsNarrow refs → g ≡ f → bytes ≡ bytes_in g.section span → ops ≡ ops_of held k → refs ≡ refs_of held numbers k → Adds (IsWrittenShortest refs bytes ops) old new → PutsExpression f held numbers k old new
+expression_is_put few f g held numbers refs k span bytes ops old new order is spelled narrow same b o r (made, written, behind) =
     let own : bytes ≡ bytes_in f.section span = b ∙ ap (λ (z : Arena). bytes_in z.section span) same in
-    let inside : span.at + span.len ≤ length f.section = span_inside f k span order is in
-    let size : length (bytes_in f.section span) ≡ span.len = length_part span.at span.len f.section inside in
-    let count : length bytes ≡ length (bytes_in f.section span) = ap length own in
-    let few : len ≤ 3 * span.len = omega arith in
-    let plain : len ≡ plain_length (all_meant (bytes_in f.section span) (ops_of held k)) = long ∙ ap (λ (z : List ℕ). plain_length (all_meant z ops)) own ∙ ap (λ (z : List Op). plain_length (all_meant (bytes_in f.section span) z)) o in
-    record {
-      plain = λ s at. subst (λ (t : Span). len ≡ plain_length (all_meant (bytes_in f.section t) (ops_of held k))) (one_span f k span s is at) plain;
-      few = λ s at. subst (λ (t : Span). len ≤ 3 * t.len) (one_span f k span s is at) few;
-      none = λ none. absurd (none span is);
-    }
-
-pub expression_is_put : (f g : Arena) (held : HeldOps) (numbers refs : List ℕ) (k : ℕ) (span : Span) (bytes : List ℕ) (ops : List Op) (old new : List ℕ) → IsExprAt f k span → g ≡ f → bytes ≡ bytes_in g.section span → ops ≡ ops_of held k → refs ≡ refs_of held numbers k → Adds (IsWrittenPlain refs bytes ops) old new → PutsExpression f held numbers k old new
-expression_is_put f g held numbers refs k span bytes ops old new is same b o r (made, written, behind) =
-    let own : bytes ≡ bytes_in f.section span = b ∙ ap (λ (z : Arena). bytes_in z.section span) same in
-    let first = subst (λ (z : List ℕ). IsWrittenPlain z bytes ops made) r written in
-    let second = subst (λ (z : List ℕ). IsWrittenPlain (refs_of held numbers k) z ops made) own first in
-    let here = subst (λ (z : List Op). IsWrittenPlain (refs_of held numbers k) (bytes_in f.section span) z made) o second in
+    let first = subst (λ (z : List ℕ). IsWrittenShortest z bytes ops made) r written in
+    let second = subst (λ (z : List ℕ). IsWrittenShortest (refs_of held numbers k) z ops made) own first in
+    let here = subst (λ (z : List Op). IsWrittenShortest (refs_of held numbers k) (bytes_in f.section span) z made) o second in
+    let long : length made ≡ shortest_length refs (all_meant bytes ops) = written.long in
+    let thrice : shortest_length refs (all_meant bytes ops) ≤ 3 * length bytes = few refs (all_meant bytes ops) bytes spelled narrow in
+    let size : length bytes ≡ span.len = ap length own ∙ length_part span.at span.len f.section (span_inside f k span order is) in
+    let most : length made ≤ 3 * span.len = omega (arith, long, thrice, size) in
     record {
       made = made;
       behind = behind;
-      written = λ s at. subst (λ (t : Span). IsWrittenPlain (refs_of held numbers k) (bytes_in f.section t) (ops_of held k) made) (one_span f k span s is at) here;
+      written = λ s at. subst (λ (t : Span). IsWrittenShortest (refs_of held numbers k) (bytes_in f.section t) (ops_of held k) made) (one_span f k span s is at) here;
+      few = λ s at. subst (λ (t : Span). length made ≤ 3 * t.len) (one_span f k span s is at) most;
       none = λ none. absurd (none span is);
     }
 
@@ -358,5 +289,6 @@ none_is_put f g held numbers values k d old same is lt none =
       made = [];
       behind = sym (append-nil old);
       written = λ span at. absurd (no_expr span at);
+      few = λ span at. absurd (no_expr span at);
       none = λ other. refl;
     }

@@ -18,10 +18,17 @@ pub mod HeadLaws
 pub mod UnitLaws
 pub mod TestUnits
 pub mod SlotLists
+pub mod SlotAims
+pub mod SlotMeasures
+pub mod ShortSpans
+pub mod SlotsMade
 pub mod SlotSizes
 pub mod SlotLens
 pub mod SlotPlaces
 pub mod SlotWalks
 pub mod SlotCounts
 pub mod SlotRows
+pub mod LaidOut
+pub mod Needs
 pub mod SlotLayouts
+pub mod FewSlots

@@ -33,12 +33,11 @@ use Rattle.entry_arena.specs.Trees.{Listed, AddsEntry, SpellsBetween, ValuesBetw
 use Rattle.entry_arena.proofs.Between.{length_between}
 use Rattle.entry_arena.proofs.StepLaws.{code_rises}
 use Rattle.entry_read.specs.Short.{IsWritten}
-use Rattle.entry_read.specs.Locals.{is_local}
+use Rattle.entry_read.specs.Slots.{is_local}
 use Rattle.unit_write.specs.Lens.{AreLensFor}
 use Rattle.unit_write.specs.Values.{renewed, HasOwnSize, HasSize, HaveSize}
 use Rattle.unit_write.specs.Placing.{columns_of, values_in, among_values, EntrySize}
 use Rattle.unit_write.specs.inside.Puts.{is_expr}
-use Rattle.unit_write.proofs.ValueLaws.{is_made}
 
 -- the bytes that a value has whatever its form
 abbrev pub own_len : Meaning → ℕ
@@ -159,30 +158,23 @@ written_len column m bytes (s, shortest) =
     let t = shortest.spelled in
     shortest_len (shape_of t.form shortest.constant) m bytes t.small t.spelled (λ others small p. shortest.shortest shortest.constant others (record { form = t.form; known = t.known; small = small; spelled = p }))
 
--- an expression
-expr_most : (column : Spec) (meaning : Meaning) (len size : ℕ) → is_expr meaning ≡ true → HasOwnSize column meaning len size → size ≤ len + 10
-expr_most column meaning len size expr h =
-    let same : renewed h.number h.made meaning ≡ Expression h.made = is_made h.number h.made meaning expr in
-    let new : length h.bytes ≤ own_len (Expression h.made) + 10 = written_len column (Expression h.made) h.bytes (subst (λ (z : Meaning). IsWritten column z h.bytes) same h.written) in
-    omega (arith, h.is, h.long)
-
--- and what isn't one, which has at most ten bytes more than any bytes that spell it
-other_most : (column : Spec) (m : Meaning) (len size code : ℕ) (constant : ℤ) (old : List ℕ) → is_expr m ≡ false → HasOwnSize column m len size → SpellsValue code constant m old → size ≤ length old + 10
-other_most column m len size code constant old other h s =
-    let new : length h.bytes ≤ own_len (renewed h.number h.made m) + 10 = written_len column (renewed h.number h.made m) h.bytes h.written in
-    let same : own_len (renewed h.number h.made m) ≡ own_len m = renewed_len h.number h.made m other in
+-- what is no expression has at most ten bytes more than any bytes that spell it
+other_most : (column : Spec) (m : Meaning) (size code : ℕ) (constant : ℤ) (old : List ℕ) → is_expr m ≡ false → HasOwnSize column m size → SpellsValue code constant m old → size ≤ length old + 10
+other_most column m size code constant old other h s =
+    let new : length h.bytes ≤ own_len (renewed h.number [] m) + 10 = written_len column (renewed h.number [] m) h.bytes h.written in
+    let same : own_len (renewed h.number [] m) ≡ own_len m = renewed_len h.number [] m other in
     let held : own_len m ≤ length old = spelled_len (shape_of s.form constant) m old s.spelled in
     omega (arith, h.is)
 
--- an expression gets at most three times its bytes, and a reference within the unit ten
+-- an expression gets at most three times its bytes and ten for its length, and a reference within the unit ten
 abbrev IsFewOf : Value → ℕ → Type 0
-IsFewOf v len = ((span : Span) → v ≡ value.Expr span → len ≤ 3 * span.len) × ((n : ℕ) → v ≡ value.LocalRef n → len ≤ 10)
+IsFewOf v len = ((span : Span) → v ≡ value.Expr span → len ≤ 3 * span.len + 10) × ((n : ℕ) → v ≡ value.LocalRef n → len ≤ 10)
 
 -- at most three times the bytes of a value that stands in a section, and ten more
 value_most : (section : List ℕ) (column : Spec) (v : Value) (len size code : ℕ) (constant : ℤ) (from to : ℕ) → IsFewOf v len → HasSize column (meant_in section v) len size → SpellsBetween (SpellsValue code constant (meant_in section v)) section from to → IsPlaced v from to → size + 3 * from ≤ 3 * to + 10
 value_most section column (value.Expr span) len size code constant from to few h spelled placed =
-    let most : size ≤ len + 10 = expr_most column (Expression (bytes_in section span)) len size refl h in
-    let three : len ≤ 3 * span.len = few.0 span refl in
+    let most : len ≤ 3 * span.len + 10 = few.0 span refl in
+    let same : size ≡ len = h.1 in
     let held : length (bytes_in section span) ≤ length (bytes_between section from to) = spelled_len (shape_of spelled.spelled.form constant) (Expression (bytes_in section span)) (bytes_between section from to) spelled.spelled.spelled in
     let old : length (bytes_between section from to) ≡ to - from = length_between section from to spelled.inside in
     let end : span.at + span.len ≡ to = placed in
@@ -196,7 +188,7 @@ value_most section column (value.LocalRef n) len size code constant from to few 
     let order : from ≤ to = spelled.order in
     omega arith
 value_most section column v len size code constant from to few h spelled placed =
-    let most : size ≤ length (bytes_between section from to) + 10 = other_most column (meant_in section v) len size code constant (bytes_between section from to) refl h spelled.spelled in
+    let most : size ≤ length (bytes_between section from to) + 10 = other_most column (meant_in section v) size code constant (bytes_between section from to) refl h spelled.spelled in
     let old : length (bytes_between section from to) ≡ to - from = length_between section from to spelled.inside in
     let order : from ≤ to = spelled.order in
     omega arith
@@ -225,7 +217,7 @@ few_in f lens first count k few lt =
     let there : value_at (take count (drop first f.values)) k ≡ value_at f.values (first + k) = get_or-take count (drop first f.values) k _ own ∙ get_or-drop first f.values k _ in
     let len : get_or (take count (drop first lens)) k 0 ≡ get_or lens (first + k) 0 = get_or-take count (drop first lens) k 0 own ∙ get_or-drop first lens k 0 in (
       λ span is.
-          let most : get_or lens (first + k) 0 ≤ 3 * span.len = few.few (first + k) span (record { inside = inside; is = sym there ∙ is }) in
+          let most : get_or lens (first + k) 0 ≤ 3 * span.len + 10 = few.few (first + k) span (record { inside = inside; is = sym there ∙ is }) in
           omega arith,
       λ n is.
           let most : get_or lens (first + k) 0 ≤ 10 = few.narrow (first + k) inside (ap (λ (v : Value). is_local (meant_in f.section v)) (sym there ∙ is)) in

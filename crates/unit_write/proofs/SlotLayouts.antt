@@ -1,169 +1,187 @@
--- The lengths of a unit's values under a layout of its slots.
-use Rattle.std.proofs.Common.{◌≡◌, ◌≤◌, ◌<◌, ◌+◌, ◌-◌, ◌*◌, ℕ, zero, suc, List, [], ◌∷◌, length, get_or, take, drop, Bool, true, false, ◌∙◌, sym, ap, refl, subst, arith, inl, inr}
-use Rattle.std.specs.Prelude.{if◌then◌else◌}
-use Rattle.std.proofs.lemmas.Bool.{cases_Bool, false≢true, both_ways}
-use Rattle.std.proofs.lemmas.List.{length-drop, get_or-take, get_or-drop, length-take-le, ext_get_or}
+-- The lengths of a unit's values under a layout of its slots are those that its new numbers need.
+use Rattle.std.proofs.Common.{◌≡◌, ◌≤◌, ◌<◌, ◌+◌, ◌-◌, ℕ, zero, suc, List, [], ◌∷◌, length, get_or, take, drop, sum, ◌∙◌, sym, ap, refl, subst, arith, inl, inr}
+use Rattle.std.specs.List.{AllZip}
+use Rattle.std.proofs.lemmas.Bool.{cases_lt}
+use Rattle.std.proofs.lemmas.List.{length-append, ext_get_or}
+use Rattle.std.proofs.lemmas.List.Sums.{sum_by-cons}
+use Rattle.std.proofs.lemmas.Slice.Zip.{AllZip-long}
+use Rattle.spelled.proofs.Parts.{length_part}
+use Rattle.dw_base.specs.declared.fault.Reach.TheVariants.{Narrow}
 use Rattle.dw_base.specs.declared.fault.Span.{Span}
 use Rattle.leb_codec.specs.Leb.{least_unsigned_len}
-use Rattle.leb_codec.specs.Layout.{SlotForm, SlotRow, uleb, call, row_at, slot_number, need, IsSlotSize, IsLayout}
+use Rattle.leb_codec.specs.Layout.{SlotForm, SlotRow, row_at, slot_number, need}
+use Rattle.expr_ops.specs.Expressions.{Operation}
+use Rattle.expr_ops.specs.Ops.{all_meant}
+use Rattle.expr_ops.specs.Drafts.{with_refs}
+use Rattle.expr_ops.specs.Shortest.{fixed_length, shortest_length, LengthsSplit}
+use Rattle.expr_ops.specs.Slots.{Aim, slots_among, op_aims, NeededAreShortest}
+use Rattle.expr_ops.specs.Slots.Aim.{Place, Length}
 use Rattle.form_codec.specs.declared.value.Value.{Value}
 use Rattle.form_codec.specs.declared.value.Value.TheVariants as value
 use Rattle.form_codec.specs.Forms.{Meaning}
-use Rattle.form_codec.specs.Forms.Meaning.{InUnit}
-use Rattle.form_codec.specs.Values.{meant_in}
-use Rattle.abbrev_tables.specs.declared.decl.Spec.{Spec}
-use Rattle.abbrev_tables.specs.Listings.{Listing}
-use Rattle.entry_arena.specs.declared.entry.Entry.{Entry}
-use Rattle.entry_arena.specs.Arena.{Arena, entry_at, value_at}
-use Rattle.entry_arena.specs.Order.{HaveValues}
-use Rattle.entry_read.specs.Expressions.{IsExprAt}
-use Rattle.entry_read.specs.Locals.{is_local, locals_in, locals_before}
-use Rattle.entry_read.specs.Units.{HeadAndForest}
-use Rattle.unit_write.specs.Lens.{IsLocalAt, AreLensFor, AreLensUnder, HaveNone}
-use Rattle.unit_write.specs.NewExpressions.{begin_of, lens_of, with_numbers, AreEndsFor}
-use Rattle.unit_write.specs.Values.{HasSize, HaveSize}
-use Rattle.unit_write.specs.Placing.{columns_of, values_in, among_values}
-use Rattle.unit_write.specs.Moved.{IsWritable, lens_anew}
-use Rattle.unit_write.specs.Slots.{spot_place, spot_at, LayoutsHold}
-use Rattle.unit_write.proofs.SlotLists.{number_below}
-use Rattle.unit_write.proofs.EndLaws.{lens_len, len_at}
+use Rattle.form_codec.specs.Forms.Meaning.{Expression, InUnit}
+use Rattle.form_codec.specs.Values.{bytes_in, meant_in}
+use Rattle.entry_arena.specs.Arena.{Arena, value_at}
+use Rattle.entry_arena.specs.Operations.{HeldOps, ops_of}
+use Rattle.entry_read.specs.Expressions.{HasOperations}
+use Rattle.entry_read.specs.Slots.{value_aims, aims_before, aims_of, aim_at, meaning_at, expression_bytes, operations_in, slots_before, IsRowOf}
+use Rattle.unit_write.specs.declared.slots.Spot.{Spot}
+use Rattle.unit_write.specs.NewExpressions.{begin_of, lens_of, made_of, new_len, refs_of, operations_anew, AreWrittenShortest}
+use Rattle.unit_write.specs.Values.{renewed}
+use Rattle.unit_write.specs.Moved.{NewValues, lens_anew}
+use Rattle.unit_write.specs.Slots.{spot_place, spot_at, IsSpotFor, IsSpotPlaced, aims_anew, LayoutsHold}
+use Rattle.unit_write.proofs.EndLaws.{len_at}
+use Rattle.unit_write.proofs.LensLaws.{anew_len, anew_at}
+use Rattle.unit_write.proofs.FewLaws.{expr_or_other}
+use Rattle.unit_write.proofs.SlotAims.{op_aims_length}
+use Rattle.unit_write.proofs.Needs.{IsMet, AreMet, met_each, met_front, met_behind, met_length, with_renewed, renewed_fewer}
 
--- a reference is no expression
-local_no_expr : (f : Arena) (k : ℕ) → IsLocalAt f k → (span : Span) → IsExprAt f k span → ⊥
-local_no_expr f k local span at = false≢true (subst (λ (v : Value). is_local (meant_in f.section v) ≡ true) at.is local)
+-- THE SLOTS OF EACH VALUE
 
-module _ (f : Arena) (ends : List ℕ) (h : AreEndsFor f ends) where
-  pub have_none : HaveNone f (lens_of ends)
-  have_none k lt local =
-      let end : get_or ends k 0 ≡ begin_of ends k = h.none k lt (local_no_expr f k local) in
-      let len : get_or (lens_of ends) k 0 ≡ get_or ends k 0 - begin_of ends k = len_at ends k in
-      omega arith
+-- a value has as many slots with its new number, and each has the size that it needs
+record IsMetAt (old new : ℕ → Meaning) (os news : ℕ → List Operation) (sizes : List ℕ) (k : ℕ) : Type 0 where
+  count : length (value_aims (new k) (news k)) ≡ length (value_aims (old k) (os k))
+  met : AreMet (value_aims (old k) (os k)) (value_aims (new k) (news k)) (drop (length (aims_before old os k)) sizes)
 
-  pub lens_for : AreLensFor f (lens_of ends)
-  lens_for = record {
-    each = lens_len 0 ends ∙ h.rise.each;
-    few = λ k span at.
-        let few : get_or ends k 0 ≤ begin_of ends k + 3 * span.len = h.few k span at in
-        let len : get_or (lens_of ends) k 0 ≡ get_or ends k 0 - begin_of ends k = len_at ends k in
-        omega arith;
-    narrow = λ k lt local. let none : get_or (lens_of ends) k 0 ≡ 0 = have_none k lt local in omega arith;
-  }
+module _ (old new : ℕ → Meaning) (os news : ℕ → List Operation) (fewer : (k : ℕ) → length (value_aims (new k) (news k)) ≤ length (value_aims (old k) (os k))) where
+  both_count : (n : ℕ) → length (aims_before new news (suc n)) ≡ length (aims_before new news n) + length (value_aims (new n) (news n))
+  both_count n = length-append (aims_before new news n) (value_aims (new n) (news n))
 
-size_ten : (form : SlotForm) (size : ℕ) → IsSlotSize form size → size ≤ 10
-size_ten uleb size h = h.1
-size_ten call size (inl h) = omega arith
-size_ten call size (inr h) = omega arith
+  old_count : (n : ℕ) → length (aims_before old os (suc n)) ≡ length (aims_before old os n) + length (value_aims (old n) (os n))
+  old_count n = length-append (aims_before old os n) (value_aims (old n) (os n))
 
--- with the sizes of a layout the lengths stay such ones
-pub lens_laid : (f : Arena) (others sizes lens : List ℕ) (rows : List SlotRow) → AreLensFor f others → AreLensUnder f others sizes lens → IsLayout rows sizes → length rows ≡ locals_in f.section f.values → AreLensFor f lens
-lens_laid f others sizes lens rows h under layout many = record {
-  each = under.count;
-  few = λ k span at.
-      let few : get_or others k 0 ≤ 3 * span.len = h.few k span at in
-      let same : get_or lens k 0 ≡ get_or others k 0 = under.other k at.inside (λ local. local_no_expr f k local span at) in
-      omega arith;
-  narrow = λ k lt local.
-      let below : locals_before f k < locals_in f.section f.values = number_below (λ (v : Value). is_local (meant_in f.section v)) f.values (value.Addr 0) k lt local in
-      let ten : get_or sizes (locals_before f k) 0 ≤ 10 = size_ten (row_at rows (locals_before f k)).form (get_or sizes (locals_before f k) 0) (layout.sized (locals_before f k) (omega arith)) in
-      let same : get_or lens k 0 ≡ get_or sizes (locals_before f k) 0 = under.local k lt local in
-      omega arith;
-}
+  fewer_before : (n : ℕ) → length (aims_before new news n) ≤ length (aims_before old os n)
+  fewer_before zero = omega arith
+  fewer_before (suc n) = let a = both_count n in let b = old_count n in let own = fewer n in let before = fewer_before n in omega (arith, a, b, own, before)
 
--- a reference has a size whatever its length
-any_size : (column : Spec) (meaning : Meaning) (len size other : ℕ) → is_local meaning ≡ true → HasSize column meaning len size → HasSize column meaning other other
-any_size column (InUnit n) len size other local p = (p.0, refl)
-any_size column meaning len size other local p = absurd (false≢true local)
+  met_values : (sizes : List ℕ) (n k : ℕ) → k < n → length (aims_before new news n) ≡ length (aims_before old os n) → AreMet (aims_before old os n) (aims_before new news n) sizes → IsMetAt old new os news sizes k
+  met_values sizes zero k lt e m = absurd (omega arith)
+  met_values sizes (suc n) k lt e m =
+      let a = both_count n in
+      let b = old_count n in
+      let own = fewer n in
+      let before = fewer_before n in
+      let same : length (aims_before new news n) ≡ length (aims_before old os n) = omega (arith, a, b, own, before, e) in
+      elim (cases_lt k n) [
+        | inl less ↦ met_values sizes n k less same (met_front (aims_before old os n) (aims_before new news n) (value_aims (old n) (os n)) (value_aims (new n) (news n)) sizes same m)
+        | inr more ↦
+            let here : n ≡ k = omega arith in
+            subst (IsMetAt old new os news sizes) here (record {
+              count = omega (arith, a, b, e, same);
+              met = met_behind (aims_before old os n) (aims_before new news n) (value_aims (old n) (os n)) (value_aims (new n) (news n)) sizes same m;
+            })
+      ]
 
-have_sizes : (section : List ℕ) (cs : List Spec) (vs : List Value) (ns ls : List ℕ) (m : ℕ) → HaveSize section cs vs ns m → length ls ≡ length vs → ((j : ℕ) → j < length vs → (is_local (meant_in section (value_at vs j)) ≡ true → ⊥) → get_or ls j 0 ≡ get_or ns j 0) → (n : ℕ) × HaveSize section cs vs ls n
-have_sizes section [] [] [] [] m p long same = (0, refl)
-have_sizes section [] [] [] (y ∷ ls) m p long same = absurd (omega arith)
-have_sizes section [] [] (x ∷ ns) ls m p long same = absurd p
-have_sizes section [] (v ∷ vs) ns ls m p long same = absurd p
-have_sizes section (c ∷ cs) [] ns ls m p long same = absurd p
-have_sizes section (c ∷ cs) (v ∷ vs) [] ls m p long same = absurd p
-have_sizes section (c ∷ cs) (v ∷ vs) (x ∷ ns) [] m p long same = absurd (omega arith)
-have_sizes section (c ∷ cs) (v ∷ vs) (x ∷ ns) (y ∷ ls) m (first, rest, sized, more, is) long same =
-    let r = have_sizes section cs vs ns ls rest more (omega arith) (λ j lt none. same (suc j) (omega arith) none) in
-    elim (cases_Bool (is_local (meant_in section v))) [
-      | inl local ↦ (y + r.0, (y, r.0, any_size c (meant_in section v) x first y local sized, r.1, refl))
-      | inr none ↦
-          let e : y ≡ x = same 0 (omega arith) (λ local. both_ways (is_local (meant_in section v)) none local) in
-          (first + r.0, (first, r.0, subst (λ (z : ℕ). HasSize c (meant_in section v) z first) (sym e) sized, r.1, refl))
+-- with new references an expression has no more slots
+value_fewer : (meaning : Meaning) (n : ℕ) (refs : List ℕ) (os : List Operation) → length (value_aims (renewed n [] meaning) (with_refs refs os)) ≤ length (value_aims meaning os)
+value_fewer (InUnit old) n refs os = omega arith
+value_fewer (Expression bytes) n refs os =
+    let fewer = renewed_fewer os (with_refs refs os) (with_renewed refs os) in
+    let a = op_aims_length os in
+    let b = op_aims_length (with_refs refs os) in
+    omega (arith, fewer, a, b)
+value_fewer meaning n refs os = omega arith
+
+-- WHAT EACH SLOT NEEDS
+
+-- a row that is tight has the size of what its slot tells anew
+row_met : (f : Arena) (ops : ℕ → List Operation) (entries ends sizes : List ℕ) (start i : ℕ) (spot : Spot) (aim new : Aim) (row : SlotRow) → IsRowOf f ops entries sizes start (spot_place entries ends spot) i aim row → get_or sizes i 0 ≡ need row.form (slot_number sizes row) → IsSpotPlaced start entries ends new spot → IsMet aim new (get_or sizes i 0) (drop (suc i) sizes)
+row_met f ops entries ends sizes start i spot (Place form n) (Place other number) row is tight placed =
+    let counts = is.number in
+    let same : slot_number sizes row ≡ number = omega (arith, counts, placed) in
+    tight ∙ ap (λ (z : SlotForm). need z (slot_number sizes row)) is.form_is ∙ ap (need form) same
+row_met f ops entries ends sizes start i spot (Place form n) (Length fixed count) row is tight placed = tt
+row_met f ops entries ends sizes start i spot (Length fixed count) new row is tight placed =
+    let own : suc i + count - suc i ≡ count = omega arith in
+    tight ∙ ap (λ (z : SlotRow). need z.form (slot_number sizes z)) is ∙ ap (λ (n : ℕ). least_unsigned_len (fixed + sum (take n (drop (suc i) sizes)))) own
+
+zip_at : (R : Aim → Spot → Type 0) (aims : List Aim) (spots : List Spot) (i : ℕ) → AllZip R aims spots → i < length aims → R (aim_at aims i) (spot_at spots i)
+zip_at R [] spots i z lt = absurd (omega arith)
+zip_at R (aim ∷ aims) [] i z lt = absurd z
+zip_at R (aim ∷ aims) (spot ∷ spots) zero z lt = z.0
+zip_at R (aim ∷ aims) (spot ∷ spots) (suc i) z lt = zip_at R aims spots i z.1 (omega arith)
+
+-- THE LENGTH OF EACH VALUE
+
+module _ (shortest : NeededAreShortest) (split : LengthsSplit) where
+  expression_len : (bytes refs : List ℕ) (os : List Operation) (n made : ℕ) (sizes : List ℕ) → made ≡ shortest_length refs os → length (value_aims (Expression []) (with_refs refs os)) ≡ length (value_aims (Expression bytes) os) → AreMet (value_aims (Expression bytes) os) (value_aims (Expression []) (with_refs refs os)) sizes → new_len (Expression bytes) n made ≡ fixed_length os + sum (take (length (value_aims (Expression bytes) os)) sizes)
+  expression_len bytes refs os n made [] is e m = absurd m
+  expression_len bytes refs os n made (size ∷ sizes) is e (own, m) =
+      let a = op_aims_length os in
+      let b = op_aims_length (with_refs refs os) in
+      let long = met_length shortest split refs os sizes (omega (arith, a, b, e)) m in
+      let first : size ≡ least_unsigned_len made = own ∙ ap least_unsigned_len (sym long ∙ sym is) in
+      let taken : sum (take (length (op_aims os)) sizes) ≡ sum (take (slots_among os) sizes) = ap (λ (z : ℕ). sum (take z sizes)) a in
+      let both = sum_by-cons (λ (x : ℕ). x) size (take (length (op_aims os)) sizes) in
+      omega (arith, is, long, first, taken, both)
+
+-- a value that is no expression
+other_len : (section : List ℕ) (v : Value) (n made : ℕ) (os news : List Operation) (sizes : List ℕ) → ((span : Span) → v ≡ value.Expr span → ⊥) → os ≡ [] → AreMet (value_aims (meant_in section v) os) (value_aims (renewed n [] (meant_in section v)) news) sizes → new_len (meant_in section v) n made ≡ fixed_length os + sum (take (length (value_aims (meant_in section v) os)) sizes)
+other_len section (value.Expr span) n made os news sizes none empty m = absurd (none span refl)
+other_len section (value.LocalRef old) n made os news [] none empty m = absurd m
+other_len section (value.LocalRef old) n made os news (size ∷ sizes) none empty m =
+    let fixed : fixed_length os ≡ 0 = ap fixed_length empty in
+    let own : size ≡ least_unsigned_len n = m.0 in
+    omega (arith, fixed, own)
+other_len section v n made os news sizes none empty m = let fixed : fixed_length os ≡ 0 = ap fixed_length empty in omega (arith, fixed)
+
+-- an expression has the bytes between its ends
+made_long : (ends bytes : List ℕ) (k : ℕ) → get_or ends k 0 ≤ length bytes → length (made_of ends bytes k) ≡ get_or (lens_of ends) k 0
+made_long ends bytes k inside =
+    let begin : ℕ = begin_of ends k in
+    let end : ℕ = get_or ends k 0 in
+    let len : get_or (lens_of ends) k 0 ≡ end - begin = len_at ends k in
+    elim (cases_lt begin end) [
+      | inl less ↦ length_part begin (end - begin) bytes (omega arith) ∙ sym len
+      | inr more ↦
+          let none : end - begin ≡ 0 = omega arith in
+          ap (λ (n : ℕ). length (take n (drop begin bytes))) none ∙ sym none ∙ sym len
     ]
 
--- so a unit that can be written can be written with other lengths of its references
-pub writable_under : (unit : HeadAndForest) (table : Listing) (columns : List Spec) (numbers others sizes lens : List ℕ) → HaveValues unit.forest.entries (length unit.forest.values) → IsWritable unit table columns numbers others → AreLensUnder unit.forest others sizes lens → IsWritable unit table columns numbers lens
-writable_under unit table columns numbers others sizes lens valued h under = record {
-  head = h.head;
-  held = h.held;
-  numbered = h.numbered;
-  renewed = h.renewed;
-  used = h.used;
-  sized = λ id inside.
+module _ (shortest : NeededAreShortest) (split : LengthsSplit) where
+  -- the operations of an expression are those that are held of it
+  value_len : (f : Arena) (held : HeldOps) (anew : NewValues) (op_numbers sizes : List ℕ) (k : ℕ) → k < length f.values → HasOperations Narrow f held → AreWrittenShortest f held anew.ends op_numbers anew.expressions → IsMetAt (meaning_at f) (λ (i : ℕ). renewed (get_or anew.held i 0) [] (meaning_at f i)) (operations_in f held) (operations_anew f held op_numbers) sizes k → new_len (meaning_at f k) (get_or anew.held k 0) (get_or (lens_of anew.ends) k 0) ≡ fixed_length (operations_in f held k) + sum (take (length (value_aims (meaning_at f k) (operations_in f held k))) (drop (slots_before f (operations_in f held) k) sizes))
+  value_len f held anew op_numbers sizes k lt has written at =
+      let n : ℕ = get_or anew.held k 0 in
+      let made : ℕ = get_or (lens_of anew.ends) k 0 in
+      let refs : List ℕ = refs_of held op_numbers k in
+      let own : List ℕ = drop (slots_before f (operations_in f held) k) sizes in
+      elim (expr_or_other f k lt) [
+        | inl e ↦
+            let span : Span = e.0 in
+            let bytes : List ℕ = bytes_in f.section span in
+            let is : meaning_at f k ≡ Expression bytes = ap (meant_in f.section) e.1.is in
+            let here = written.each k span e.1 in
+            let long : made ≡ shortest_length refs (all_meant bytes (ops_of held k)) = sym (made_long anew.ends anew.expressions k (written.all k lt)) ∙ here.long in
+            subst (λ (m : Meaning). length (value_aims (renewed n [] m) (with_refs refs (all_meant (expression_bytes m) (ops_of held k)))) ≡ length (value_aims m (all_meant (expression_bytes m) (ops_of held k))) → AreMet (value_aims m (all_meant (expression_bytes m) (ops_of held k))) (value_aims (renewed n [] m) (with_refs refs (all_meant (expression_bytes m) (ops_of held k)))) own → new_len m n made ≡ fixed_length (all_meant (expression_bytes m) (ops_of held k)) + sum (take (length (value_aims m (all_meant (expression_bytes m) (ops_of held k)))) own)) (sym is) (λ count met. expression_len shortest split bytes refs (all_meant bytes (ops_of held k)) n made own long count met) at.count at.met
+        | inr none ↦
+            let empty : operations_in f held k ≡ [] = ap (all_meant (expression_bytes (meaning_at f k))) (has.only k none) in
+            other_len f.section (value_at f.values k) n made (operations_in f held k) (operations_anew f held op_numbers k) own (λ span is. none span (record { inside = lt; is = is })) empty at.met
+      ]
+
+  pub layouts_hold : LayoutsHold
+  layouts_hold unit table columns numbers held anew op_numbers spots lens start entries ends to has spotted held_many ends_many laid placed named written =
       let f : Arena = unit.forest in
-      let e : Entry = entry_at f.entries id in
-      let s = h.sized id inside in
-      let all : e.first + e.count ≤ length f.values = valued.inside id inside in
-      let many : length lens ≡ length f.values = under.count in
-      let rest : length (drop e.first f.values) ≡ length f.values - e.first = length-drop e.first f.values in
-      let left : length (drop e.first lens) ≡ length lens - e.first = length-drop e.first lens in
-      let size : length (take e.count (drop e.first f.values)) ≡ e.count = length-take-le e.count (drop e.first f.values) (omega arith) in
-      let long : length (take e.count (drop e.first lens)) ≡ e.count = length-take-le e.count (drop e.first lens) (omega arith) in
-      let own : (xs : List ℕ) (j : ℕ) → j < e.count → get_or (take e.count (drop e.first xs)) j 0 ≡ get_or xs (e.first + j) 0 = λ xs j lt. get_or-take e.count (drop e.first xs) j 0 lt ∙ get_or-drop e.first xs j 0 in
-      let r = have_sizes f.section (columns_of table columns e.decl) (values_in f id) (among_values f others id) (among_values f lens id) s.1.0 s.1.1 (long ∙ sym size) (λ j lt none.
-      let less : j < e.count = omega arith in
-      let value_is : value_at (values_in f id) j ≡ value_at f.values (e.first + j) = get_or-take e.count (drop e.first f.values) j (value.Addr 0) less ∙ get_or-drop e.first f.values j (value.Addr 0) in
-      let other : get_or lens (e.first + j) 0 ≡ get_or others (e.first + j) 0 = under.other (e.first + j) (omega arith) (λ local. none (subst (λ (v : Value). is_local (meant_in f.section v) ≡ true) (sym value_is) local)) in
-      own lens j less ∙ other ∙ sym (own others j less)) in
-      let total : ℕ = least_unsigned_len (get_or numbers e.decl 0) + r.0 in
-      (total, (r.0, r.1, refl {a = total}));
-}
-
--- the lengths with the numbers of references, one by one
-module _ (section : List ℕ) where
-  numbers_many : (vs : List Value) (ns lens : List ℕ) → length ns ≡ length vs → length lens ≡ length vs → length (with_numbers section vs ns lens) ≡ length vs
-  numbers_many [] ns lens a b = refl
-  numbers_many (v ∷ vs) [] lens a b = absurd (omega arith)
-  numbers_many (v ∷ vs) (n ∷ ns) [] a b = absurd (omega arith)
-  numbers_many (v ∷ vs) (n ∷ ns) (len ∷ lens) a b = ap suc (numbers_many vs ns lens (omega arith) (omega arith))
-
-  number_local : (vs : List Value) (ns lens : List ℕ) (k : ℕ) → length ns ≡ length vs → length lens ≡ length vs → k < length vs → is_local (meant_in section (value_at vs k)) ≡ true → get_or (with_numbers section vs ns lens) k 0 ≡ least_unsigned_len (get_or ns k 0)
-  number_local [] ns lens k a b lt local = absurd (omega arith)
-  number_local (v ∷ vs) [] lens k a b lt local = absurd (omega arith)
-  number_local (v ∷ vs) (n ∷ ns) [] k a b lt local = absurd (omega arith)
-  number_local (v ∷ vs) (n ∷ ns) (len ∷ lens) zero a b lt local = ap (λ (t : Bool). if t then least_unsigned_len n else len) local
-  number_local (v ∷ vs) (n ∷ ns) (len ∷ lens) (suc k) a b lt local = number_local vs ns lens k (omega arith) (omega arith) (omega arith) local
-
-  number_other : (vs : List Value) (ns lens : List ℕ) (k : ℕ) → length ns ≡ length vs → length lens ≡ length vs → k < length vs → is_local (meant_in section (value_at vs k)) ≡ false → get_or (with_numbers section vs ns lens) k 0 ≡ get_or lens k 0
-  number_other [] ns lens k a b lt none = absurd (omega arith)
-  number_other (v ∷ vs) [] lens k a b lt none = absurd (omega arith)
-  number_other (v ∷ vs) (n ∷ ns) [] k a b lt none = absurd (omega arith)
-  number_other (v ∷ vs) (n ∷ ns) (len ∷ lens) zero a b lt none = ap (λ (t : Bool). if t then least_unsigned_len n else len) none
-  number_other (v ∷ vs) (n ∷ ns) (len ∷ lens) (suc k) a b lt none = number_other vs ns lens k (omega arith) (omega arith) (omega arith) none
-
-pub layouts_hold : LayoutsHold
-layouts_hold unit table columns numbers anew spots lens start entries ends to are held_many ends_many laid placed named =
-    let f : Arena = unit.forest in
-    let rows : List SlotRow = laid.rows in
-    let sizes : List ℕ = laid.sizes in
-    let others : List ℕ = lens_of anew.ends in
-    let others_many : length others ≡ length f.values = lens_len 0 anew.ends ∙ ends_many in
-    let many : length (with_numbers f.section f.values anew.held others) ≡ length f.values = numbers_many f.section f.values anew.held others held_many others_many in
-    ext_get_or 0 (lens_anew f anew) lens (many ∙ sym laid.lens_are.count) (λ k less.
-    let lt : k < length f.values = omega arith in
-    elim (cases_Bool (is_local (meant_in f.section (value_at f.values k)))) [
-      | inl local ↦
-          let i : ℕ = locals_before f k in
-          let below : i < locals_in f.section f.values = number_below (λ (v : Value). is_local (meant_in f.section v)) f.values (value.Addr 0) k lt local in
-          let count : length rows ≡ length spots = laid.slots.count in
-          let all : length spots ≡ locals_in f.section f.values = are.count in
-          let inside : i < length rows = omega arith in
-          let counts = laid.slots.each sizes lens start entries ends to laid.layout.same_length laid.lens_are placed i inside in
-          let first : start + slot_number sizes (row_at rows i) ≡ spot_place entries ends (spot_at spots i) = counts.number in
-          let second : start + get_or anew.held k 0 ≡ spot_place entries ends (spot_at spots i) = named k lt local in
-          let same : slot_number sizes (row_at rows i) ≡ get_or anew.held k 0 = omega arith in
-          let size : get_or sizes i 0 ≡ least_unsigned_len (get_or anew.held k 0) = laid.tight i inside ∙ ap (λ (z : SlotForm). need z (slot_number sizes (row_at rows i))) counts.form ∙ ap least_unsigned_len same in
-          number_local f.section f.values anew.held others k held_many others_many lt local ∙ sym (laid.lens_are.local k lt local ∙ size)
-      | inr none ↦
-          number_other f.section f.values anew.held others k held_many others_many lt none ∙ sym (laid.lens_are.other k lt (λ local. both_ways (is_local (meant_in f.section (value_at f.values k))) none local))
-    ])
+      let ops = operations_in f held in
+      let news = operations_anew f held op_numbers in
+      let meanings = λ (i : ℕ). renewed (get_or anew.held i 0) [] (meaning_at f i) in
+      let aims : List Aim = aims_of f ops in
+      let others : List Aim = aims_anew f held anew.held op_numbers in
+      let rows : List SlotRow = laid.rows in
+      let sizes : List ℕ = laid.sizes in
+      let under = laid.lens_are in
+      let count : length rows ≡ length aims = laid.slots.count in
+      let long : length sizes ≡ length rows = laid.layout.same_length in
+      let spots_many : length spots ≡ length aims = AllZip-long (IsSpotFor f unit.head.at) aims spots spotted in
+      let others_many : length spots ≡ length others = AllZip-long (IsSpotPlaced start entries ends) others spots named in
+      let met : AreMet aims others sizes = met_each aims others sizes (omega (arith, spots_many, others_many)) (omega (arith, count, long)) (λ i lt.
+      let inside : i < length rows = omega (arith, lt, count) in
+      row_met f ops entries ends sizes start i (spot_at spots i) (aim_at aims i) (aim_at others i) (row_at rows i) (laid.slots.each sizes lens start entries ends to long under placed i inside) (laid.tight i inside) (zip_at (IsSpotPlaced start entries ends) others spots i named (omega (arith, lt, spots_many, others_many)))) in
+      let many : length (lens_anew f anew) ≡ length f.values = anew_len f anew held_many ends_many in
+      ext_get_or 0 (lens_anew f anew) lens (many ∙ sym under.count) (λ k less.
+      let lt : k < length f.values = omega (arith, less, many) in
+      let at = met_values (meaning_at f) meanings ops news (λ (i : ℕ). value_fewer (meaning_at f i) (get_or anew.held i 0) (refs_of held op_numbers i) (ops i)) sizes (length f.values) k lt (omega (arith, spots_many, others_many)) met in
+      let ranged : slots_before f ops (suc k) - slots_before f ops k ≡ length (value_aims (meaning_at f k) (ops k)) = let both = length-append (aims_before (meaning_at f) ops k) (value_aims (meaning_at f k) (ops k)) in omega (arith, both) in
+      anew_at f anew held_many ends_many k lt
+      ∙ value_len f held anew op_numbers sizes k lt has written at
+      ∙ sym (under.each k lt ∙ ap (λ (n : ℕ). fixed_length (ops k) + sum (take n (drop (slots_before f ops k) sizes))) ranged))

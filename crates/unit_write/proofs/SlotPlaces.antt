@@ -1,5 +1,5 @@
 -- Places under sizes of slots are those without slots and the sizes of the slots before.
-use Rattle.std.proofs.Common.{◌≡◌, ◌≤◌, ◌<◌, ◌+◌, ℕ, zero, suc, List, [], ◌∷◌, length, get_or, take, drop, sum, ◌∙◌, ap, refl, arith, add-zero}
+use Rattle.std.proofs.Common.{◌≡◌, ◌≤◌, ◌<◌, ◌+◌, ℕ, zero, suc, List, [], ◌∷◌, length, get_or, ◌∙◌, ap, refl, arith, add-zero}
 use Rattle.leb_codec.specs.Leb.{least_unsigned_len}
 use Rattle.leb_codec.proofs.Lens.{least_unsigned}
 use Rattle.std.specs.Prelude.{slice_index}
@@ -9,48 +9,44 @@ use Rattle.entry_arena.specs.Arena.{Arena, entry_at}
 use Rattle.entry_arena.specs.Order.{HaveValues}
 use Rattle.entry_arena.specs.Walks.{Item}
 use Rattle.entry_arena.specs.Walks.Item.{AnEntry, AnEnd}
-use Rattle.entry_read.specs.Locals.{locals_in, locals_before}
-use Rattle.unit_write.specs.Lens.{AreLensUnder, HaveNone}
+use Rattle.expr_ops.specs.Expressions.{Operation}
 use Rattle.unit_write.specs.Values.{OneSize}
-use Rattle.unit_write.specs.Placing.{values_in, EntrySize, ArePlaced}
+use Rattle.unit_write.specs.Placing.{EntrySize, ArePlaced}
 use Rattle.unit_write.specs.inside.Marks.{values_before, EndsFollow}
-use Rattle.unit_write.proofs.SlotLists.{sum_more}
-use Rattle.unit_write.proofs.SlotSizes.{locals_next, entry_slots}
+use Rattle.unit_write.proofs.SlotSizes.{AreAdded, weight, entry_weights}
 
--- places are others behind a base, with the sizes of so many slots between
-pub record AreShifted (base : ℕ) (sizes : List ℕ) (slots : ℕ → ℕ) (fixed places : List ℕ) : Type 0 where
+-- places are others behind a base, each with a weight more
+pub record AreShifted (base : ℕ) (weights : ℕ → ℕ) (fixed places : List ℕ) : Type 0 where
   pub many : length fixed ≡ length places
-  pub each : (k : ℕ) → k < length places → get_or places k 0 ≡ base + get_or fixed k 0 + sum (take (slots k) sizes)
+  pub each : (k : ℕ) → k < length places → get_or places k 0 ≡ base + get_or fixed k 0 + weights k
 
-nothing_shifted : (base : ℕ) (sizes : List ℕ) (slots : ℕ → ℕ) → AreShifted base sizes slots [] []
-nothing_shifted base sizes slots = record { many = refl; each = λ k lt. absurd (omega arith) }
+nothing_shifted : (base : ℕ) (weights : ℕ → ℕ) → AreShifted base weights [] []
+nothing_shifted base weights = record { many = refl; each = λ k lt. absurd (omega arith) }
 
-one_shifted : (base : ℕ) (sizes : List ℕ) (slots more : ℕ → ℕ) (x y : ℕ) (fixed places : List ℕ) → y ≡ base + x + sum (take (slots 0) sizes) → ((k : ℕ) → more k ≡ slots (suc k)) → AreShifted base sizes more fixed places → AreShifted base sizes slots (x ∷ fixed) (y ∷ places)
-one_shifted base sizes slots more x y fixed places here later h = record { many = ap suc h.many; each = at }
+one_shifted : (base : ℕ) (weights more : ℕ → ℕ) (x y : ℕ) (fixed places : List ℕ) → y ≡ base + x + weights 0 → ((k : ℕ) → more k ≡ weights (suc k)) → AreShifted base more fixed places → AreShifted base weights (x ∷ fixed) (y ∷ places)
+one_shifted base weights more x y fixed places here later h = record { many = ap suc h.many; each = at }
   where
-    at : (k : ℕ) → k < length (y ∷ places) → get_or (y ∷ places) k 0 ≡ base + get_or (x ∷ fixed) k 0 + sum (take (slots k) sizes)
+    at : (k : ℕ) → k < length (y ∷ places) → get_or (y ∷ places) k 0 ≡ base + get_or (x ∷ fixed) k 0 + weights k
     at zero lt = here
-    at (suc k) lt = h.each k (omega arith) ∙ ap (λ (z : ℕ). base + get_or fixed k 0 + sum (take z sizes)) (later k)
+    at (suc k) lt = h.each k (omega arith) ∙ ap (λ (z : ℕ). base + get_or fixed k 0 + z) (later k)
 
-other_slots : (base : ℕ) (sizes : List ℕ) (slots more : ℕ → ℕ) (fixed places : List ℕ) → ((k : ℕ) → more k ≡ slots k) → AreShifted base sizes more fixed places → AreShifted base sizes slots fixed places
-other_slots base sizes slots more fixed places same h = record {
-  many = h.many;
-  each = λ k lt. h.each k lt ∙ ap (λ (z : ℕ). base + get_or fixed k 0 + sum (take z sizes)) (same k);
-}
-
-module _ (one : OneSize) (table : Listing) (columns : List Spec) (numbers : List ℕ) (f : Arena) (valued : HaveValues f.entries (length f.values)) (others sizes lens : List ℕ) (none : HaveNone f others) (under : AreLensUnder f others sizes lens) (base : ℕ) where
+module _ (one : OneSize) (table : Listing) (columns : List Spec) (numbers : List ℕ) (f : Arena) (valued : HaveValues f.entries (length f.values)) (ops : ℕ → List Operation) (bare sizes lens : List ℕ) (added : AreAdded f ops sizes bare lens) (base : ℕ) where
   abbrev Bare : ℕ → List Item → ℕ → List ℕ → List ℕ → ℕ → Type 0
-  Bare id items at es ds to = ArePlaced (EntrySize table columns numbers f others) id items at es ds to
+  Bare id items at es ds to = ArePlaced (EntrySize table columns numbers f bare) id items at es ds to
 
   abbrev Full : ℕ → List Item → ℕ → List ℕ → List ℕ → ℕ → Type 0
   Full id items at xs ys to = ArePlaced (EntrySize table columns numbers f lens) id items at xs ys to
 
+  -- the sizes of the slots of so many entries
+  abbrev weight_to : ℕ → ℕ
+  weight_to id = weight f ops sizes (values_before f id)
+
   -- entries and codes 0 are shifted by the slots before them, where `counts` has how many entries stand before each code 0
   abbrev Both : ℕ → List ℕ → List ℕ → List ℕ → List ℕ → List ℕ → Type 0
-  Both id counts es ds xs ys = AreShifted base sizes (λ k. locals_before f (values_before f (id + k))) es xs × AreShifted base sizes (λ k. locals_before f (values_before f (get_or counts k 0))) ds ys
+  Both id counts es ds xs ys = AreShifted base (λ k. weight_to (id + k)) es xs × AreShifted base (λ k. weight_to (get_or counts k 0)) ds ys
 
-  pub shifted : (id at up : ℕ) (items : List Item) (counts es ds xs ys : List ℕ) (to too : ℕ) → EndsFollow id items counts → Bare id items at es ds to → Full id items up xs ys too → id + length es ≡ length f.entries → up ≡ base + at + sum (take (locals_before f (values_before f id)) sizes) → Both id counts es ds xs ys
-  shifted id at up [] counts [] [] [] [] to too follow p q all here = (nothing_shifted base sizes _, nothing_shifted base sizes _)
+  pub shifted : (id at up : ℕ) (items : List Item) (counts es ds xs ys : List ℕ) (to too : ℕ) → EndsFollow id items counts → Bare id items at es ds to → Full id items up xs ys too → id + length es ≡ length f.entries → up ≡ base + at + weight_to id → Both id counts es ds xs ys
+  shifted id at up [] counts [] [] [] [] to too follow p q all here = (nothing_shifted base _, nothing_shifted base _)
   shifted id at up [] counts (e ∷ es) ds xs ys to too follow p q all here = absurd p
   shifted id at up [] counts [] (d ∷ ds) xs ys to too follow p q all here = absurd p
   shifted id at up [] counts [] [] (x ∷ xs) ys to too follow p q all here = absurd q
@@ -59,24 +55,21 @@ module _ (one : OneSize) (table : Listing) (columns : List Spec) (numbers : List
   shifted id at up (AnEntry k ∷ items) counts (e ∷ es) ds [] ys to too follow p q all here = absurd q
   shifted id at up (AnEntry k ∷ items) counts (e ∷ es) ds (x ∷ xs) ys to too follow (pe, (ps, psized, pmore)) (qe, (qs, qsized, qmore)) all here =
       let inside : id < length f.entries = omega arith in
-      let first : ℕ = locals_before f (values_before f id) in
-      let n : ℕ = locals_in f.section (values_in f id) in
-      let own : qs ≡ ps + sum (take n (drop first sizes)) = entry_slots f valued others sizes lens none under one table columns numbers id ps qs inside psized qsized in
-      let more : sum (take (first + n) sizes) ≡ sum (take first sizes) + sum (take n (drop first sizes)) = sum_more sizes first n in
-      let count : sum (take (locals_before f (values_before f (suc id))) sizes) ≡ sum (take (first + n) sizes) = ap (λ (z : ℕ). sum (take z sizes)) (locals_next f valued id inside) in
-      let next : up + qs ≡ base + (at + ps) + sum (take (locals_before f (values_before f (suc id))) sizes) = omega arith in
+      let own : qs + weight_to id ≡ ps + weight_to (suc id) = entry_weights f valued ops bare sizes lens added one table columns numbers id ps qs inside psized qsized in
+      let next : up + qs ≡ base + (at + ps) + weight_to (suc id) = omega arith in
       let r = shifted (suc id) (at + ps) (up + qs) items counts es ds xs ys to too follow pmore qmore (omega arith) next in
-      let place : x ≡ base + e + sum (take (locals_before f (values_before f (id + 0))) sizes) = (let same : sum (take (locals_before f (values_before f (id + 0))) sizes) ≡ sum (take first sizes) = ap (λ (z : ℕ). sum (take (locals_before f (values_before f z)) sizes)) (add-zero id) in omega arith) in
-      (one_shifted base sizes _ (λ j. locals_before f (values_before f (suc id + j))) e x es xs place (λ j. ap (λ (z : ℕ). locals_before f (values_before f z)) (let same : suc id + j ≡ id + suc j = omega arith in same)) r.0, r.1)
+      let same : weight_to (id + 0) ≡ weight_to id = ap weight_to (add-zero id) in
+      let place : x ≡ base + e + weight_to (id + 0) = omega arith in
+      (one_shifted base _ (λ j. weight_to (suc id + j)) e x es xs place (λ j. ap weight_to (let same : suc id + j ≡ id + suc j = omega arith in same)) r.0, r.1)
   shifted id at up (AnEnd ∷ items) [] es ds xs ys to too follow p q all here = absurd follow
   shifted id at up (AnEnd ∷ items) (n ∷ counts) es [] xs ys to too follow p q all here = absurd p
   shifted id at up (AnEnd ∷ items) (n ∷ counts) es (d ∷ ds) xs [] to too follow p q all here = absurd q
   shifted id at up (AnEnd ∷ items) (n ∷ counts) es (d ∷ ds) xs (y ∷ ys) to too (count, follow) (pe, pmore) (qe, qmore) all here =
-      let first : ℕ = locals_before f (values_before f id) in
-      let next : up + 1 ≡ base + (at + 1) + sum (take first sizes) = omega arith in
+      let next : up + 1 ≡ base + (at + 1) + weight_to id = omega arith in
       let r = shifted id (at + 1) (up + 1) items counts es ds xs ys to too follow pmore qmore all next in
-      let place : y ≡ base + d + sum (take (locals_before f (values_before f n)) sizes) = (let same : sum (take (locals_before f (values_before f n)) sizes) ≡ sum (take first sizes) = ap (λ (z : ℕ). sum (take (locals_before f (values_before f z)) sizes)) count in omega arith) in
-      (r.0, one_shifted base sizes _ (λ j. locals_before f (values_before f (get_or counts j 0))) d y ds ys place (λ j. refl) r.1)
+      let same : weight_to n ≡ weight_to id = ap weight_to count in
+      let place : y ≡ base + d + weight_to n = omega arith in
+      (r.0, one_shifted base _ (λ j. weight_to (get_or counts j 0)) d y ds ys place (λ j. refl) r.1)
 
 -- a code takes a byte
 pub entry_some : (table : Listing) (columns : List Spec) (numbers : List ℕ) (f : Arena) (lens : List ℕ) (id size : ℕ) → EntrySize table columns numbers f lens id size → 1 ≤ size

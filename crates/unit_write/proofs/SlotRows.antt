@@ -1,64 +1,78 @@
 -- The slots of a unit by what is counted of its entries and codes 0.
-use Rattle.std.proofs.Common.{◌≡◌, ◌≤◌, ◌<◌, ◌+◌, ◌-◌, ◌^◌, ℕ, suc, List, [], length, get_or, take, sum, true, ◌∙◌, sym, ap, refl, subst, arith, inl, inr}
-use Rattle.std.specs.Prelude.{map, slice_range, cond}
-use Rattle.std.proofs.lemmas.Bool.{cases_lt, false≢true}
+use Rattle.std.proofs.Common.{◌≡◌, ◌≤◌, ◌<◌, ◌+◌, ◌-◌, ◌^◌, ℕ, zero, suc, List, [], ◌∷◌, length, get_or, take, sum, ◌∙◌, sym, ap, refl, subst, arith, inl, inr}
+use Rattle.std.specs.Prelude.{slice_range}
+use Rattle.std.specs.List.{AllZip}
+use Rattle.std.proofs.lemmas.Bool.{cases_lt}
 use Rattle.std.proofs.lemmas.List.{length-map, get_or-map}
-use Rattle.std.proofs.lemmas.List.Sums.{sum_by-take-le}
-use Rattle.leb_codec.specs.Layout.{SlotRow, row_at}
+use Rattle.std.proofs.lemmas.Slice.Zip.{AllZip-long}
+use Rattle.leb_codec.specs.Layout.{SlotForm, uleb, call, SlotRow, row_at}
+use Rattle.slot_layout.specs.declared.slots.Slot.{Slot}
 use Rattle.slot_layout.specs.declared.slots.SlotKind.TheVariants.{Uleb as TheUleb}
-use Rattle.slot_layout.specs.Rows.{row_of, rows_of, HasRangesInside, HasSmallFixed}
-use Rattle.form_codec.specs.declared.value.Value.{Value}
-use Rattle.form_codec.specs.declared.value.Value.TheVariants as value
-use Rattle.form_codec.specs.Forms.{Meaning}
-use Rattle.form_codec.specs.Forms.Meaning.{InUnit}
-use Rattle.form_codec.specs.Values.{meant_in}
+use Rattle.slot_layout.specs.Rows.{form_of, row_of, rows_of, HasRangesInside, HasSmallFixed}
 use Rattle.abbrev_tables.specs.declared.decl.Spec.{Spec}
 use Rattle.abbrev_tables.specs.Listings.{Listing}
-use Rattle.entry_arena.specs.Arena.{Arena, entry_at, value_at}
+use Rattle.expr_ops.specs.Expressions.{Operation}
+use Rattle.expr_ops.specs.Slots.{Aim}
+use Rattle.expr_ops.specs.Slots.Aim.{Place, Length}
+use Rattle.entry_arena.specs.Arena.{Arena, entry_at}
 use Rattle.entry_arena.specs.Order.{HaveValues}
 use Rattle.entry_arena.specs.Trees.{nothing_from, listed_to}
 use Rattle.entry_arena.specs.Walks.{Item}
-use Rattle.entry_read.specs.Locals.{is_local, locals_in, locals_before, AreValuesBefore}
+use Rattle.entry_read.specs.Slots.{aims_of, slots_before, aim_at, AreValuesBefore, IsPlaceRow, IsRowOf}
 use Rattle.entry_read.specs.Units.{HeadAndForest, entries_at, declarations_of}
+use Rattle.unit_write.specs.declared.marks.Marks.{Marks}
 use Rattle.unit_write.specs.declared.slots.Spot.{Spot}
-use Rattle.unit_write.specs.declared.slots.Spot.TheVariants.{Entry as TheEntry, End as TheEnd}
-use Rattle.unit_write.specs.Lens.{AreLensUnder, HaveNone}
+use Rattle.unit_write.specs.declared.slots.Spot.TheVariants.{Entry as TheEntry, End as TheEnd, Nothing as NoSpot}
+use Rattle.unit_write.specs.Lens.{AreLensUnder}
 use Rattle.unit_write.specs.Values.{OneSize}
 use Rattle.unit_write.specs.Placing.{EntrySize, ArePlaced}
 use Rattle.unit_write.specs.Moved.{IsPlacedAt}
-use Rattle.unit_write.specs.Slots.{IsSpotAt, spot_place, spot_at, AreSpotsOf, CountsTo, AreSlots}
-use Rattle.unit_write.specs.inside.Marks.{values_before, AreLocalsCounted, AreEntriesCounted, EndsFollow, HasSpot, entries_before, slot_by}
-use Rattle.unit_write.proofs.SlotLists.{passing}
-use Rattle.unit_write.proofs.SlotSizes.{first_is, before_inside, before_rises}
+use Rattle.unit_write.specs.Slots.{IsSpotAt, spot_place, spot_at, IsSpotFor, AreSpotsOf, AreSlots}
+use Rattle.unit_write.specs.inside.Marks.{values_before, EndsFollow, AreMarks, HasSpot, HasSpotFor, HaveSpots, entries_before, kind_of, slot_for, AreSlotsMade}
+use Rattle.unit_write.proofs.SlotAims.{slots_up, IsWithin, AreWithin, within_at}
+use Rattle.unit_write.proofs.SlotSizes.{first_is, before_inside, before_rises, weight, are_added}
 use Rattle.unit_write.proofs.SlotPlaces.{Rises, AreShifted, shifted, places_rise, entry_some}
 use Rattle.unit_write.proofs.SlotWalks.{same_items, walk_many}
 
 whole_range : (xs : List ℕ) (n : ℕ) → sum (slice_range xs 0 n) ≡ sum (take n xs)
 whole_range xs n = let same : n - 0 ≡ n = omega arith in ap (λ (k : ℕ). sum (take k xs)) same
 
--- the meaning of a reference within a unit
-pub in_unit : (meaning : Meaning) → is_local meaning ≡ true → (n : ℕ) × (meaning ≡ InUnit n)
-in_unit (InUnit n) local = (n, refl)
-in_unit meaning local = absurd (false≢true local)
+-- what stands beside an element of the other list
+zip_at : {A B : Type 0} (R : A → B → Type 0) (xs : List A) (ys : List B) (i : ℕ) (d : A) (e : B) → AllZip R xs ys → i < length xs → R (get_or xs i d) (get_or ys i e)
+zip_at R [] ys i d e h lt = absurd (omega arith)
+zip_at R (x ∷ xs) [] i d e h lt = absurd h
+zip_at R (x ∷ xs) (y ∷ ys) zero d e h lt = h.0
+zip_at R (x ∷ xs) (y ∷ ys) (suc i) d e h lt = zip_at R xs ys i d e h.1 (omega arith)
+
+form_is : (form : SlotForm) → form_of (kind_of form) ≡ form
+form_is uleb = refl
+form_is call = refl
 
 -- an entry or a code 0 of a unit
 abbrev pub IsOne : Arena → Spot → Type 0
 IsOne f (TheEntry id) = id < length f.entries
 IsOne f (TheEnd number) = number < length f.ends
+IsOne f NoSpot = ⊥
 
 one_of : (f : Arena) (spot : Spot) (place : ℕ) → IsSpotAt f spot place → IsOne f spot
 one_of f (TheEntry id) place h = h.0
 one_of f (TheEnd number) place h = h.0
+one_of f NoSpot place h = absurd h
 
--- each slot has one
-pub spot_one : (unit : HeadAndForest) (spots : List Spot) → AreSpotsOf unit spots → (i : ℕ) → i < length spots → IsOne unit.forest (spot_at spots i)
-spot_one unit spots h i lt =
-    let f : Arena = unit.forest in
-    let count : length spots ≡ locals_in f.section f.values = h.count in
-    let r = passing (λ (v : Value). is_local (meant_in f.section v)) f.values (value.Addr 0) i (omega arith) in
-    let m = in_unit (meant_in f.section (value_at f.values r.at)) r.holds in
-    let at = h.each r.at m.0 r.inside m.1 in
-    one_of f (spot_at spots i) (unit.head.at + m.0) (subst (λ (z : ℕ). IsSpotAt f (spot_at spots z) (unit.head.at + m.0)) r.number at)
+-- a slot that tells a place has one
+abbrev IsOneFor : Arena → Aim → Spot → Type 0
+IsOneFor f (Place form n) spot = IsOne f spot
+IsOneFor f (Length fixed count) spot = Unit {0}
+
+one_for : (f : Arena) (at : ℕ) (aim : Aim) (spot : Spot) → IsSpotFor f at aim spot → IsOneFor f aim spot
+one_for f at (Place form n) spot h = one_of f spot (at + n) h
+one_for f at (Length fixed count) spot h = tt
+
+spot_one : (unit : HeadAndForest) (ops : ℕ → List Operation) (spots : List Spot) → AreSpotsOf unit ops spots → (i : ℕ) → i < length (aims_of unit.forest ops) → IsOneFor unit.forest (aim_at (aims_of unit.forest ops) i) (spot_at spots i)
+spot_one unit ops spots h i lt = one_for unit.forest unit.head.at (aim_at (aims_of unit.forest ops) i) (spot_at spots i) (zip_at (IsSpotFor unit.forest unit.head.at) (aims_of unit.forest ops) spots i (Length 0 0) NoSpot h lt)
+
+pub spots_many : (unit : HeadAndForest) (ops : ℕ → List Operation) (spots : List Spot) → AreSpotsOf unit ops spots → length spots ≡ length (aims_of unit.forest ops)
+spots_many unit ops spots h = AllZip-long (IsSpotFor unit.forest unit.head.at) (aims_of unit.forest ops) spots h
 
 -- the values of the entries before a place, where so many stand before it
 are_before : (f : Arena) → HaveValues f.entries (length f.values) → (entries : List ℕ) (place n : ℕ) → n ≤ length f.entries → ((j : ℕ) → j < length f.entries → get_or entries j 0 < place → j < n) → ((j : ℕ) → j < length f.entries → place ≤ get_or entries j 0 → n ≤ j) → AreValuesBefore f entries place (values_before f n)
@@ -79,21 +93,33 @@ are_before f valued entries place n inside front rest = record {
       omega arith;
 }
 
-module _ (unit : HeadAndForest) (table : Listing) (columns : List Spec) (numbers others : List ℕ) (es ds : List ℕ) (end : ℕ) (bare : IsPlacedAt unit table columns numbers others 0 es ds end) (locals counts : List ℕ) (marked : AreLocalsCounted unit.forest locals) (counted : AreEntriesCounted unit.forest counts) where
-  follow : EndsFollow 0 bare.whole.items counts
-  follow = counted (declarations_of table) (entries_at unit.head) bare.place bare.whole
+module _ (unit : HeadAndForest) (table : Listing) (columns : List Spec) (numbers : List ℕ) (ops : ℕ → List Operation) (marks : Marks) (marked : AreMarks unit table columns numbers ops marks) where
+  abbrev es : List ℕ
+  es = marks.places.entries.items
 
-  rises : Rises 0 (0 + (entries_at unit.head - unit.head.at)) counts es ds end
-  rises = places_rise (EntrySize table columns numbers unit.forest others) (entry_some table columns numbers unit.forest others) 0 (0 + (entries_at unit.head - unit.head.at)) bare.whole.items counts es ds end follow bare.placed
+  abbrev ds : List ℕ
+  ds = marks.places.ends.items
+
+  abbrev counts : List ℕ
+  counts = marks.entries_before.items
+
+  abbrev bare : IsPlacedAt unit table columns numbers marked.lens 0 es ds marks.places.end
+  bare = marked.placed
+
+  follow : EndsFollow 0 bare.whole.items counts
+  follow = marked.entries (declarations_of table) (entries_at unit.head) bare.place bare.whole
+
+  rises : Rises 0 (0 + (entries_at unit.head - unit.head.at)) counts es ds marks.places.end
+  rises = places_rise (EntrySize table columns numbers unit.forest marked.lens) (entry_some table columns numbers unit.forest marked.lens) 0 (0 + (entries_at unit.head - unit.head.at)) bare.whole.items counts es ds marks.places.end follow bare.placed
 
   all_entries : length unit.forest.entries ≡ length es
   all_entries =
-      let e : length unit.forest.entries ≡ 0 + length es = (walk_many unit.forest.section (declarations_of table) (EntrySize table columns numbers unit.forest others) 0 (0 + (entries_at unit.head - unit.head.at)) bare.whole.items es ds end (nothing_from (entries_at unit.head)) (listed_to unit.forest bare.place) [] [] bare.whole.walked bare.placed).0 in
+      let e : length unit.forest.entries ≡ 0 + length es = (walk_many unit.forest.section (declarations_of table) (EntrySize table columns numbers unit.forest marked.lens) 0 (0 + (entries_at unit.head - unit.head.at)) bare.whole.items es ds marks.places.end (nothing_from (entries_at unit.head)) (listed_to unit.forest bare.place) [] [] bare.whole.walked bare.placed).0 in
       omega arith
 
   all_ends : length unit.forest.ends ≡ length ds
   all_ends =
-      let e : length unit.forest.ends ≡ 0 + length ds = (walk_many unit.forest.section (declarations_of table) (EntrySize table columns numbers unit.forest others) 0 (0 + (entries_at unit.head - unit.head.at)) bare.whole.items es ds end (nothing_from (entries_at unit.head)) (listed_to unit.forest bare.place) [] [] bare.whole.walked bare.placed).1 in
+      let e : length unit.forest.ends ≡ 0 + length ds = (walk_many unit.forest.section (declarations_of table) (EntrySize table columns numbers unit.forest marked.lens) 0 (0 + (entries_at unit.head - unit.head.at)) bare.whole.items es ds marks.places.end (nothing_from (entries_at unit.head)) (listed_to unit.forest bare.place) [] [] bare.whole.walked bare.placed).1 in
       omega arith
 
   -- so many entries stand before it
@@ -104,57 +130,78 @@ module _ (unit : HeadAndForest) (table : Listing) (columns : List Spec) (numbers
       let many : length unit.forest.entries ≡ length es = all_entries in
       let within : get_or counts number 0 ≤ 0 + length es = rises.within number (omega arith) in
       omega arith
+  before_few NoSpot one = absurd one
 
-  pub has_spot : (spot : Spot) → IsOne unit.forest spot → HasSpot (length es) (length ds) locals counts spot
+  has_spot : (spot : Spot) → IsOne unit.forest spot → HasSpot marks spot
   has_spot (TheEntry id) one =
       let many : length unit.forest.entries ≡ length es = all_entries in
-      let long : length locals ≡ suc (length unit.forest.entries) = marked.count in
+      let long : length marks.slots_before.items ≡ suc (length unit.forest.entries) = marked.slots.count in
       (omega arith, omega arith)
   has_spot (TheEnd number) one =
       let all : length unit.forest.ends ≡ length ds = all_ends in
-      let long : length locals ≡ suc (length unit.forest.entries) = marked.count in
+      let long : length marks.slots_before.items ≡ suc (length unit.forest.entries) = marked.slots.count in
       let same : length counts ≡ length ds = rises.counted in
       let few : get_or counts number 0 ≤ length unit.forest.entries = before_few (TheEnd number) one in
       (omega arith, omega arith, omega arith)
+  has_spot NoSpot one = absurd one
 
-  -- so many references stand before it
-  to_is : (spot : Spot) → IsOne unit.forest spot → get_or locals (entries_before counts spot) 0 ≡ locals_before unit.forest (values_before unit.forest (entries_before counts spot))
-  to_is spot one = marked.each (entries_before counts spot) (before_few spot one)
+  has_spot_for : (aim : Aim) (spot : Spot) → IsOneFor unit.forest aim spot → HasSpotFor marks aim spot
+  has_spot_for (Place form n) spot one = has_spot spot one
+  has_spot_for (Length fixed count) spot one = tt
 
-  place_small : end < 2 ^ 31 → (spot : Spot) → IsOne unit.forest spot → spot_place es ds spot < 2 ^ 31
-  place_small few (TheEntry id) one =
+  -- each slot has its spot
+  pub have_spots : (spots : List Spot) → AreSpotsOf unit ops spots → HaveSpots marks 0 (aims_of unit.forest ops) spots
+  have_spots spots are = record {
+    inside = let many : length spots ≡ length (aims_of unit.forest ops) = spots_many unit ops spots are in omega arith;
+    each = λ i lt. subst (λ (z : ℕ). HasSpotFor marks (aim_at (aims_of unit.forest ops) i) (spot_at spots z)) (let e : i ≡ 0 + i = omega arith in e) (has_spot_for (aim_at (aims_of unit.forest ops) i) (spot_at spots i) (spot_one unit ops spots are i lt));
+  }
+
+  -- so many slots stand before it
+  to_is : (spot : Spot) → IsOne unit.forest spot → get_or marks.slots_before.items (entries_before counts spot) 0 ≡ slots_before unit.forest ops (values_before unit.forest (entries_before counts spot))
+  to_is spot one = marked.slots.each (entries_before counts spot) (before_few spot one)
+
+  place_small : (spot : Spot) → IsOne unit.forest spot → spot_place es ds spot < 2 ^ 31
+  place_small (TheEntry id) one =
       let many : length unit.forest.entries ≡ length es = all_entries in
-      let most : get_or es id 0 ≤ end = rises.highest id (omega arith) in
+      let most : get_or es id 0 ≤ marks.places.end = rises.highest id (omega arith) in
+      let small : marks.places.end < 2 ^ 31 = marked.small in
       omega arith
-  place_small few (TheEnd number) one =
+  place_small (TheEnd number) one =
       let all : length unit.forest.ends ≡ length ds = all_ends in
-      let most : get_or ds number 0 ≤ end = rises.highest_end number (omega arith) in
+      let most : get_or ds number 0 ≤ marks.places.end = rises.highest_end number (omega arith) in
+      let small : marks.places.end < 2 ^ 31 = marked.small in
       omega arith
+  place_small NoSpot one = absurd one
 
-  module _ (one_size : OneSize) (valued : HaveValues unit.forest.entries (length unit.forest.values)) (none : HaveNone unit.forest others) (sizes lens : List ℕ) (start : ℕ) (xs ys : List ℕ) (to : ℕ) (under : AreLensUnder unit.forest others sizes lens) (full : IsPlacedAt unit table columns numbers lens start xs ys to) where
+  module _ (one_size : OneSize) (valued : HaveValues unit.forest.entries (length unit.forest.values)) (sizes lens : List ℕ) (start : ℕ) (xs ys : List ℕ) (to : ℕ) (under : AreLensUnder unit.forest ops sizes lens) (full : IsPlacedAt unit table columns numbers lens start xs ys to) where
+    -- the sizes of the slots of so many entries
+    abbrev weight_to : ℕ → ℕ
+    weight_to id = weight unit.forest ops sizes (values_before unit.forest id)
+
     placed : ArePlaced (EntrySize table columns numbers unit.forest lens) 0 bare.whole.items (start + (entries_at unit.head - unit.head.at)) xs ys to
     placed = subst (λ (z : List Item). ArePlaced (EntrySize table columns numbers unit.forest lens) 0 z (start + (entries_at unit.head - unit.head.at)) xs ys to) (same_items unit.forest (declarations_of table) (entries_at unit.head) full.place bare.place full.whole bare.whole) full.placed
 
     up : Rises 0 (start + (entries_at unit.head - unit.head.at)) counts xs ys to
     up = places_rise (EntrySize table columns numbers unit.forest lens) (entry_some table columns numbers unit.forest lens) 0 (start + (entries_at unit.head - unit.head.at)) bare.whole.items counts xs ys to follow placed
 
-    here : start + (entries_at unit.head - unit.head.at) ≡ start + (0 + (entries_at unit.head - unit.head.at)) + sum (take (locals_before unit.forest (values_before unit.forest 0)) sizes)
-    here = let nothing : sum (take (locals_before unit.forest (values_before unit.forest 0)) sizes) ≡ 0 = refl in omega arith
+    here : start + (entries_at unit.head - unit.head.at) ≡ start + (0 + (entries_at unit.head - unit.head.at)) + weight_to 0
+    here = let nothing : weight_to 0 ≡ 0 = refl in omega arith
 
-    moved : AreShifted start sizes (λ k. locals_before unit.forest (values_before unit.forest (0 + k))) es xs × AreShifted start sizes (λ k. locals_before unit.forest (values_before unit.forest (get_or counts k 0))) ds ys
-    moved = shifted one_size table columns numbers unit.forest valued others sizes lens none under start 0 (0 + (entries_at unit.head - unit.head.at)) (start + (entries_at unit.head - unit.head.at)) bare.whole.items counts es ds xs ys end to follow bare.placed placed (let many : length unit.forest.entries ≡ length es = all_entries in omega arith) here
+    moved : AreShifted start (λ k. weight_to (0 + k)) es xs × AreShifted start (λ k. weight_to (get_or counts k 0)) ds ys
+    moved = shifted one_size table columns numbers unit.forest valued ops marked.lens sizes lens (are_added unit.forest ops sizes marked.lens lens marked.fixed under) start 0 (0 + (entries_at unit.head - unit.head.at)) (start + (entries_at unit.head - unit.head.at)) bare.whole.items counts es ds xs ys marks.places.end to follow bare.placed placed (let many : length unit.forest.entries ≡ length es = all_entries in omega arith) here
 
     -- its place is the one without slots, and the sizes of the slots before
-    place_is : (spot : Spot) → IsOne unit.forest spot → spot_place xs ys spot ≡ start + spot_place es ds spot + sum (take (locals_before unit.forest (values_before unit.forest (entries_before counts spot))) sizes)
+    place_is : (spot : Spot) → IsOne unit.forest spot → spot_place xs ys spot ≡ start + spot_place es ds spot + weight_to (entries_before counts spot)
     place_is (TheEntry id) one =
         let many : length unit.forest.entries ≡ length es = all_entries in
         let long : length es ≡ length xs = moved.0.many in
-        let same : sum (take (locals_before unit.forest (values_before unit.forest (0 + id))) sizes) ≡ sum (take (locals_before unit.forest (values_before unit.forest id)) sizes) = ap (λ (z : ℕ). sum (take (locals_before unit.forest (values_before unit.forest z)) sizes)) (let e : 0 + id ≡ id = omega arith in e) in
+        let same : weight_to (0 + id) ≡ weight_to id = ap weight_to (let e : 0 + id ≡ id = omega arith in e) in
         moved.0.each id (omega arith) ∙ ap (λ (z : ℕ). start + get_or es id 0 + z) same
     place_is (TheEnd number) one =
         let all : length unit.forest.ends ≡ length ds = all_ends in
         let long : length ds ≡ length ys = moved.1.many in
         moved.1.each number (omega arith)
+    place_is NoSpot one = absurd one
 
     spot_before : (spot : Spot) → IsOne unit.forest spot → AreValuesBefore unit.forest xs (spot_place xs ys spot) (values_before unit.forest (entries_before counts spot))
     spot_before (TheEntry id) one =
@@ -186,51 +233,67 @@ module _ (unit : HeadAndForest) (table : Listing) (columns : List Spec) (numbers
           | inl below ↦ absurd (let before : get_or xs j 0 < get_or ys number 0 = up.before number j (omega arith) (omega arith) (omega arith) in omega arith)
           | inr above ↦ above
         ])
+    spot_before NoSpot one = absurd one
 
-    counts_to : (spot : Spot) → IsOne unit.forest spot → CountsTo unit.forest xs sizes start (spot_place xs ys spot) (row_of (slot_by es ds locals counts spot))
-    counts_to spot one = record {
-      form = refl;
+    place_row : (spot : Spot) (i n : ℕ) (form : SlotForm) → IsOne unit.forest spot → IsPlaceRow unit.forest ops xs sizes start (spot_place xs ys spot) form (row_of (slot_for marks spot i (Place form n)))
+    place_row spot i n form one = record {
+      form_is = form_is form;
       from = refl;
       values = values_before unit.forest (entries_before counts spot);
       before = spot_before spot one;
       to = to_is spot one;
       number =
-          let number : ℕ = get_or locals (entries_before counts spot) 0 in
-          let range : sum (slice_range sizes 0 number) ≡ sum (take (locals_before unit.forest (values_before unit.forest (entries_before counts spot))) sizes) = whole_range sizes number ∙ ap (λ (z : ℕ). sum (take z sizes)) (to_is spot one) in
+          let number : ℕ = get_or marks.slots_before.items (entries_before counts spot) 0 in
+          let range : sum (slice_range sizes 0 number) ≡ weight_to (entries_before counts spot) = whole_range sizes number ∙ ap (λ (z : ℕ). sum (take z sizes)) (to_is spot one) in
           let place = place_is spot one in
           omega (arith, range, place);
     }
 
-  module _ (spots : List Spot) (are : AreSpotsOf unit spots) where
-    rows_many : length (rows_of (map (slot_by es ds locals counts) spots)) ≡ length spots
-    rows_many = length-map (map (slot_by es ds locals counts) spots) row_of ∙ length-map spots (slot_by es ds locals counts)
+    is_row : (aim : Aim) (spot : Spot) (i : ℕ) → IsOneFor unit.forest aim spot → IsRowOf unit.forest ops xs sizes start (spot_place xs ys spot) i aim (row_of (slot_for marks spot i aim))
+    is_row (Place form n) spot i one = place_row spot i n form one
+    is_row (Length fixed count) spot i one = refl
 
-    row_is : (i : ℕ) → i < length spots → row_at (rows_of (map (slot_by es ds locals counts) spots)) i ≡ row_of (slot_by es ds locals counts (spot_at spots i))
+  -- a slot counts no slots but those of the unit
+  range_inside : (aim : Aim) (spot : Spot) (i : ℕ) → HaveValues unit.forest.entries (length unit.forest.values) → IsOneFor unit.forest aim spot → i < length (aims_of unit.forest ops) → IsWithin (2 ^ 31) (length (aims_of unit.forest ops) - suc i) aim → ((row_of (slot_for marks spot i aim)).from ≤ (row_of (slot_for marks spot i aim)).to) × ((row_of (slot_for marks spot i aim)).to ≤ length (aims_of unit.forest ops))
+  range_inside (Place form n) spot i valued one lt within =
+      let to : get_or marks.slots_before.items (entries_before counts spot) 0 ≡ slots_before unit.forest ops (values_before unit.forest (entries_before counts spot)) = to_is spot one in
+      let few : values_before unit.forest (entries_before counts spot) ≤ length unit.forest.values = before_inside unit.forest valued (entries_before counts spot) (before_few spot one) in
+      let all : slots_before unit.forest ops (values_before unit.forest (entries_before counts spot)) ≤ slots_before unit.forest ops (length unit.forest.values) = slots_up unit.forest ops (values_before unit.forest (entries_before counts spot)) (length unit.forest.values) few in
+      (omega arith, omega (arith, to, all))
+  range_inside (Length fixed count) spot i valued one lt (small, few) = (omega arith, omega (arith, few, lt))
+
+  fixed_small : (aim : Aim) (spot : Spot) (i left : ℕ) → IsOneFor unit.forest aim spot → IsWithin (2 ^ 31) left aim → (row_of (slot_for marks spot i aim)).fixed < 2 ^ 31
+  fixed_small (Place form n) spot i left one within = place_small spot one
+  fixed_small (Length fixed count) spot i left one (small, few) = small
+
+  module _ (spots : List Spot) (are : AreSpotsOf unit ops spots) (slots : List Slot) (made : AreSlotsMade marks spots (aims_of unit.forest ops) slots) where
+    rows_many : length (rows_of slots) ≡ length (aims_of unit.forest ops)
+    rows_many = length-map slots row_of ∙ made.count
+
+    row_is : (i : ℕ) → i < length (aims_of unit.forest ops) → row_at (rows_of slots) i ≡ row_of (slot_for marks (spot_at spots i) i (aim_at (aims_of unit.forest ops) i))
     row_is i lt =
-        let there : i < length (map (slot_by es ds locals counts) spots) = subst (λ (z : ℕ). i < z) (sym (length-map spots (slot_by es ds locals counts))) lt in
-        get_or-map row_of (map (slot_by es ds locals counts) spots) i (record { kind = TheUleb; fixed = 0; from = 0; to = 0 }) _ there ∙ ap row_of (get_or-map (slot_by es ds locals counts) spots i (TheEntry 0) _ lt)
+        let d : Slot = record { kind = TheUleb; fixed = 0; from = 0; to = 0 } in
+        get_or-map row_of slots i d _ (subst (λ (z : ℕ). i < z) (sym made.count) lt) ∙ ap row_of (made.each i d lt)
 
-    pub are_slots : OneSize → HaveValues unit.forest.entries (length unit.forest.values) → HaveNone unit.forest others → AreSlots unit table columns numbers others spots (rows_of (map (slot_by es ds locals counts) spots))
-    are_slots one_size valued none = record {
+    pub are_slots : OneSize → HaveValues unit.forest.entries (length unit.forest.values) → AreSlots unit table columns numbers ops spots (rows_of slots)
+    are_slots one_size valued = record {
       count = rows_many;
       each = λ sizes lens start xs ys to long under full i lt.
-          let known : i < length spots = subst (λ (z : ℕ). i < z) rows_many lt in
-          subst (λ (z : SlotRow). CountsTo unit.forest xs sizes start (spot_place xs ys (spot_at spots i)) z) (sym (row_is i known)) (counts_to one_size valued none sizes lens start xs ys to under full (spot_at spots i) (spot_one unit spots are i known));
+          let known : i < length (aims_of unit.forest ops) = subst (λ (z : ℕ). i < z) rows_many lt in
+          subst (λ (z : SlotRow). IsRowOf unit.forest ops xs sizes start (spot_place xs ys (spot_at spots i)) i (aim_at (aims_of unit.forest ops) i) z) (sym (row_is i known)) (is_row one_size valued sizes lens start xs ys to under full (aim_at (aims_of unit.forest ops) i) (spot_at spots i) i (spot_one unit ops spots are i known));
     }
 
-    pub ranges_inside : HasRangesInside (rows_of (map (slot_by es ds locals counts) spots))
-    ranges_inside i lt =
-        let f : Arena = unit.forest in
-        let known : i < length spots = subst (λ (z : ℕ). i < z) rows_many lt in
-        let spot : Spot = spot_at spots i in
-        let from : (row_at (rows_of (map (slot_by es ds locals counts) spots)) i).from ≡ 0 = ap (λ (z : SlotRow). z.from) (row_is i known) in
-        let to : (row_at (rows_of (map (slot_by es ds locals counts) spots)) i).to ≡ locals_before f (values_before f (entries_before counts (spot_at spots i))) = ap (λ (z : SlotRow). z.to) (row_is i known) ∙ to_is (spot_at spots i) (spot_one unit spots are i known) in
-        let few : locals_before f (values_before f (entries_before counts (spot_at spots i))) ≤ locals_in f.section f.values = sum_by-take-le (λ (v : Value). cond (is_local (meant_in f.section v)) 1 0) f.values (values_before f (entries_before counts (spot_at spots i))) in
-        let count : length spots ≡ locals_in f.section f.values = are.count in
-        let all : length (rows_of (map (slot_by es ds locals counts) spots)) ≡ length spots = rows_many in
-        (omega (arith, from), omega (arith, to, few, all, count))
+    module _ (within : AreWithin (2 ^ 31) (aims_of unit.forest ops)) where
+      pub ranges_inside : HaveValues unit.forest.entries (length unit.forest.values) → HasRangesInside (rows_of slots)
+      ranges_inside valued i lt =
+          let known : i < length (aims_of unit.forest ops) = subst (λ (z : ℕ). i < z) rows_many lt in
+          let aim : Aim = aim_at (aims_of unit.forest ops) i in
+          let spot : Spot = spot_at spots i in
+          let inside = range_inside aim spot i valued (spot_one unit ops spots are i known) known (within_at (2 ^ 31) (aims_of unit.forest ops) i within known) in
+          let here = subst (λ (z : SlotRow). (z.from ≤ z.to) × (z.to ≤ length (aims_of unit.forest ops))) (sym (row_is i known)) inside in
+          (here.0, subst (λ (z : ℕ). (row_at (rows_of slots) i).to ≤ z) (sym rows_many) here.1)
 
-    pub small_fixed : end < 2 ^ 31 → HasSmallFixed (rows_of (map (slot_by es ds locals counts) spots))
-    small_fixed few i lt =
-        let known : i < length spots = subst (λ (z : ℕ). i < z) rows_many lt in
-        subst (λ (z : SlotRow). z.fixed < 2 ^ 31) (sym (row_is i known)) (place_small few (spot_at spots i) (spot_one unit spots are i known))
+      pub small_fixed : HasSmallFixed (rows_of slots)
+      small_fixed i lt =
+          let known : i < length (aims_of unit.forest ops) = subst (λ (z : ℕ). i < z) rows_many lt in
+          subst (λ (z : SlotRow). z.fixed < 2 ^ 31) (sym (row_is i known)) (fixed_small (aim_at (aims_of unit.forest ops) i) (spot_at spots i) i (length (aims_of unit.forest ops) - suc i) (spot_one unit ops spots are i known) (within_at (2 ^ 31) (aims_of unit.forest ops) i within known))

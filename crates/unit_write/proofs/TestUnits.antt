@@ -1,9 +1,6 @@
 -- Units of tests can be written.
-use Rattle.std.proofs.Common.{◌≡◌, ◌≢◌, ◌≤◌, ◌<◌, ◌+◌, ◌-◌, ◌^◌, ◌⊎◌, ℕ, suc, List, [], ◌∷◌, ◌++◌, length, get_or, take, drop, ◌∙◌, sym, ap, refl, arith, false, inl, inr}
-use Rattle.std.proofs.lemmas.Bool.{cases_lt}
-use Rattle.std.proofs.lemmas.List.{append-nil, append_assoc, length-drop, length-take-le, get_or_past}
-use Rattle.std.proofs.lemmas.List.Elements.{All-take, All-drop}
-use Rattle.std.specs.Prelude.{if◌then◌else◌}
+use Rattle.std.proofs.Common.{◌≡◌, ◌≢◌, ◌≤◌, ◌<◌, ◌+◌, ◌-◌, ◌^◌, ◌⊎◌, ℕ, suc, List, [], ◌∷◌, ◌++◌, length, get_or, drop, ◌∙◌, sym, ap, refl, arith, false, inl, inr}
+use Rattle.std.proofs.lemmas.List.{append-nil, append_assoc, length-drop, length-take-le}
 use Rattle.std.specs.List.{All}
 use Rattle.spelled.specs.Spelled.{AreBytes}
 use Rattle.leb_codec.specs.Leb.{least_unsigned_len}
@@ -21,8 +18,7 @@ use Rattle.entry_read.specs.Heads.{IsHead}
 use Rattle.entry_read.specs.Units.{HeadAndForest, entries_at, declarations_of, IsUnitHeld}
 use Rattle.unit_write.specs.Values.{HasSize, HaveSize}
 use Rattle.entry_read.proofs.PlaceLaws.{units_lie}
-use Rattle.entry_read.specs.Locals.{is_local}
-use Rattle.unit_write.specs.NewExpressions.{lens_from, with_numbers}
+use Rattle.unit_write.specs.NewExpressions.{lens_from, new_len, new_lens}
 use Rattle.unit_write.specs.Placing.{columns_of, values_in, among_values}
 use Rattle.unit_write.specs.Moved.{IsWritable}
 use Rattle.unit_write.proofs.EndLaws.{lens_len}
@@ -31,46 +27,35 @@ use Rattle.unit_write.specs.Sizes.{IsExpr}
 use Rattle.unit_write.specs.inside.Puts.{is_expr}
 use Rattle.unit_write.proofs.Sizing.{valued_between}
 
--- something can be written for a value, whatever section it stands in and however many bytes it has as an expression
+-- something can be written for a value, whatever section it stands in and however many bytes it takes as an expression or a reference
 abbrev pub IsSizedIn : Spec → Value → Type 0
-IsSizedIn column value = (section : List ℕ) (len : ℕ) → length section < 2 ^ 63 → IsValueIn section value → len < 2 ^ 64 → (size : ℕ) × HasSize column (meant_in section value) len size
+IsSizedIn column value = (section : List ℕ) (len : ℕ) → length section < 2 ^ 63 → IsValueIn section value → (size : ℕ) × HasSize column (meant_in section value) len size
 
 -- and for values
 abbrev pub AreSizedIn : List Spec → List Value → Type 0
-AreSizedIn columns values = (section lens : List ℕ) → length section < 2 ^ 63 → All (IsValueIn section) values → length lens ≡ length values → ((k : ℕ) → get_or lens k 0 < 2 ^ 64) → (size : ℕ) × HaveSize section columns values lens size
+AreSizedIn columns values = (section lens : List ℕ) → length section < 2 ^ 63 → All (IsValueIn section) values → length lens ≡ length values → (size : ℕ) × HaveSize section columns values lens size
 
 pub have_sizes : (columns : List Spec) (values : List Value) → length columns ≡ length values → ((k : ℕ) → k < length columns → IsSizedIn (spec_at columns k) (value_at values k)) → AreSizedIn columns values
-have_sizes [] [] same each section [] few all long small = (0, refl)
-have_sizes [] [] same each section (n ∷ lens) few all long small = absurd (omega arith)
-have_sizes [] (v ∷ vs) same each section lens few all long small = absurd (omega arith)
-have_sizes (c ∷ cs) [] same each section lens few all long small = absurd (omega arith)
-have_sizes (c ∷ cs) (v ∷ vs) same each section [] few all long small = absurd (omega arith)
-have_sizes (c ∷ cs) (v ∷ vs) same each section (n ∷ lens) few all long small =
-    let first = each 0 (omega arith) section n few (all 0 v (omega arith)) (small 0) in
-    let rest = have_sizes cs vs (omega arith) (λ k lt. each (suc k) (omega arith)) section lens few (λ k d lt. all (suc k) d (omega arith)) (omega arith) (λ k. small (suc k)) in
+have_sizes [] [] same each section [] few all long = (0, refl)
+have_sizes [] [] same each section (n ∷ lens) few all long = absurd (omega arith)
+have_sizes [] (v ∷ vs) same each section lens few all long = absurd (omega arith)
+have_sizes (c ∷ cs) [] same each section lens few all long = absurd (omega arith)
+have_sizes (c ∷ cs) (v ∷ vs) same each section [] few all long = absurd (omega arith)
+have_sizes (c ∷ cs) (v ∷ vs) same each section (n ∷ lens) few all long =
+    let first = each 0 (omega arith) section n few (all 0 v (omega arith)) in
+    let rest = have_sizes cs vs (omega arith) (λ k lt. each (suc k) (omega arith)) section lens few (λ k d lt. all (suc k) d (omega arith)) (omega arith) in
     (first.0 + rest.0, (first.0, rest.0, first.1, rest.1, refl))
 
--- one of a list of small numbers, or 0
-small_at : (lens : List ℕ) (k : ℕ) → All (λ (n : ℕ). n < 2 ^ 32) lens → get_or lens k 0 < 2 ^ 64
-small_at lens k all =
-    elim (cases_lt k (length lens)) [
-      | inl lt ↦ let own : get_or lens k 0 < 2 ^ 32 = all k 0 lt in omega arith
-      | inr past ↦ let none : get_or lens k 0 ≡ 0 = get_or_past lens k 0 past in omega arith
-    ]
-
--- those of the values of an entry are as many, and small
-own_lens : (f : Arena) (lens : List ℕ) (id : ℕ) → length lens ≡ length f.values → All (λ (n : ℕ). n < 2 ^ 32) lens → (entry_at f.entries id).first + (entry_at f.entries id).count ≤ length f.values → (length (among_values f lens id) ≡ length (values_in f id)) × ((k : ℕ) → get_or (among_values f lens id) k 0 < 2 ^ 64)
-own_lens f lens id each small inside =
+-- those of the values of an entry are as many
+own_lens : (f : Arena) (lens : List ℕ) (id : ℕ) → length lens ≡ length f.values → (entry_at f.entries id).first + (entry_at f.entries id).count ≤ length f.values → length (among_values f lens id) ≡ length (values_in f id)
+own_lens f lens id each inside =
     let first : ℕ = (entry_at f.entries id).first in
     let count : ℕ = (entry_at f.entries id).count in
     let rest : length (drop first lens) ≡ length lens - first = length-drop first lens in
-    let own : length (take count (drop first lens)) ≡ count = length-take-le count (drop first lens) (omega arith) in (
-      own ∙ sym (count_in f id inside),
-      λ k. small_at (take count (drop first lens)) k (All-take (λ (n : ℕ). n < 2 ^ 32) count (drop first lens) (All-drop (λ (n : ℕ). n < 2 ^ 32) first lens small)),
-    )
+    length-take-le count (drop first lens) (omega arith) ∙ sym (count_in f id inside)
 
-pub sized_writable : (unit : HeadAndForest) (table : Listing) (columns : List Spec) (numbers lens : List ℕ) → length lens ≡ length unit.forest.values → All (λ (n : ℕ). n < 2 ^ 32) lens → IsHead unit.forest.section unit.head → IsUnitHeld unit.forest.section unit.head (declarations_of table) unit.forest → length numbers ≡ length table.decls → length columns ≡ length table.specs → All (λ (n : ℕ). n ≢ 0) numbers → AreBytes unit.forest.section → length unit.forest.section < 2 ^ 63 → ((id : ℕ) → id < length unit.forest.entries → ((entry_at unit.forest.entries id).decl < length table.decls) × AreSizedIn (columns_of table columns (entry_at unit.forest.entries id).decl) (values_in unit.forest id)) → IsWritable unit table columns numbers lens
-sized_writable unit table columns numbers lens count narrow head held numbered renewed used small few each = record {
+pub sized_writable : (unit : HeadAndForest) (table : Listing) (columns : List Spec) (numbers lens : List ℕ) → length lens ≡ length unit.forest.values → IsHead unit.forest.section unit.head → IsUnitHeld unit.forest.section unit.head (declarations_of table) unit.forest → length numbers ≡ length table.decls → length columns ≡ length table.specs → All (λ (n : ℕ). n ≢ 0) numbers → AreBytes unit.forest.section → length unit.forest.section < 2 ^ 63 → ((id : ℕ) → id < length unit.forest.entries → ((entry_at unit.forest.entries id).decl < length table.decls) × AreSizedIn (columns_of table columns (entry_at unit.forest.entries id).decl) (values_in unit.forest id)) → IsWritable unit table columns numbers lens
+sized_writable unit table columns numbers lens count head held numbered renewed used small few each = record {
   head = head;
   held = held;
   numbered = numbered;
@@ -84,8 +69,8 @@ sized_writable unit table columns numbers lens count narrow head held numbered r
       let s = entries_stand f.section ds (entries_at unit.head) (listed_to f held.0) id whole inside in
       let all = valued_between f.section small ((declared_at ds e.decl).columns) (values_in f id) s.values_at (e.at + e.len) s.valued in
       let lie = units_lie f.section unit.head ds f refl held in
-      let own = own_lens f lens id count narrow (lie.order.valued.inside id inside) in
-      let size = (each id inside).1 f.section (among_values f lens id) few all own.0 own.1 in
+      let own = own_lens f lens id count (lie.order.valued.inside id inside) in
+      let size = (each id inside).1 f.section (among_values f lens id) few all own in
       (least_unsigned_len (get_or numbers e.decl 0) + size.0, (size.0, size.1, refl));
 }
 
@@ -94,22 +79,22 @@ none_expr (Expression bytes) e = absurd (cc (e))
 none_expr m e = λ none. none
 
 -- after the next value so many lengths are found, and those of the values behind it are left
-pub lens_next : (section : List ℕ) (all done new : List ℕ) (begin len : ℕ) (vs others : List Value) (v : Value) (ns more : List ℕ) (n : ℕ) (es later : List ℕ) (e : ℕ) → all ≡ done ++ with_numbers section vs ns (lens_from begin es) → vs ≡ v ∷ others → ns ≡ n ∷ more → es ≡ e ∷ later → len ≡ (if is_local (meant_in section v) then least_unsigned_len n else e - begin) → new ≡ done ++ len ∷ [] → all ≡ new ++ with_numbers section others more (lens_from e later)
+pub lens_next : (section : List ℕ) (all done new : List ℕ) (begin len : ℕ) (vs others : List Value) (v : Value) (ns more : List ℕ) (n : ℕ) (es later : List ℕ) (e : ℕ) → all ≡ done ++ new_lens section vs ns (lens_from begin es) → vs ≡ v ∷ others → ns ≡ n ∷ more → es ≡ e ∷ later → len ≡ new_len (meant_in section v) n (e - begin) → new ≡ done ++ len ∷ [] → all ≡ new ++ new_lens section others more (lens_from e later)
 lens_next section all done new begin len vs others v ns more n es later e h p q r is put =
-    let rest : List ℕ = with_numbers section others more (lens_from e later) in
-    let whole : with_numbers section vs ns (lens_from begin es) ≡ len ∷ rest = ap (λ (z : List Value). with_numbers section z ns (lens_from begin es)) p ∙ ap (λ (z : List ℕ). with_numbers section (v ∷ others) z (lens_from begin es)) q ∙ ap (λ (z : List ℕ). with_numbers section (v ∷ others) (n ∷ more) (lens_from begin z)) r ∙ ap (λ (z : ℕ). z ∷ rest) (sym is) in
+    let rest : List ℕ = new_lens section others more (lens_from e later) in
+    let whole : new_lens section vs ns (lens_from begin es) ≡ len ∷ rest = ap (λ (z : List Value). new_lens section z ns (lens_from begin es)) p ∙ ap (λ (z : List ℕ). new_lens section (v ∷ others) z (lens_from begin es)) q ∙ ap (λ (z : List ℕ). new_lens section (v ∷ others) (n ∷ more) (lens_from begin z)) r ∙ ap (λ (z : ℕ). z ∷ rest) (sym is) in
     h ∙ ap (λ (z : List ℕ). done ++ z) whole ∙ sym (append_assoc done (len ∷ []) rest) ∙ ap (λ (z : List ℕ). z ++ rest) (sym put)
 
-none_with : (section : List ℕ) (vs : List Value) (ns lens : List ℕ) → (length vs ≡ 0) ⊎ ((length ns ≡ 0) ⊎ (length lens ≡ 0)) → with_numbers section vs ns lens ≡ []
-none_with section [] ns lens h = refl
-none_with section (v ∷ vs) [] lens h = refl
-none_with section (v ∷ vs) (n ∷ ns) [] h = refl
-none_with section (v ∷ vs) (n ∷ ns) (len ∷ lens) (inl h) = absurd (omega arith)
-none_with section (v ∷ vs) (n ∷ ns) (len ∷ lens) (inr (inl h)) = absurd (omega arith)
-none_with section (v ∷ vs) (n ∷ ns) (len ∷ lens) (inr (inr h)) = absurd (omega arith)
+none_new : (section : List ℕ) (vs : List Value) (ns lens : List ℕ) → (length vs ≡ 0) ⊎ ((length ns ≡ 0) ⊎ (length lens ≡ 0)) → new_lens section vs ns lens ≡ []
+none_new section [] ns lens h = refl
+none_new section (v ∷ vs) [] lens h = refl
+none_new section (v ∷ vs) (n ∷ ns) [] h = refl
+none_new section (v ∷ vs) (n ∷ ns) (len ∷ lens) (inl h) = absurd (omega arith)
+none_new section (v ∷ vs) (n ∷ ns) (len ∷ lens) (inr (inl h)) = absurd (omega arith)
+none_new section (v ∷ vs) (n ∷ ns) (len ∷ lens) (inr (inr h)) = absurd (omega arith)
 
 -- where nothing is left all are found
-pub lens_all : (section : List ℕ) (all done : List ℕ) (begin : ℕ) (vs : List Value) (ns es : List ℕ) → all ≡ done ++ with_numbers section vs ns (lens_from begin es) → (length vs ≡ 0) ⊎ ((length ns ≡ 0) ⊎ (length es ≡ 0)) → done ≡ all
+pub lens_all : (section : List ℕ) (all done : List ℕ) (begin : ℕ) (vs : List Value) (ns es : List ℕ) → all ≡ done ++ new_lens section vs ns (lens_from begin es) → (length vs ≡ 0) ⊎ ((length ns ≡ 0) ⊎ (length es ≡ 0)) → done ≡ all
 lens_all section all done begin vs ns es h none =
     let ends : (length vs ≡ 0) ⊎ ((length ns ≡ 0) ⊎ (length (lens_from begin es) ≡ 0)) = elim none [ inl x ↦ inl x | inr x ↦ inr (elim x [ inl y ↦ inl y | inr y ↦ inr (lens_len begin es ∙ y) ]) ] in
-    sym (h ∙ ap (λ (z : List ℕ). done ++ z) (none_with section vs ns (lens_from begin es) ends) ∙ append-nil done)
+    sym (h ∙ ap (λ (z : List ℕ). done ++ z) (none_new section vs ns (lens_from begin es) ends) ∙ append-nil done)

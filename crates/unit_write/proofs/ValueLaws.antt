@@ -1,5 +1,5 @@
 -- What is written of one value.
-use Rattle.std.proofs.Common.{◌≡◌, ◌≢◌, ◌≤◌, ◌<◌, ◌+◌, ◌-◌, ◌*◌, ◌^◌, ℕ, zero, suc, List, [], ◌∷◌, ◌++◌, length, Bool, true, false, ◌∙◌, sym, ap, refl, subst, arith, inl, inr}
+use Rattle.std.proofs.Common.{◌≡◌, ◌≢◌, ◌≤◌, ◌<◌, ◌+◌, ◌-◌, ◌*◌, ◌^◌, ℕ, List, [], ◌++◌, length, Bool, true, false, ◌∙◌, sym, ap, refl, subst, arith, inl, inr}
 use Rattle.std.specs.Prelude.{ℤ, pos, nat_le, if◌then◌else◌}
 use Rattle.std.proofs.lemmas.Bool.{cases_Bool}
 use Rattle.std.proofs.lemmas.List.{length-append}
@@ -30,8 +30,9 @@ use Rattle.form_codec.proofs.WriteLaws.{low_len, number_low, low_small}
 use Rattle.form_codec.proofs.FormLaws.{in_form}
 use Rattle.abbrev_tables.specs.declared.decl.Spec.{Spec}
 use Rattle.entry_read.specs.Short.{IsWritten}
-use Rattle.entry_read.specs.Locals.{is_local}
+use Rattle.entry_read.specs.Slots.{is_local}
 use Rattle.unit_write.specs.Values.{is_moving, renewed, HasOwnSize, HasSize, OneSize}
+use Rattle.unit_write.specs.NewExpressions.{new_len}
 use Rattle.unit_write.specs.Sizes.{IsExpr, NumbersHaveSizes, ExpressionsHaveSizes, ShortestHaveSizes}
 use Rattle.unit_write.specs.inside.Puts.{role_moves, shape_moves, is_expr, shape_expr}
 
@@ -91,10 +92,10 @@ moving_still n made (SectionPlace k) = refl
 moving_still n made (Expression bytes) = refl
 moving_still n made m = refl
 
--- an expression doesn't move
-pub no_expr_moves : (m : Meaning) → is_expr m ≡ true → is_moving m ≡ false
-no_expr_moves (Expression bytes) e = refl
-no_expr_moves m e = absurd (cc (e))
+-- what moves is no expression
+no_moving_expr : (m : Meaning) → is_moving m ≡ true → is_expr m ≡ false
+no_moving_expr (Expression bytes) moves = absurd (cc (moves))
+no_moving_expr m moves = refl
 
 pub is_made : (n : ℕ) (made : List ℕ) (m : Meaning) → is_expr m ≡ true → renewed n made m ≡ Expression made
 is_made n made (Expression bytes) e = refl
@@ -112,14 +113,20 @@ pub no_local : (m : Meaning) → is_moving m ≡ false → is_local m ≡ false
 no_local (InUnit k) stays = absurd (cc (stays))
 no_local m stays = refl
 
--- what is no such reference has a size of its own
-pub own_size : (column : Spec) (meaning : Meaning) (len size : ℕ) → is_local meaning ≡ false → HasSize column meaning len size → HasOwnSize column meaning len size
-own_size column (InUnit k) len size other h = absurd (cc (other))
-own_size column m len size other h = h
+-- what is neither such a reference nor an expression has a size of its own
+own_size : (column : Spec) (meaning : Meaning) (len size : ℕ) → is_local meaning ≡ false → is_expr meaning ≡ false → HasSize column meaning len size → HasOwnSize column meaning size
+own_size column (InUnit k) len size other none h = absurd (cc (other))
+own_size column (Expression bytes) len size other none h = absurd (cc (none))
+own_size column m len size other none h = h
 
-has_own : (column : Spec) (meaning : Meaning) (len size : ℕ) → is_local meaning ≡ false → HasOwnSize column meaning len size → HasSize column meaning len size
-has_own column (InUnit k) len size other h = absurd (cc (other))
-has_own column m len size other h = h
+has_own : (column : Spec) (meaning : Meaning) (len size : ℕ) → is_local meaning ≡ false → is_expr meaning ≡ false → HasOwnSize column meaning size → HasSize column meaning len size
+has_own column (InUnit k) len size other none h = absurd (cc (other))
+has_own column (Expression bytes) len size other none h = absurd (cc (none))
+has_own column m len size other none h = h
+
+expr_has : (column : Spec) (meaning : Meaning) (len size : ℕ) → is_expr meaning ≡ true → HasSize column meaning len size → column.form ≡ code_of form.Exprloc
+expr_has column (Expression bytes) len size expr h = h.0
+expr_has column m len size expr h = absurd (cc (expr))
 
 -- a reference into the section and a section offset are numbers of four bytes
 four_number : (f : Form) (c : ℤ) (m : Meaning) (bytes : List ℕ) → is_moving m ≡ true → is_local m ≡ false → SpellsShape (shape_of f c) m bytes → (r : Role) × (shape_of f c ≡ Number Four r) × (role_moves r ≡ true)
@@ -152,8 +159,8 @@ renumbered r w v n k new old made m moves e = absurd (cc (moves))
 
 pub admits_kept : (column : Spec) (meaning : Meaning) (len size : ℕ) → is_moving meaning ≡ false → is_expr meaning ≡ false → HasSize column meaning len size → Admits column.form meaning
 admits_kept column meaning len size stays other has =
-    let h = own_size column meaning len size (no_local meaning stays) has in
-    let same : renewed h.number h.made meaning ≡ meaning = kept h.number h.made meaning stays other in
+    let h = own_size column meaning len size (no_local meaning stays) other has in
+    let same : renewed h.number [] meaning ≡ meaning = kept h.number [] meaning stays other in
     let bytes : List ℕ = h.bytes in
     let s : SpellsValue column.form column.constant meaning bytes = subst (λ (z : Meaning). SpellsValue column.form column.constant z bytes) same h.written.0 in
     record {
@@ -182,22 +189,8 @@ written_shortest column meaning n made bytes others stays other s shortest =
 
 pub written_kept : (column : Spec) (meaning : Meaning) (len size n : ℕ) (made bytes : List ℕ) → is_moving meaning ≡ false → is_expr meaning ≡ false → HasSize column meaning len size → SpellsShortest column.form meaning bytes → IsWritten column (renewed n made meaning) bytes
 written_kept column meaning len size n made bytes stays other has shortest =
-    let h = own_size column meaning len size (no_local meaning stays) has in
-    written_shortest column meaning n made bytes h.bytes stays other (subst (λ (z : Meaning). SpellsValue column.form column.constant z h.bytes) (kept h.number h.made meaning stays other) h.written.0) shortest
-
--- so many bytes 0
-abbrev zeros : ℕ → List ℕ
-zeros zero = []
-zeros (suc n) = 0 ∷ zeros n
-
-zeros_len : (n : ℕ) → length (zeros n) ≡ n
-zeros_len zero = refl
-zeros_len (suc n) = ap suc (zeros_len n)
-
-zeros_small : (n : ℕ) → AreBytes (zeros n)
-zeros_small zero k lt = absurd (omega arith)
-zeros_small (suc n) zero lt = omega arith
-zeros_small (suc n) (suc k) lt = zeros_small n k (omega arith)
+    let h = own_size column meaning len size (no_local meaning stays) other has in
+    written_shortest column meaning n made bytes h.bytes stays other (subst (λ (z : Meaning). SpellsValue column.form column.constant z h.bytes) (kept h.number [] meaning stays other) h.written.0) shortest
 
 not_expr : (m : Meaning) → (¬ IsExpr m) → is_expr m ≡ false
 not_expr (Expression bytes) none = absurd (none tt)
@@ -205,13 +198,12 @@ not_expr m none = refl
 
 pub shortest_have_sizes : ShortestHaveSizes
 shortest_have_sizes column meaning len bytes others stays none s shortest =
-    has_own column meaning len (length bytes) (no_local meaning stays)
+    let other = not_expr meaning none in
+    has_own column meaning len (length bytes) (no_local meaning stays) other
     (record {
       number = 0;
-      made = zeros len;
-      long = zeros_len len;
       bytes = bytes;
-      written = written_shortest column meaning 0 (zeros len) bytes others stays (not_expr meaning none) s shortest;
+      written = written_shortest column meaning 0 [] bytes others stays other s shortest;
       is = refl;
     })
 
@@ -224,8 +216,8 @@ least_len column meaning bytes others (spelled, least) shortest =
 
 pub size_kept : (column : Spec) (meaning : Meaning) (len size : ℕ) (bytes : List ℕ) → is_moving meaning ≡ false → is_expr meaning ≡ false → HasSize column meaning len size → SpellsShortest column.form meaning bytes → length bytes ≡ size
 size_kept column meaning len size bytes stays other has shortest =
-    let h = own_size column meaning len size (no_local meaning stays) has in
-    let same : renewed h.number h.made meaning ≡ meaning = kept h.number h.made meaning stays other in
+    let h = own_size column meaning len size (no_local meaning stays) other has in
+    let same : renewed h.number [] meaning ≡ meaning = kept h.number [] meaning stays other in
     let written = subst (λ (z : Meaning). IsWritten column z h.bytes) same h.written in
     least_len column meaning bytes h.bytes written shortest ∙ sym h.is
 
@@ -293,35 +285,13 @@ expr_size column made bytes w =
     let least = expr_shortest column made head.0 is small few head.1 in
     sym (least_len column (Expression made) (head.0 ++ made) bytes w least) ∙ length-append head.0 made ∙ ap (λ (z : ℕ). z + length made) head.1.1
 
-pub size_made : (column : Spec) (meaning : Meaning) (len size : ℕ) → is_expr meaning ≡ true → HasSize column meaning len size → least_unsigned_len len + len ≡ size
-size_made column meaning len size expr has =
-    let h = own_size column meaning len size (no_local meaning (no_expr_moves meaning expr)) has in
-    let written = subst (λ (z : Meaning). IsWritten column z h.bytes) (is_made h.number h.made meaning expr) h.written in
-    sym (h.is ∙ expr_size column h.made h.bytes written ∙ ap (λ (z : ℕ). least_unsigned_len z + z) h.long)
-
 -- other bytes can stand in their place
 pub written_made : (column : Spec) (meaning : Meaning) (len size n : ℕ) (made head : List ℕ) → is_expr meaning ≡ true → HasSize column meaning len size → AreBytes made → length made < 2 ^ 64 → ShortestUnsigned (length made) head → IsWritten column (renewed n made meaning) (head ++ made)
 written_made column meaning len size n made head expr has small few short =
-    let h = own_size column meaning len size (no_local meaning (no_expr_moves meaning expr)) has in
-    let written = subst (λ (z : Meaning). IsWritten column z h.bytes) (is_made h.number h.made meaning expr) h.written in
-    let is : column.form ≡ code_of form.Exprloc = expr_form column.form column.constant h.made h.bytes written.0 in
-    subst (λ (z : Meaning). IsWritten column z (head ++ made)) (sym (is_made n made meaning expr)) (written_expr column made head is small few short)
+    subst (λ (z : Meaning). IsWritten column z (head ++ made)) (sym (is_made n made meaning expr)) (written_expr column made head (expr_has column meaning len size expr has) small few short)
 
 pub expressions_have_sizes : ExpressionsHaveSizes
-expressions_have_sizes column bytes len few is =
-    let made : List ℕ = zeros len in
-    let long : length made ≡ len = zeros_len len in
-    let short = some_head (length made) in (
-      length (short.0 ++ made),
-      record {
-        number = 0;
-        made = made;
-        long = long;
-        bytes = short.0 ++ made;
-        written = written_expr column made short.0 is (zeros_small len) (omega arith) short.1;
-        is = refl;
-      },
-    )
+expressions_have_sizes column bytes len is = (len, (is, refl))
 
 -- ONE SIZE
 
@@ -333,31 +303,23 @@ four_bytes column meaning bytes moves other (s, least) =
 
 pub moving_size : (column : Spec) (meaning : Meaning) (len size : ℕ) → is_moving meaning ≡ true → is_local meaning ≡ false → HasSize column meaning len size → size ≡ 4
 moving_size column meaning len size moves other has =
-    let h = own_size column meaning len size other has in
-    h.is ∙ four_bytes column (renewed h.number h.made meaning) h.bytes (moving_still h.number h.made meaning ∙ moves) (local_still h.number h.made meaning ∙ other) h.written
+    let h = own_size column meaning len size other (no_moving_expr meaning moves) has in
+    h.is ∙ four_bytes column (renewed h.number [] meaning) h.bytes (moving_still h.number [] meaning ∙ moves) (local_still h.number [] meaning ∙ other) h.written
 
 -- and what is neither a number nor an expression has one size
 one_kept : (column : Spec) (meaning : Meaning) (len m n : ℕ) → is_moving meaning ≡ false → is_expr meaning ≡ false → HasSize column meaning len m → HasSize column meaning len n → m ≡ n
 one_kept column meaning len m n stays other has has2 =
-    let g = own_size column meaning len n (no_local meaning stays) has2 in
-    let written = subst (λ (z : Meaning). IsWritten column z g.bytes) (kept g.number g.made meaning stays other) g.written in
+    let g = own_size column meaning len n (no_local meaning stays) other has2 in
+    let written = subst (λ (z : Meaning). IsWritten column z g.bytes) (kept g.number [] meaning stays other) g.written in
     sym (size_kept column meaning len m g.bytes stays other has written.1) ∙ sym g.is
 
-local_form : (column : Spec) (meaning : Meaning) (len size : ℕ) → is_local meaning ≡ true → HasSize column meaning len size → (column.form ≡ code_of form.RefUdata) × (size ≡ len)
-local_form column (InUnit k) len size local h = h
-local_form column m len size local h = absurd (cc (local))
-
 pub one_size : OneSize
+one_size column (InUnit k) len m n h g = h.1 ∙ sym g.1
+one_size column (Expression bytes) len m n h g = h.1 ∙ sym g.1
 one_size column meaning len m n h g =
-    elim (cases_Bool (is_local meaning)) [
-      | inl local ↦ (local_form column meaning len m local h).1 ∙ sym (local_form column meaning len n local g).1
-      | inr other ↦ elim (cases_Bool (is_moving meaning)) [
-        | inl moves ↦ moving_size column meaning len m moves other h ∙ sym (moving_size column meaning len n moves other g)
-        | inr stays ↦ elim (cases_Bool (is_expr meaning)) [
-          | inl expr ↦ sym (size_made column meaning len m expr h) ∙ size_made column meaning len n expr g
-          | inr kept ↦ one_kept column meaning len m n stays kept h g
-        ]
-      ]
+    elim (cases_Bool (is_moving meaning)) [
+      | inl moves ↦ moving_size column meaning len m moves refl h ∙ sym (moving_size column meaning len n moves refl g)
+      | inr stays ↦ one_kept column meaning len m n stays refl h g
     ]
 
 -- REFERENCES WITHIN THE UNIT
@@ -404,14 +366,11 @@ local_len column n bytes is w =
     let least = written_local column n head.0 is (omega arith) head.1 in
     sym (least_len column (InUnit n) head.0 bytes w least.1) ∙ head.1.1
 
--- how many bytes a value has that gets a number, where an expression has so many
-abbrev pub len_anew : Meaning → ℕ → ℕ → ℕ
-len_anew meaning n len = if is_local meaning then least_unsigned_len n else len
-
 -- the bytes of a value have its size
-pub size_written : (column : Spec) (meaning : Meaning) (n len size : ℕ) (made bytes : List ℕ) → HasSize column meaning (len_anew meaning n len) size → length made ≡ len → IsWritten column (renewed n made meaning) bytes → HasSize column meaning (len_anew meaning n len) (length bytes)
+pub size_written : (column : Spec) (meaning : Meaning) (n len size : ℕ) (made bytes : List ℕ) → HasSize column meaning (new_len meaning n len) size → length made ≡ len → IsWritten column (renewed n made meaning) bytes → HasSize column meaning (new_len meaning n len) (length bytes)
 size_written column (InUnit k) n len size made bytes h long w = (h.0, local_len column n bytes h.0 w)
-size_written column m n len size made bytes h long w = record { number = n; made = made; long = long; bytes = bytes; written = w; is = refl }
+size_written column (Expression old) n len size made bytes h long w = (h.0, expr_size column made bytes w ∙ ap (λ (z : ℕ). least_unsigned_len z + z) long)
+size_written column m n len size made bytes h long w = record { number = n; bytes = bytes; written = w; is = refl }
 
 -- NUMBERS OF FOUR BYTES
 
@@ -460,31 +419,29 @@ module _ (column : Spec) (meaning : Meaning) (n : ℕ) (f : Form) (r : Role) (kn
 -- the number of a value that moves can be replaced
 pub written_moved : (column : Spec) (meaning : Meaning) (len size n : ℕ) (made : List ℕ) → is_moving meaning ≡ true → is_local meaning ≡ false → HasSize column meaning len size → n < 2 ^ 32 → IsWritten column (renewed n made meaning) (low_bytes Four n)
 written_moved column meaning len size n made moves other has few =
-    let h = own_size column meaning len size other has in
+    let h = own_size column meaning len size other (no_moving_expr meaning moves) has in
     let s = h.written.0 in
-    let four = four_number s.form column.constant (renewed h.number h.made meaning) h.bytes (moving_still h.number h.made meaning ∙ moves) (local_still h.number h.made meaning ∙ other) s.spelled in
-    let before = subst (λ (z : Shape). SpellsShape z (renewed h.number h.made meaning) h.bytes) four.1 s.spelled in
-    let means : renewed n made meaning ≡ in_role four.0 Four n = renumbered four.0 Four Four (number 4 h.bytes) h.number n h.made made meaning four.2 before.1 in
+    let four = four_number s.form column.constant (renewed h.number [] meaning) h.bytes (moving_still h.number [] meaning ∙ moves) (local_still h.number [] meaning ∙ other) s.spelled in
+    let before = subst (λ (z : Shape). SpellsShape z (renewed h.number [] meaning) h.bytes) four.1 s.spelled in
+    let means : renewed n made meaning ≡ in_role four.0 Four n = renumbered four.0 Four Four (number 4 h.bytes) h.number n [] made meaning four.2 before.1 in
     written_number column (renewed n made meaning) n s.form four.0 s.known four.1 means few four.2
 
 pub five_bytes : (n : ℕ) → n < 2 ^ 32 → least_unsigned_len n ≤ 5
 five_bytes n few = (unsigned_lens.enough n 5).0 (record { some = omega arith; below = omega arith })
 
 -- a number of four bytes that moves has the size of its form
-four_has_size : (column : Spec) (meaning : Meaning) (len : ℕ) (f : Form) (r : Role) → column.form ≡ code_of f → shape_of f column.constant ≡ Number Four r → role_moves r ≡ true → renewed 0 (zeros len) meaning ≡ in_role r Four 0 → HasOwnSize column meaning len 4
-four_has_size column meaning len f r known fixed moves means = record {
+four_has_size : (column : Spec) (meaning : Meaning) (f : Form) (r : Role) → column.form ≡ code_of f → shape_of f column.constant ≡ Number Four r → role_moves r ≡ true → renewed 0 [] meaning ≡ in_role r Four 0 → HasOwnSize column meaning 4
+four_has_size column meaning f r known fixed moves means = record {
   number = 0;
-  made = zeros len;
-  long = zeros_len len;
   bytes = low_bytes Four 0;
-  written = written_number column (renewed 0 (zeros len) meaning) 0 f r (sym known) fixed means (omega arith) moves;
+  written = written_number column (renewed 0 [] meaning) 0 f r (sym known) fixed means (omega arith) moves;
   is = sym (low_len Four 0);
 }
 
 pub numbers_have_sizes : NumbersHaveSizes
 numbers_have_sizes column (InUnit n) len e = (len, (e, refl))
-numbers_have_sizes column (InSection n) len e = (4, four_has_size column (InSection n) len form.RefAddr role.SectionRef e refl refl refl)
-numbers_have_sizes column (SectionPlace n) len e = (4, four_has_size column (SectionPlace n) len form.SecOffset role.Offset e refl refl refl)
+numbers_have_sizes column (InSection n) len e = (4, four_has_size column (InSection n) form.RefAddr role.SectionRef e refl refl refl)
+numbers_have_sizes column (SectionPlace n) len e = (4, four_has_size column (SectionPlace n) form.SecOffset role.Offset e refl refl refl)
 numbers_have_sizes column meaning len none = absurd none
 
 -- what is no number and no expression

@@ -16,7 +16,7 @@ use Rattle.entry_read.specs.Units.{HeadAndForest, entries_at, declarations_of, I
 use Rattle.entry_read.specs.Short.{StandsShort, EndsShort}
 use Rattle.unit_write.specs.declared.write.NewNumbers.{NewNumbers}
 use Rattle.unit_write.specs.Values.{renewed}
-use Rattle.unit_write.specs.NewExpressions.{lens_of, made_of, with_numbers}
+use Rattle.unit_write.specs.NewExpressions.{lens_of, made_of, new_lens}
 use Rattle.unit_write.specs.Placing.{EntrySize, ArePlaced}
 
 -- an entry is where it was among the entries, with the declaration that has its new number
@@ -38,11 +38,11 @@ pub record NewValues : Type 0 where
   pub expressions : List ℕ
 
 abbrev pub new_values : NewNumbers → NewValues
-new_values new = record { held = new.held.items; ends = new.ends.items; expressions = new.expressions.items }
+new_values new = record { held = new.held.items; ends = new.expressions.ends.items; expressions = new.expressions.bytes.items }
 
--- how many bytes each value has that is an expression or a reference within the unit
+-- how many bytes each value has that is an expression, with its length, or a reference within the unit
 abbrev pub lens_anew : Arena → NewValues → List ℕ
-lens_anew f anew = with_numbers f.section f.values anew.held (lens_of anew.ends)
+lens_anew f anew = new_lens f.section f.values anew.held (lens_of anew.ends)
 
 -- There are as many values. Each means what it meant, but that references and section offsets have these numbers, and expressions
 -- these bytes.

@@ -2,13 +2,15 @@
 use Rattle.std.specs.Prelude.{◌≡◌, ◌≤◌, ◌<◌, ◌+◌, ◌-◌, ◌*◌, ℕ, List, [], ◌∷◌, length, take, drop, slice_index, slice_index_or, if◌then◌else◌}
 use Rattle.dw_base.specs.declared.fault.Span.{Span}
 use Rattle.expr_ops.specs.declared.op.Op.{Op}
-use Rattle.expr_ops.specs.Ops.{all_meant}
-use Rattle.expr_ops.specs.Drafts.{has_reference}
-use Rattle.expr_ops.specs.Plain.{plain_length, IsWrittenPlain}
+use Rattle.expr_ops.specs.Expressions.{Operation}
+use Rattle.expr_ops.specs.Drafts.{has_reference, with_refs}
+use Rattle.expr_ops.specs.Shortest.{IsWrittenShortest}
+use Rattle.form_codec.specs.Forms.{Meaning}
+use Rattle.form_codec.specs.Forms.Meaning.{Expression, InUnit}
 use Rattle.form_codec.specs.Values.{bytes_in, meant_in}
 use Rattle.form_codec.specs.declared.value.Value.{Value}
 use Rattle.leb_codec.specs.Leb.{least_unsigned_len}
-use Rattle.entry_read.specs.Locals.{is_local}
+use Rattle.entry_read.specs.Slots.{operations_in}
 use Rattle.entry_arena.specs.Arena.{Arena}
 use Rattle.entry_arena.specs.Operations.{HeldOps, ops_of, for_value}
 use Rattle.entry_read.specs.Expressions.{IsExprAt}
@@ -30,12 +32,17 @@ lens_of ends = lens_from 0 ends
 abbrev pub made_of : List ℕ → List ℕ → ℕ → List ℕ
 made_of ends bytes k = take (slice_index ends k - begin_of ends k) (drop (begin_of ends k) bytes)
 
--- Each reference within the unit, of which these are the new numbers, has as many bytes as its number needs; each other value has what
--- this list of lengths says.
-abbrev pub with_numbers : List ℕ → List Value → List ℕ → List ℕ → List ℕ
-with_numbers section [] numbers lens = []
-with_numbers section (v ∷ vs) (n ∷ ns) (len ∷ lens) = (if is_local (meant_in section v) then least_unsigned_len n else len) ∷ with_numbers section vs ns lens
-with_numbers section (v ∷ vs) numbers lens = []
+-- How many bytes a value takes beside what its column tells, where a reference within the unit has this number, and an expression so many
+-- bytes: each number and each length has as many as it needs.
+abbrev pub new_len : Meaning → ℕ → ℕ → ℕ
+new_len (InUnit old) n made = least_unsigned_len n
+new_len (Expression bytes) n made = least_unsigned_len made + made
+new_len meaning n made = 0
+
+-- those of values, which have these numbers and so many bytes
+abbrev pub new_lens : List ℕ → List Value → List ℕ → List ℕ → List ℕ
+new_lens section (v ∷ vs) (n ∷ ns) (made ∷ mades) = new_len (meant_in section v) n made ∷ new_lens section vs ns mades
+new_lens section vs numbers mades = []
 
 -- they rise, one for each of so many values, up to so many bytes
 pub record EndsRise (ends : List ℕ) (count most : ℕ) : Type 0 where
@@ -59,16 +66,11 @@ pub record AreEndsFor (f : Arena) (ends : List ℕ) : Type 0 where
   pub few : (k : ℕ) (span : Span) → IsExprAt f k span → slice_index ends k ≤ begin_of ends k + 3 * span.len
   pub none : (k : ℕ) → k < length f.values → ((span : Span) → IsExprAt f k span → ⊥) → slice_index ends k ≡ begin_of ends k
 
--- an expression has as many bytes as its operations in plain sizes
-pub record ArePlainEnds (f : Arena) (held : HeldOps) (ends : List ℕ) : Type 0 where
-  pub fit : AreEndsFor f ends
-  pub plain : (k : ℕ) (span : Span) → IsExprAt f k span → slice_index ends k ≡ begin_of ends k + plain_length (all_meant (bytes_in f.section span) (ops_of held k))
+-- the operations of the value with a number, with their new references
+abbrev pub operations_anew : Arena → HeldOps → List ℕ → ℕ → List Operation
+operations_anew f held numbers k = with_refs (refs_of held numbers k) (operations_in f held k)
 
--- a law: there is one such list
-abbrev pub OnePlainEnds : Type 0
-OnePlainEnds = (f : Arena) (held : HeldOps) (a b : List ℕ) → ArePlainEnds f held a → ArePlainEnds f held b → a ≡ b
-
--- Each expression is written with its new references, in plain sizes. `numbers` has one for each operation of the unit.
-pub record AreWrittenPlain (f : Arena) (held : HeldOps) (ends numbers bytes : List ℕ) : Type 0 where
+-- Each expression is written with its new references, in its fewest bytes. `numbers` has one for each operation of the unit.
+pub record AreWrittenShortest (f : Arena) (held : HeldOps) (ends numbers bytes : List ℕ) : Type 0 where
   pub all : (k : ℕ) → k < length f.values → slice_index ends k ≤ length bytes
-  pub each : (k : ℕ) (span : Span) → IsExprAt f k span → IsWrittenPlain (refs_of held numbers k) (bytes_in f.section span) (ops_of held k) (made_of ends bytes k)
+  pub each : (k : ℕ) (span : Span) → IsExprAt f k span → IsWrittenShortest (refs_of held numbers k) (bytes_in f.section span) (ops_of held k) (made_of ends bytes k)

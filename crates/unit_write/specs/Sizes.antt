@@ -1,5 +1,5 @@
 -- In which columns something can be written for a value: what callers show of a unit that is to be written.
-use Rattle.std.specs.Prelude.{◌≡◌, ◌<◌, ◌^◌, ℕ, List, length, false}
+use Rattle.std.specs.Prelude.{◌≡◌, ℕ, List, length, false}
 use Rattle.form_codec.specs.declared.form.Form.TheVariants.{Exprloc, RefUdata, RefAddr, SecOffset}
 use Rattle.form_codec.specs.Forms.{Meaning, code_of, SpellsValue, SpellsShortest}
 use Rattle.form_codec.specs.Forms.Meaning.{Expression, InUnit, InSection, SectionPlace}
@@ -23,7 +23,7 @@ NumbersHaveSizes = (column : Spec) (meaning : Meaning) (len : ℕ) → HoldsNumb
 
 -- a law: an expression has a size in a column of DW_FORM_exprloc, whatever its bytes are
 abbrev pub ExpressionsHaveSizes : Type 0
-ExpressionsHaveSizes = (column : Spec) (bytes : List ℕ) (len : ℕ) → len < 2 ^ 64 → column.form ≡ code_of Exprloc → (size : ℕ) × HasSize column (Expression bytes) len size
+ExpressionsHaveSizes = (column : Spec) (bytes : List ℕ) (len : ℕ) → column.form ≡ code_of Exprloc → (size : ℕ) × HasSize column (Expression bytes) len size
 
 -- a law: another value that the column's form and constant spell has the size of its shortest bytes
 abbrev pub ShortestHaveSizes : Type 0

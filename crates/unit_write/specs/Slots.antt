@@ -1,70 +1,87 @@
--- The slots of a unit: the numbers of its references within itself, whose sizes depend on each other (DWARF 5 sections 7.5.5 and 7.6).
-use Rattle.std.specs.Prelude.{◌≡◌, ◌<◌, ◌+◌, ℕ, List, length, slice_index, slice_index_or}
-use Rattle.leb_codec.specs.Layout.{SlotRow, uleb, row_at, slot_number, IsLayout, IsLeastLayout}
+-- The layout of a unit that is written anew: how many bytes each of its slots has (DWARF 5 sections 2.5.1.1 to 2.5.1.7, 7.5.5 and 7.6).
+use Rattle.std.specs.Prelude.{◌≡◌, ◌≤◌, ◌<◌, ◌+◌, ◌*◌, ℕ, List, [], length, slice_index, slice_index_or}
+use Rattle.std.specs.List.{AllZip}
+use Rattle.dw_base.specs.declared.fault.Reach.TheVariants.{Narrow}
+use Rattle.leb_codec.specs.Layout.{SlotRow, row_at, IsLayout, IsLeastLayout}
 use Rattle.slot_layout.specs.Rows.{IsTight}
-use Rattle.form_codec.specs.Forms.Meaning.{InUnit}
-use Rattle.form_codec.specs.Values.{meant_in}
+use Rattle.expr_ops.specs.Expressions.{Operation}
+use Rattle.expr_ops.specs.Slots.{Aim}
+use Rattle.expr_ops.specs.Slots.Aim.{Place, Length}
 use Rattle.abbrev_tables.specs.declared.decl.Spec.{Spec}
 use Rattle.abbrev_tables.specs.Listings.{Listing}
-use Rattle.entry_arena.specs.Arena.{Arena, value_at, chain_end_at, IsEntryAt}
-use Rattle.entry_read.specs.Locals.{locals_in, locals_before, AreValuesBefore}
+use Rattle.entry_arena.specs.Arena.{Arena, chain_end_at, IsEntryAt}
+use Rattle.entry_arena.specs.Operations.{HeldOps}
+use Rattle.entry_arena.specs.Order.{IsInOrder}
+use Rattle.entry_read.specs.Expressions.{HasOperations}
+use Rattle.entry_read.specs.Slots.{aims_of, aims_before, aim_at, meaning_at, operations_in, IsRowOf}
 use Rattle.entry_read.specs.Units.{HeadAndForest}
 use Rattle.unit_write.specs.declared.slots.Spot.{Spot}
-use Rattle.unit_write.specs.declared.slots.Spot.TheVariants.{Entry as TheEntry, End as TheEnd}
-use Rattle.unit_write.specs.Lens.{IsLocalAt, AreLensUnder}
+use Rattle.unit_write.specs.declared.slots.Spot.TheVariants.{Entry as TheEntry, End as TheEnd, Nothing as NoSpot}
+use Rattle.unit_write.specs.Lens.{AreLensUnder}
 use Rattle.unit_write.specs.Moved.{IsPlacedAt, NewValues, lens_anew}
-use Rattle.unit_write.specs.NewExpressions.{lens_of}
+use Rattle.unit_write.specs.NewExpressions.{AreWrittenShortest, operations_anew}
+use Rattle.unit_write.specs.Values.{renewed}
 
 -- an entry, or a code 0 that ends a chain, stands at a place, each by its number among those that are held
 abbrev pub IsSpotAt : Arena → Spot → ℕ → Type 0
 IsSpotAt f (TheEntry id) place = IsEntryAt f id place
 IsSpotAt f (TheEnd number) place = (number < length f.ends) × ((chain_end_at f.ends number).at ≡ place)
+IsSpotAt f NoSpot place = ⊥
 
 -- its place in a list of the places of all entries, or of all codes 0
 abbrev pub spot_place : List ℕ → List ℕ → Spot → ℕ
 spot_place entries ends (TheEntry id) = slice_index entries id
 spot_place entries ends (TheEnd number) = slice_index ends number
+spot_place entries ends NoSpot = 0
 
--- the one with a number; past the end there is none, and the root stands for it
+-- the one with a number; past the end there is none
 abbrev pub spot_at : List Spot → ℕ → Spot
-spot_at spots i = slice_index_or spots i (TheEntry 0)
+spot_at spots i = slice_index_or spots i NoSpot
 
--- one for each reference within the unit, in the order of the values: what it names
-pub record AreSpotsOf (unit : HeadAndForest) (spots : List Spot) : Type 0 where
-  pub count : length spots ≡ locals_in unit.forest.section unit.forest.values
-  pub each : (k n : ℕ) → k < length unit.forest.values → meant_in unit.forest.section (value_at unit.forest.values k) ≡ InUnit n → IsSpotAt unit.forest (spot_at spots (locals_before unit.forest k)) (unit.head.at + n)
+-- what the slot of a unit names whose first byte stands at a place; a length names nothing
+abbrev pub IsSpotFor : Arena → ℕ → Aim → Spot → Type 0
+IsSpotFor f at (Place form n) spot = IsSpotAt f spot (at + n)
+IsSpotFor f at (Length fixed count) spot = Unit {0}
 
--- The number of a row is that of a place, counted from the unit's first byte, and it counts the slots that stand before this place.
-pub record CountsTo (f : Arena) (entries sizes : List ℕ) (start place : ℕ) (row : SlotRow) : Type 0 where
-  pub form : row.form ≡ uleb
-  pub from : row.from ≡ 0
-  pub values : ℕ
-  pub before : AreValuesBefore f entries place values
-  pub to : row.to ≡ locals_before f values
-  pub number : start + slot_number sizes row ≡ place
+-- one for each slot, in their order
+abbrev pub AreSpotsOf : HeadAndForest → (ℕ → List Operation) → List Spot → Type 0
+AreSpotsOf unit ops spots = AllZip (IsSpotFor unit.forest unit.head.at) (aims_of unit.forest ops) spots
 
 -- The rows are those of the unit's slots: there are as many, and whatever sizes the slots have and wherever the unit stands, the number
--- of each is the place of what its reference names. `others` has the bytes of each expression.
-pub record AreSlots (unit : HeadAndForest) (table : Listing) (columns : List Spec) (numbers others : List ℕ) (spots : List Spot) (rows : List SlotRow) : Type 0 where
-  pub count : length rows ≡ length spots
-  pub each : (sizes lens : List ℕ) (start : ℕ) (entries ends : List ℕ) (to : ℕ) → length sizes ≡ length rows → AreLensUnder unit.forest others sizes lens → IsPlacedAt unit table columns numbers lens start entries ends to → (i : ℕ) → i < length rows → CountsTo unit.forest entries sizes start (spot_place entries ends (spot_at spots i)) (row_at rows i)
+-- of each is the place of what it names, or the length of the expression.
+pub record AreSlots (unit : HeadAndForest) (table : Listing) (columns : List Spec) (numbers : List ℕ) (ops : ℕ → List Operation) (spots : List Spot) (rows : List SlotRow) : Type 0 where
+  pub count : length rows ≡ length (aims_of unit.forest ops)
+  pub each : (sizes lens : List ℕ) (start : ℕ) (entries ends : List ℕ) (to : ℕ) → length sizes ≡ length rows → AreLensUnder unit.forest ops sizes lens → IsPlacedAt unit table columns numbers lens start entries ends to → (i : ℕ) → i < length rows → IsRowOf unit.forest ops entries sizes start (spot_place entries ends (spot_at spots i)) i (aim_at (aims_of unit.forest ops) i) (row_at rows i)
 
--- The references within the unit have the least sizes under which each holds its number, and each size is just what its number needs.
-pub record IsLaidOut (unit : HeadAndForest) (table : Listing) (columns : List Spec) (numbers others : List ℕ) (spots : List Spot) (lens : List ℕ) : Type 0 where
+-- The slots have the least sizes under which each holds its number, and each size is just what its number needs.
+pub record IsLaidOut (unit : HeadAndForest) (table : Listing) (columns : List Spec) (numbers : List ℕ) (ops : ℕ → List Operation) (spots : List Spot) (lens : List ℕ) : Type 0 where
   pub rows : List SlotRow
-  pub slots : AreSlots unit table columns numbers others spots rows
+  pub slots : AreSlots unit table columns numbers ops spots rows
   pub sizes : List ℕ
   pub layout : IsLayout rows sizes
   pub least : IsLeastLayout rows sizes
   pub tight : IsTight rows sizes
-  pub lens_are : AreLensUnder unit.forest others sizes lens
+  pub lens_are : AreLensUnder unit.forest ops sizes lens
 
--- Each reference within the unit has the number of the place of what it names, where entries and codes 0 stand at these places.
-abbrev pub AreSpotNumbers : Arena → List ℕ → List Spot → ℕ → List ℕ → List ℕ → Type 0
-AreSpotNumbers f held spots start entries ends =
-    (k : ℕ) → k < length f.values → IsLocalAt f k → start + slice_index held k ≡ spot_place entries ends (spot_at spots (locals_before f k))
+-- the number is that of the place of what it names, where the unit begins at `start`, and entries and codes 0 stand at these places
+abbrev pub IsSpotPlaced : ℕ → List ℕ → List ℕ → Aim → Spot → Type 0
+IsSpotPlaced start entries ends (Place form n) spot = start + n ≡ spot_place entries ends spot
+IsSpotPlaced start entries ends (Length fixed count) spot = Unit {0}
 
--- A law: in such a layout each reference has as many bytes as its number needs.
+-- the aims of a unit's slots with new numbers: one for each value, and one for each operation
+abbrev pub aims_anew : Arena → HeldOps → List ℕ → List ℕ → List Aim
+aims_anew f ops held op_numbers = aims_before (λ (k : ℕ). renewed (slice_index held k) [] (meaning_at f k)) (operations_anew f ops op_numbers) (length f.values)
+
+-- each of them has
+abbrev pub AreSpotNumbers : Arena → HeldOps → List ℕ → List ℕ → List Spot → ℕ → List ℕ → List ℕ → Type 0
+AreSpotNumbers f ops held op_numbers spots start entries ends = AllZip (IsSpotPlaced start entries ends) (aims_anew f ops held op_numbers) spots
+
+-- A law: in such a layout each slot has as many bytes as its number needs.
 abbrev pub LayoutsHold : Type 0
 LayoutsHold =
-    (unit : HeadAndForest) (table : Listing) (columns : List Spec) (numbers : List ℕ) (anew : NewValues) (spots : List Spot) (lens : List ℕ) (start : ℕ) (entries ends : List ℕ) (to : ℕ) → AreSpotsOf unit spots → length anew.held ≡ length unit.forest.values → length anew.ends ≡ length unit.forest.values → IsLaidOut unit table columns numbers (lens_of anew.ends) spots lens → IsPlacedAt unit table columns numbers lens start entries ends to → AreSpotNumbers unit.forest anew.held spots start entries ends → lens_anew unit.forest anew ≡ lens
+    (unit : HeadAndForest) (table : Listing) (columns : List Spec) (numbers : List ℕ) (held : HeldOps) (anew : NewValues) (op_numbers : List ℕ) (spots : List Spot) (lens : List ℕ) (start : ℕ) (entries ends : List ℕ) (to : ℕ) → HasOperations Narrow unit.forest held → AreSpotsOf unit (operations_in unit.forest held) spots → length anew.held ≡ length unit.forest.values → length anew.ends ≡ length unit.forest.values → IsLaidOut unit table columns numbers (operations_in unit.forest held) spots lens → IsPlacedAt unit table columns numbers lens start entries ends to → AreSpotNumbers unit.forest held anew.held op_numbers spots start entries ends → AreWrittenShortest unit.forest held anew.ends op_numbers anew.expressions → lens_anew unit.forest anew ≡ lens
+
+-- A law: a unit has no more slots than values, and one more for two bytes: each operation with a slot has its opcode beside it.
+abbrev pub SlotsFit : Type 0
+SlotsFit =
+    (f : Arena) (held : HeldOps) → IsInOrder f → HasOperations Narrow f held → 2 * length (aims_of f (operations_in f held)) ≤ 2 * length f.values + length f.section

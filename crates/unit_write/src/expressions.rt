@@ -5,52 +5,16 @@ ghost use Rattle.dw_base.specs.declared.fault.Reach.TheVariants.{Narrow};
 ghost use Rattle.entry_arena.specs.Operations.{ops_of};
 ghost use Rattle.entry_arena.specs.Order.{IsInOrder};
 ghost use Rattle.entry_read.specs.Expressions.{HasOperations};
-ghost use Rattle.unit_write.specs.NewExpressions.{ArePlainEnds, AreWrittenPlain, refs_of};
-ghost use Rattle.unit_write.specs.inside.Expressions.{IsPlainLen, PutsExpression};
+ghost use Rattle.unit_write.specs.NewExpressions.{AreEndsFor, AreWrittenShortest, refs_of};
+ghost use Rattle.unit_write.specs.inside.Expressions.{PutsExpression};
 
 use crate::parts::part;
 use dw_base::NoMemory;
 use entry_arena::Operations;
 use entry_read::Unit;
-use expr_ops::{has_reference, plain_len, write_plain};
+use expr_ops::{has_reference, shortest_is_few, write_shortest};
 use form_codec::Value;
 use std::alloc::Global;
-
-// How many bytes the value with a number gets as an expression, which is none where it is no expression.
-fn expression_len(unit: &Unit<'_>, operations: &Operations, number: u32) -> u32
-    requires operations { HasOperations Narrow unit.now.forest operations.now }
-    requires room { 3 * length unit.now.forest.section < 2 ^ 32 }
-    requires number { number < length unit.now.forest.values }
-    ensures len { IsPlainLen unit.now.forest operations.now number result }
-    ensures order { IsInOrder unit.now.forest }
-{
-    let forest = unit.forest();
-    match forest.values()[number as usize] {
-        Value::Expr(span) => plain_len(operations.of_value(number), forest.bytes(span)) as u32,
-        _ => 0,
-    }
-}
-
-/// Where the bytes of each value's expression end when all expressions of a unit are written anew one after the other, by
-/// `write_expressions`; a value that is no expression has none. An expression gets at most three times its bytes. The only error is
-/// want of memory.
-pub fn expression_ends(
-    alloc: Global,
-    unit: &Unit<'_>,
-    operations: &Operations,
-) -> Result<Vec<u32>, NoMemory>
-    requires operations { HasOperations Narrow unit.now.forest operations.now }
-    requires room { 3 * length unit.now.forest.section < 2 ^ 32 }
-    ensures { IfOk result (λ ends. ArePlainEnds unit.now.forest operations.now ends.items) }
-{
-    let mut ends: Vec<u32> = Vec::new(alloc);
-    let mut end = 0u32;
-    for number in 0..unit.forest().value_count() {
-        end += expression_len(unit, operations, number);
-        ends.push(end)?;
-    }
-    Ok(ends)
-}
 
 // The new references of the expression that is the value with a number. `numbers` has one for each operation of the unit. Where no
 // operation has a reference no memory is taken.
@@ -77,6 +41,15 @@ fn new_refs(
     Ok(refs)
 }
 
+/// The new bytes of the expressions of a unit.
+#[derive(Drop)]
+pub struct NewExpressions {
+    /// For each value where the bytes of its expression end; a value that is no expression has none.
+    pub ends: Vec<u32>,
+    /// The bytes, one expression after the other.
+    pub bytes: Vec<u8>,
+}
+
 // Appends the new bytes of the value with a number, if it is an expression.
 fn put_expression(
     alloc: Global,
@@ -89,38 +62,44 @@ fn put_expression(
     requires operations { HasOperations Narrow unit.now.forest operations.now }
     requires narrow { All (λ number. number < 2 ^ 32) numbers.now.items }
     requires number { number < length unit.now.forest.values }
-    ensures { OnOk result (PutsExpression unit.now.forest operations.now numbers.now.items number out.old.items out.new.items) }
+    ensures put { OnOk result (PutsExpression unit.now.forest operations.now numbers.now.items number out.old.items out.new.items) }
+    ensures order { IsInOrder unit.now.forest }
 {
+    // A law, which costs nothing: an expression gets at most three times its bytes.
+    shortest_is_few();
     let forest = unit.forest();
     match forest.values()[number as usize] {
         Value::Expr(span) => {
             let refs = new_refs(alloc, operations, number, numbers)?;
-            write_plain(out, operations.of_value(number), &refs, forest.bytes(span))
+            write_shortest(out, operations.of_value(number), &refs, forest.bytes(span))
         }
         _ => Ok(()),
     }
 }
 
-/// The expressions of a unit written anew one after the other (DWARF 5 sections 2.5, 2.6.1 and 7.7.1). `ends` are those that
-/// `expression_ends` gives, and `numbers` has one for each operation: its new reference, below 2^32, where it has one.
+/// The expressions of a unit written anew one after the other (DWARF 5 sections 2.5, 2.6.1 and 7.7.1). `numbers` has one for each
+/// operation: its new reference, below 2^32, where it has one.
 ///
-/// A reference to a base type has five bytes and a call four, so that no size depends on a number; every other LEB128 number has its
-/// fewest bytes. A branch goes to the operation to which it went. The only error is want of memory.
+/// Each number has its fewest bytes: a reference to a base type, and the length of an expression that an entry_value holds. A call is a
+/// call2 where its number is below 65,536. A branch goes to the operation to which it went. An expression gets at most three times its
+/// bytes. The only error is want of memory.
 pub fn write_expressions(
     alloc: Global,
     unit: &Unit<'_>,
     operations: &Operations,
-    ends: &Vec<u32>,
     numbers: &Vec<u64>,
-) -> Result<Vec<u8>, NoMemory>
+) -> Result<NewExpressions, NoMemory>
     requires operations { HasOperations Narrow unit.now.forest operations.now }
-    requires ends { ArePlainEnds unit.now.forest operations.now ends.now.items }
+    requires room { 3 * length unit.now.forest.section < 2 ^ 32 }
     requires numbers { (length numbers.now.items ≡ length operations.now.ops) × All (λ number. number < 2 ^ 32) numbers.now.items }
-    ensures { IfOk result (λ bytes. AreWrittenPlain unit.now.forest operations.now ends.now.items numbers.now.items bytes.items) }
+    ensures ends { IfOk result (λ new. AreEndsFor unit.now.forest new.ends.items) }
+    ensures written { IfOk result (λ new. AreWrittenShortest unit.now.forest operations.now new.ends.items numbers.now.items new.bytes.items) }
 {
-    let mut out: Vec<u8> = Vec::new(alloc);
+    let mut ends: Vec<u32> = Vec::new(alloc);
+    let mut bytes: Vec<u8> = Vec::new(alloc);
     for number in 0..unit.forest().value_count() {
-        put_expression(alloc, &mut out, unit, operations, numbers, number)?;
+        put_expression(alloc, &mut bytes, unit, operations, numbers, number)?;
+        ends.push(bytes.len() as u32)?;
     }
-    Ok(out)
+    Ok(NewExpressions { ends, bytes })
 }

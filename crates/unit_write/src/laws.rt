@@ -3,9 +3,10 @@ ghost use Rattle.std.specs.Prelude.{◌<◌, ◌^◌, length};
 ghost use Rattle.spelled.specs.Spelled.{AreBytes};
 ghost use Rattle.unit_write.specs.Values.{OneSize};
 ghost use Rattle.unit_write.specs.Placing.{OnePlacing};
-ghost use Rattle.unit_write.specs.NewExpressions.{OnePlainEnds};
-ghost use Rattle.unit_write.specs.Slots.{LayoutsHold};
+ghost use Rattle.unit_write.specs.Slots.{LayoutsHold, SlotsFit};
 ghost use Rattle.unit_write.specs.Sizes.{NumbersHaveSizes, ExpressionsHaveSizes, ShortestHaveSizes};
+
+use expr_ops::{lengths_split, needed_are_shortest, slots_are_few};
 
 /// A law: the bytes that are written for a value in a column have one size, whatever number stands in the value. That of a reference
 /// within the unit is the one that it is given.
@@ -19,16 +20,23 @@ pub fn one_placing()
     ensures { OnePlacing }
 {}
 
-/// A law: in a least layout each reference within a unit has as many bytes as its number needs. So what `lay_out` gives is how long the
-/// references are that are written with the numbers of their places.
+/// A law: in a least layout each slot has as many bytes as its number needs. So what `lay_out` gives is how long the references and the
+/// expressions are that are written with the numbers of their places.
 pub fn layouts_hold()
     ensures { LayoutsHold }
-{}
+{
+    // Laws, which cost nothing: an expression whose slots have just the sizes that they need is in its fewest bytes.
+    lengths_split();
+    needed_are_shortest();
+}
 
-/// A law: where the new bytes of a unit's expressions end is one list.
-pub fn one_ends()
-    ensures { OnePlainEnds }
-{}
+/// A law: a unit has no more slots than values, and one more for two bytes.
+pub fn slots_fit()
+    ensures { SlotsFit }
+{
+    // Laws, which cost nothing: an expression has no more than one slot for two bytes.
+    slots_are_few();
+}
 
 /// Laws: something can be written for a reference or a section offset in the form in which it is written, whatever its number, for an
 /// expression in DW_FORM_exprloc, whatever its bytes, and for another value that its column's form and constant spell. So callers show

@@ -4,6 +4,9 @@
 mod expressions;
 mod items;
 mod laws;
+mod layout;
+mod marks;
+mod measure;
 mod parts;
 #[cfg(test)]
 mod place_tests;
@@ -14,8 +17,9 @@ mod write;
 #[cfg(test)]
 mod write_tests;
 
-pub use expressions::{expression_ends, write_expressions};
-pub use laws::{bytes_are_small, layouts_hold, one_ends, one_placing, one_size, values_have_sizes};
+pub use expressions::{NewExpressions, write_expressions};
+pub use laws::{bytes_are_small, layouts_hold, one_placing, one_size, slots_fit, values_have_sizes};
+pub use layout::lay_out;
 pub use places::{Places, place_unit};
-pub use slots::{Spot, lay_out, slots_of};
+pub use slots::{Spot, slots_of};
 pub use write::{NewNumbers, write_unit};

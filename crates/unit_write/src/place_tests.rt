@@ -41,11 +41,11 @@ fn values_have_sizes(rt: HostRuntime) {
         (0x06, int(7), 0, 4),
         (0x19, Value::Flag(true), 0, 0),
         (0x01, Value::Addr(0), 0, 8),
-        // a text ends with a byte 0, and an expression has its new bytes behind their count
+        // a text ends with a byte 0
         (0x08, Value::Text(span), 0, 4),
-        (0x18, Value::Expr(span), 127, 128),
-        (0x18, Value::Expr(span), 128, 130),
-        // a reference in DW_FORM_ref_udata has the bytes that it is given, and others have four
+        // an expression and a reference in DW_FORM_ref_udata have the bytes that they are given, and other references have four
+        (0x18, Value::Expr(span), 128, 128),
+        (0x18, Value::Expr(span), 130, 130),
         (0x15, Value::LocalRef(0), 1, 1),
         (0x15, Value::LocalRef(0), 3, 3),
         (0x10, Value::SectionRef(1), 0, 4),

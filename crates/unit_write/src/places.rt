@@ -46,7 +46,7 @@ pub(crate) fn numbers_are_small(numbers: &Vec<u32>)
 }
 
 // The place after the values of columns, which are written from a place on (DWARF 5 section 7.5.2). Both count from the
-// section's first byte. `lens` has the bytes of each value that is an expression or a reference within the unit.
+// section's first byte. `lens` has the bytes of each value that is an expression, with its length, or a reference within the unit.
 fn after_values(columns: &[Spec], values: &[Value], lens: &[u32], at: u64) -> u64
     requires { HaveRoom columns.now values.now lens.now at }
     ensures { (section : List ℕ) (size : ℕ) → length section < 2 ^ 63 → All (IsValueIn section) values.now → HaveSize section columns.now values.now lens.now size → result ≡ at + size }
@@ -127,12 +127,12 @@ fn place_next(
 /// counted from the first byte of the section, with the unit's table `decls`, a new column in place of each of the table's,
 /// and the new code of each declaration, which is 0 where no entry has it.
 ///
-/// `lens` has for each value how many bytes it takes where it is an expression, without the count before them, or a reference within the
-/// unit, as `lay_out` says; for another value any number.
+/// `lens` has for each value how many bytes it takes where it is an expression, with its length, or a reference within the unit, as
+/// `lay_out` says; for another value any number.
 ///
 /// Every other LEB128 number has its fewest bytes. A code takes at most 4 bytes more than the old one, an expression three times its
-/// old bytes, and a value besides at most 10 more than the old bytes: the caller shows that even so the unit would end below
-/// 0xffff_fff0, as a section of the 32-bit format does (DWARF 5 section 7.4). The only error is want of memory.
+/// old bytes and 10 for its length, and another value at most 10 more than the old bytes: the caller shows that even so the unit would
+/// end below 0xffff_fff0, as a section of the 32-bit format does (DWARF 5 section 7.4). The only error is want of memory.
 pub fn place_unit(
     alloc: Global,
     unit: &Unit<'_>,

@@ -11,18 +11,18 @@ use crate::laws::bytes_are_small;
 use abbrev_tables::Spec;
 use dw_base::NoMemory;
 use form_codec::{Value, Width, put_low, spelled_size, write_value};
-use leb_codec::{len_u, put_u};
+use leb_codec::put_u;
 
 // The bytes of DW_FORM_ref_addr and DW_FORM_sec_offset in the 32-bit format.
 const OFFSET_SIZE: u64 = 4;
 
 /// How many bytes are written for the value of a column (DWARF 5 section 7.5.6), with the shortest LEB128 number. A reference within the
-/// unit gets `len` bytes, and so does an expression, behind its count. Of a form that doesn't spell the value it says nothing.
+/// unit gets `len` bytes, and so does an expression with its length. Of a form that doesn't spell the value it says nothing.
 pub(crate) fn written_size(column: Spec, value: &Value, len: u32) -> u64
     ensures { (section : List ℕ) (size : ℕ) → length section < 2 ^ 63 → IsValueIn section value.now → HasSize column (meant_in section value.now) len size → result ≡ size }
 {
     match *value {
-        Value::Expr(_) => u64::from(len_u(u64::from(len))) + u64::from(len),
+        Value::Expr(_) => u64::from(len),
         Value::LocalRef(_) => u64::from(len),
         Value::SectionRef(_) => OFFSET_SIZE,
         Value::Offset(_) => OFFSET_SIZE,
@@ -30,7 +30,7 @@ pub(crate) fn written_size(column: Spec, value: &Value, len: u32) -> u64
     }
 }
 
-// Appends the bytes of an expression behind their count, or a front of these (DWARF 5 section 7.5.6).
+// Appends the bytes of an expression behind their length, or a front of these (DWARF 5 section 7.5.6).
 fn put_counted(out: &mut Vec<u8>, made: &[u8]) -> Result<(), NoMemory>
     ensures ok { OnOk result (Appends PutsCounted made.now out.old.items out.new.items) }
     ensures err { OnErr result (Extends out.old.items out.new.items) }

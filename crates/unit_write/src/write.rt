@@ -16,6 +16,7 @@ ghost use Rattle.unit_write.specs.Moved.{IsWritable, IsPlacedAt, IsWrittenAnew, 
 ghost use Rattle.unit_write.specs.inside.Readings.{HasItem};
 ghost use Rattle.unit_write.specs.inside.Puts.{AreNew, PutsValues, PutsEntry, PutsItems, PutsNext, own_bytes, header_bytes};
 
+use crate::expressions::NewExpressions;
 use crate::items::{Items, Next};
 use crate::parts::{made_for, new_columns, values_of};
 use crate::values::put_value;
@@ -42,10 +43,8 @@ pub struct NewNumbers {
     /// For each value, in the order of the values, the number that stands in it where it is a reference or a section offset;
     /// for another value any number.
     pub held: Vec<u64>,
-    /// For each value where the bytes of its expression end in `expressions`, as `expression_ends` says.
-    pub ends: Vec<u32>,
-    /// The new bytes of all expressions, one after the other.
-    pub expressions: Vec<u8>,
+    /// The new bytes of all expressions.
+    pub expressions: NewExpressions,
 }
 
 // Appends the fields that only the headers of type units and of skeleton units have, or a front of them.
@@ -98,7 +97,7 @@ fn put_values(
 {
     for (place, column) in columns.iter().enumerate() {
         let number = first as usize + place;
-        let made = made_for(&new.ends, &new.expressions, number);
+        let made = made_for(&new.expressions.ends, &new.expressions.bytes, number);
         put_value(
             out,
             *column,
@@ -214,8 +213,8 @@ fn put_unit(
 ///
 /// The entries keep their order and their values, but that references and section offsets have their new numbers. Every
 /// LEB128 number has its fewest bytes. An expression has its new bytes. No byte follows the tree. The unit ends at `new.end`, as
-/// `place_unit` says where each reference within the unit is as long as its number needs. The only error is want of memory; it leaves
-/// `out` as it was.
+/// `place_unit` says where each reference within the unit and each length of an expression is as long as its number needs. The only
+/// error is want of memory; it leaves `out` as it was.
 pub fn write_unit(
     out: &mut Vec<u8>,
     unit: &Unit<'_>,
@@ -228,7 +227,7 @@ pub fn write_unit(
     requires ends { (entries : List ℕ) × (ends : List ℕ) × IsPlacedAt unit.now decls.now specs.now.items numbers.now.items (lens_anew unit.now.forest (new_values new.now)) (length out.old.items) entries ends new.now.end }
     requires fits { new.now.end < least_reserved }
     requires held { (length new.now.held.items ≡ length unit.now.forest.values) × All (λ number. number < 2 ^ 32) new.now.held.items }
-    requires expressions { AreEndsFor unit.now.forest new.now.ends.items × ((k : ℕ) → k < length unit.now.forest.values → slice_index new.now.ends.items k ≤ length new.now.expressions.items) }
+    requires expressions { AreEndsFor unit.now.forest new.now.expressions.ends.items × ((k : ℕ) → k < length unit.now.forest.values → slice_index new.now.expressions.ends.items k ≤ length new.now.expressions.bytes.items) }
     requires narrow { (new.now.table < 2 ^ 32) × (new.now.type_offset < 2 ^ 32) }
     requires type_offset { unit.now.head.kind ≢ type_unit → new.now.type_offset ≡ 0 }
     ensures written { OnOk result ((ds : List Declared) → IsRenumbered decls.now specs.now.items numbers.now.items ds → IsWrittenAnew unit.now decls.now specs.now.items numbers.now.items ds new.now.table new.now.type_offset (new_values new.now) (length out.old.items) out.new.items) }

@@ -1,26 +1,23 @@
 // Bytes of units, written by hand from DWARF 5 sections 7.5 and 7.6.
-ghost use Rattle.std.specs.Prelude.{◌≡◌, ◌≢◌, ◌<◌, ◌-◌, ◌^◌, ℕ, List, length, slice_index, if◌then◌else◌, IfOk, IsTrue};
+ghost use Rattle.std.specs.Prelude.{◌≡◌, ◌≢◌, ◌<◌, ◌-◌, ◌^◌, ℕ, List, length, IfOk, IfSome, IsTrue};
 ghost use Rattle.std.specs.List.{All};
-ghost use Rattle.leb_codec.specs.Leb.{least_unsigned_len};
 ghost use Rattle.form_codec.specs.Values.{meant_in, IsValueIn};
 ghost use Rattle.entry_arena.specs.Arena.{entry_at};
 ghost use Rattle.dw_base.specs.declared.fault.Reach.TheVariants.{Narrow};
 ghost use Rattle.entry_read.specs.Expressions.{HasOperations};
-ghost use Rattle.entry_read.specs.Locals.{is_local};
 ghost use Rattle.entry_read.specs.Heads.{IsHead};
 ghost use Rattle.entry_read.specs.Units.{declarations_of, IsTable, IsUnitHeld};
 ghost use Rattle.unit_write.specs.Values.{HasSize, HaveSize};
 ghost use Rattle.unit_write.specs.Placing.{columns_of, values_in};
 ghost use Rattle.unit_write.specs.Lens.{AreLensFor};
-ghost use Rattle.unit_write.specs.NewExpressions.{lens_of, with_numbers};
+ghost use Rattle.unit_write.specs.NewExpressions.{lens_of, new_len, new_lens};
 ghost use Rattle.unit_write.specs.Moved.{IsWritable};
 
 use crate::laws::bytes_are_small;
 use crate::parts::{new_columns, values_of};
 use crate::place_tests::has_room;
-use crate::places::numbers_are_small;
 use crate::write::put_head;
-use crate::{NewNumbers, expression_ends, place_unit, write_expressions, write_unit};
+use crate::{NewExpressions, NewNumbers, place_unit, write_expressions, write_unit};
 use abbrev_tables::{Spec, Table};
 use dw_base::{NoMemory, Reach};
 use entry_arena::Operations;
@@ -46,8 +43,10 @@ fn header_of(alloc: Global, kind: u8) -> Result<Vec<u8>, NoMemory> {
         table: 0x1234,
         type_offset: 0x1d,
         held: Vec::new(alloc),
-        ends: Vec::new(alloc),
-        expressions: Vec::new(alloc),
+        expressions: NewExpressions {
+            ends: Vec::new(alloc),
+            bytes: Vec::new(alloc),
+        },
     };
     let mut out = Vec::new(alloc);
     put_head(&mut out, head, 0x21, &new)?;
@@ -78,7 +77,7 @@ fn headers_have_the_fields_of_their_kinds(rt: HostRuntime) -> Result<(), NoMemor
 
 // Whether something can be written for a value in a column, other than a constant of the declaration.
 fn is_sized(column: Spec, value: &Value) -> bool
-    ensures { IsTrue result → (section : List ℕ) (len : ℕ) → length section < 2 ^ 63 → IsValueIn section value.now → len < 2 ^ 64 → (size : ℕ) × HasSize column (meant_in section value.now) len size }
+    ensures { IsTrue result → (section : List ℕ) (len : ℕ) → length section < 2 ^ 63 → IsValueIn section value.now → (size : ℕ) × HasSize column (meant_in section value.now) len size }
 {
     match *value {
         Value::Expr(_) => column.form == 0x18,
@@ -94,7 +93,7 @@ fn is_sized(column: Spec, value: &Value) -> bool
 
 // Whether it can for the values of an entry.
 fn are_sized(columns: &[Spec], values: &[Value]) -> bool
-    ensures { IsTrue result → (section lens : List ℕ) → length section < 2 ^ 63 → All (IsValueIn section) values.now → length lens ≡ length values.now → ((k : ℕ) → slice_index lens k < 2 ^ 64) → (size : ℕ) × HaveSize section columns.now values.now lens size }
+    ensures { IsTrue result → (section lens : List ℕ) → length section < 2 ^ 63 → All (IsValueIn section) values.now → length lens ≡ length values.now → (size : ℕ) × HaveSize section columns.now values.now lens size }
 {
     if columns.len() != values.len() {
         return false;
@@ -109,7 +108,7 @@ fn are_sized(columns: &[Spec], values: &[Value]) -> bool
 
 // Whether it can for all entries of a unit.
 fn entries_are_sized(unit: &Unit<'_>, table: &Table, specs: &[Spec]) -> bool
-    ensures { IsTrue result → (id : ℕ) → id < length unit.now.forest.entries → ((entry_at unit.now.forest.entries id).decl < length table.now.decls) × ((section lens : List ℕ) → length section < 2 ^ 63 → All (IsValueIn section) (values_in unit.now.forest id) → length lens ≡ length (values_in unit.now.forest id) → ((k : ℕ) → slice_index lens k < 2 ^ 64) → (size : ℕ) × HaveSize section (columns_of table.now specs.now (entry_at unit.now.forest.entries id).decl) (values_in unit.now.forest id) lens size) }
+    ensures { IsTrue result → (id : ℕ) → id < length unit.now.forest.entries → ((entry_at unit.now.forest.entries id).decl < length table.now.decls) × ((section lens : List ℕ) → length section < 2 ^ 63 → All (IsValueIn section) (values_in unit.now.forest id) → length lens ≡ length (values_in unit.now.forest id) → (size : ℕ) × HaveSize section (columns_of table.now specs.now (entry_at unit.now.forest.entries id).decl) (values_in unit.now.forest id) lens size) }
 {
     let forest = unit.forest();
     for id in 0..forest.len() {
@@ -144,7 +143,6 @@ fn is_writable(
     ensures { IsTrue result → IsWritable unit.now table.now specs.now.items numbers.now.items lens.now.items }
 {
     bytes_are_small(unit.forest().section());
-    numbers_are_small(lens);
     if specs.len() != table.specs().len() || numbers.len() != table.len() as usize {
         return false;
     }
@@ -162,13 +160,16 @@ fn are_narrow(numbers: &Vec<u64>, count: usize) -> bool
     numbers.len() == count && numbers.iter().all(|number| *number < 1 << 32)
 }
 
-// How many bytes a value takes that gets a number, where its expression, if it is one, stands between two places.
-fn len_for(value: &Value, number: u64, begin: u32, end: u32) -> u32
-    ensures { (section : List ℕ) → result ≡ (if is_local (meant_in section value.now) then least_unsigned_len number else end - begin) }
+// How many bytes a value takes that its column doesn't tell, where it gets a number, and its expression, if it is one, stands between
+// two places; None where they are more than 32 bits count.
+fn len_for(value: &Value, number: u64, begin: u32, end: u32) -> Option<u32>
+    ensures { IfSome result (λ len. (section : List ℕ) → len ≡ new_len (meant_in section value.now) number (end - begin)) }
 {
+    let made = end.saturating_sub(begin);
     match *value {
-        Value::LocalRef(_) => len_u(number),
-        _ => end.saturating_sub(begin),
+        Value::LocalRef(_) => Some(len_u(number)),
+        Value::Expr(_) => len_u(u64::from(made)).checked_add(made),
+        _ => Some(0),
     }
 }
 
@@ -179,13 +180,14 @@ fn lens_for(
     unit: &Unit<'_>,
     held: &Vec<u64>,
     ends: &Vec<u32>,
-) -> Result<Vec<u32>, NoMemory>
-    ensures { IfOk result (λ lens. lens.items ≡ with_numbers unit.now.forest.section unit.now.forest.values held.now.items (lens_of ends.now.items)) }
+) -> Result<Vec<u32>, Fail>
+    ensures { IfOk result (λ lens. lens.items ≡ new_lens unit.now.forest.section unit.now.forest.values held.now.items (lens_of ends.now.items)) }
 {
     let mut lens: Vec<u32> = Vec::new(alloc);
     let mut begin = 0u32;
     for ((value, number), end) in unit.forest().values().iter().zip(held).zip(ends) {
-        lens.push(len_for(value, *number, begin, *end))?;
+        let len = len_for(value, *number, begin, *end).ok_or("too long")?;
+        lens.push(len)?;
         begin = *end;
     }
     Ok(lens)
@@ -225,8 +227,8 @@ fn write_sized(
     if unit.forest().section().len() >= 1 << 30 {
         return Err("too long")?;
     }
-    let ends = expression_ends(alloc, unit, operations)?;
-    let lens = lens_for(alloc, unit, &held, &ends)?;
+    let expressions = write_expressions(alloc, unit, operations, &references)?;
+    let lens = lens_for(alloc, unit, &held, &expressions.ends)?;
     if !is_writable(unit, table, &specs, &numbers, &lens) {
         return Err("not writable")?;
     }
@@ -234,13 +236,11 @@ fn write_sized(
         return Err("no room")?;
     }
     let places = place_unit(alloc, unit, table, &specs, &numbers, &lens, 2)?;
-    let expressions = write_expressions(alloc, unit, operations, &ends, &references)?;
     let new = NewNumbers {
         end: places.end,
         table: 0x30,
         type_offset: 0,
         held,
-        ends,
         expressions,
     };
     let mut out = [0xaa, 0xbb].to_vec(alloc)?;
@@ -352,14 +352,14 @@ const LOCATED_TABLE: [u8; 18] = [
 
 #[test]
 fn expressions_are_written_anew(rt: HostRuntime) -> Result<(), Fail> {
-    // the reference to the base type has five bytes, and the 8 of DW_OP_fbreg has one
-    let bytes: [u8; 31] = [
-        0xaa, 0xbb, 0x19, 0, 0, 0, 5, 0, 1, 8, 0x30, 0, 0, 0, 1, 2, 3, 8, 0x30, 0xa8, 0x8d, 0x80,
-        0x80, 0x80, 0, 0x9f, 3, 2, 0x91, 0x08, 0,
+    // the reference has the two bytes that 300 needs, and the 8 of DW_OP_fbreg has one
+    let bytes: [u8; 28] = [
+        0xaa, 0xbb, 0x16, 0, 0, 0, 5, 0, 1, 8, 0x30, 0, 0, 0, 1, 2, 3, 5, 0x30, 0xa8, 0xac, 0x02,
+        0x9f, 3, 2, 0x91, 0x08, 0,
     ];
     let named = Named {
         held: &[99, 99],
-        references: &[99, 0x0d, 99, 99],
+        references: &[99, 300, 99, 99],
     };
     let specs = [column(0x02, 0x18)];
     let out = written(

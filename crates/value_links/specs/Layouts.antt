@@ -1,37 +1,39 @@
--- The layout of a unit that is written: how many bytes each of its references within the unit has (DWARF 5 sections 7.5.5 and 7.6). The
--- number of such a reference counts bytes of the unit, some of which are those of other references, so that the sizes depend on each
--- other.
+-- The layout of a unit that is written: how many bytes each of its slots has (DWARF 5 sections 2.5.1.1 to 2.5.1.7, 7.5.5 and 7.6). A slot
+-- is a number that counts bytes of the unit of which some may be those of other slots, so that their sizes depend on each other: a
+-- reference within the unit, the length of an expression, and in an expression a call or a reference to a base type. The expressions are
+-- those of entries. Those of location lists stand in no unit, and what is tidy says that each number in them has its fewest bytes.
 use Rattle.std.specs.Prelude.{◌≡◌, ◌<◌, ◌+◌, ℕ, List, length, map, slice_index}
 use Rattle.std.specs.List.{All}
-use Rattle.leb_codec.specs.Leb.{least_unsigned_len}
-use Rattle.leb_codec.specs.Layout.{SlotRow, uleb, row_at, slot_number, IsLeastLayout}
-use Rattle.form_codec.specs.Forms.Meaning.{InUnit}
-use Rattle.form_codec.specs.Values.{meant_in}
+use Rattle.dw_base.specs.declared.fault.Span.{Span}
+use Rattle.dw_base.specs.declared.fault.Reach.TheVariants.{Wide}
+use Rattle.leb_codec.specs.Layout.{SlotRow, row_at, slot_number, need, IsLeastLayout}
+use Rattle.expr_ops.specs.Expressions.{Operation, IsExpression}
+use Rattle.expr_ops.specs.Slots.{Aim}
+use Rattle.expr_ops.specs.Slots.Aim.{Place, Length}
+use Rattle.form_codec.specs.Values.{bytes_in}
 use Rattle.entry_arena.specs.declared.entry.Entry.{Entry}
-use Rattle.entry_arena.specs.Arena.{value_at}
-use Rattle.entry_read.specs.Locals.{locals_in, locals_before, AreValuesBefore}
+use Rattle.entry_read.specs.Expressions.{IsExprAt}
+use Rattle.entry_read.specs.Slots.{aims_of, aim_at, IsRowOf}
 use Rattle.value_links.specs.Reading.{UnitRead}
 use Rattle.value_links.specs.Classes.{OfReadings}
 
--- The slot of a reference with the number n. Of the n bytes from the unit's first one up to what the reference names, some are those of
--- the references that stand before what it names. The others are fixed: how many they are doesn't depend on any size.
-pub record IsSlotOf (unit : UnitRead) (sizes : List ℕ) (n : ℕ) (row : SlotRow) : Type 0 where
-  pub form : row.form ≡ uleb
-  pub from : row.from ≡ 0
-  pub values : ℕ
-  pub before : AreValuesBefore unit.forest (map (λ (e : Entry). e.at) unit.forest.entries) (unit.head.at + n) values
-  pub to : row.to ≡ locals_before unit.forest values
-  pub number : slot_number sizes row ≡ n
+-- the place that a slot tells, of a unit that begins at another; a length tells none
+abbrev pub place_told : ℕ → Aim → ℕ
+place_told at (Place form n) = at + n
+place_told at (Length fixed count) = at
 
--- There is a slot for each reference within the unit, in the order of the values. The sizes are those of the numbers that stand in the
--- references, each in its fewest bytes; and among all sizes under which each slot holds its own number theirs is the least sum. That
--- each reference stands in DW_FORM_ref_udata, and in so many bytes, is what is said of the forms of columns and of tidy units.
+-- The unit has these operations in its expressions. There is a row for each of its slots, in the order of their places. The sizes are
+-- those of the numbers that stand in the slots, each in its fewest bytes; and among all sizes under which each slot holds its own number
+-- theirs is the least sum. That the slots stand in so many bytes is what is said of the forms of columns and of tidy units and
+-- expressions.
 pub record HasLeastLayout (unit : UnitRead) : Type 0 where
+  pub ops : ℕ → List Operation
+  pub spelled : (k : ℕ) (span : Span) → IsExprAt unit.forest k span → IsExpression Wide (ops k) (bytes_in unit.forest.section span)
   pub rows : List SlotRow
   pub sizes : List ℕ
-  pub count : length rows ≡ locals_in unit.forest.section unit.forest.values
-  pub slots : (k n : ℕ) → k < length unit.forest.values → meant_in unit.forest.section (value_at unit.forest.values k) ≡ InUnit n → IsSlotOf unit sizes n (row_at rows (locals_before unit.forest k))
-  pub sized : (k n : ℕ) → k < length unit.forest.values → meant_in unit.forest.section (value_at unit.forest.values k) ≡ InUnit n → slice_index sizes (locals_before unit.forest k) ≡ least_unsigned_len n
+  pub count : length rows ≡ length (aims_of unit.forest ops)
+  pub slots : (i : ℕ) → i < length rows → IsRowOf unit.forest ops (map (λ (e : Entry). e.at) unit.forest.entries) sizes unit.head.at (place_told unit.head.at (aim_at (aims_of unit.forest ops) i)) i (aim_at (aims_of unit.forest ops) i) (row_at rows i)
+  pub sized : (i : ℕ) → i < length rows → slice_index sizes i ≡ need (row_at rows i).form (slot_number sizes (row_at rows i))
   pub least : IsLeastLayout rows sizes
 
 -- all units of the written file have

@@ -6,7 +6,7 @@ use Rattle.dw_base.specs.declared.fault.Span.{Span}
 use Rattle.expr_ops.specs.declared.op.Op.{Op}
 use Rattle.expr_ops.specs.Expressions.{IsExpression}
 use Rattle.expr_ops.specs.Ops.{all_meant}
-use Rattle.expr_ops.specs.Plain.{IsWrittenPlain}
+use Rattle.expr_ops.specs.Shortest.{IsWrittenShortest}
 use Rattle.form_codec.specs.Values.{bytes_in}
 use Rattle.leb_codec.specs.Numbering.{IsUsed, IsNumbering, used_count}
 use Rattle.abbrev_tables.specs.declared.decl.Spec.{Spec}
@@ -84,14 +84,14 @@ pub record IsTidyUnit (unit : UnitRead) : Type 0 where
 -- EXPRESSIONS
 
 -- The expression that is a value of the old unit has its old operations in the written one, with new references. No number in it has
--- a byte too many, but a reference to a base type has five bytes and a call four, so that their sizes don't depend on the numbers.
+-- a byte too many, and a call is a call2 where its number is below 65,536.
 pub record IsTidyExpr (r s : Linkable) (u number : ℕ) (old : Span) : Type 0 where
   pub new : Span
   pub stands : IsExprAt (unit_at s u).forest number new
   pub refs : List ℕ
   pub ops : List Op
   pub spelled : IsExpression Wide (all_meant (bytes_in (unit_at r u).forest.section old) ops) (bytes_in (unit_at r u).forest.section old)
-  pub written : IsWrittenPlain refs (bytes_in (unit_at r u).forest.section old) ops (bytes_in (unit_at s u).forest.section new)
+  pub written : IsWrittenShortest refs (bytes_in (unit_at r u).forest.section old) ops (bytes_in (unit_at s u).forest.section new)
 
 abbrev pub AreTidyExpressions : Linkable → Linkable → Type 0
 AreTidyExpressions r s = (u number : ℕ) (old : Span) → u < length r.units → IsExprAt (unit_at r u).forest number old → IsTidyExpr r s u number old

@@ -6,7 +6,7 @@ use Rattle.dw_base.specs.declared.fault.Reach.TheVariants.{Wide}
 use Rattle.expr_ops.specs.declared.op.Op.{Op}
 use Rattle.expr_ops.specs.Expressions.{IsExpression}
 use Rattle.expr_ops.specs.Ops.{all_meant}
-use Rattle.expr_ops.specs.Plain.{IsWrittenPlain}
+use Rattle.expr_ops.specs.Shortest.{IsWrittenShortest}
 use Rattle.list_model.specs.declared.contribution.Contribution.{Contribution}
 use Rattle.list_model.specs.declared.entry.ListKind.{ListKind}
 use Rattle.list_model.specs.declared.entry.ListKind.TheVariants.{Ranges, Locations}
@@ -53,14 +53,14 @@ abbrev pub IsFilled : ListKind → Reading → ℕ → Type 0
 IsFilled kind s p =
     Fill kind s.views (of_kind s.links kind).section (part_at (of_kind s.links kind) p) (filter (λ (list : ListRead). nat_eq list.part p) (lists_of s kind)) (lists_at (part_at (of_kind s.links kind) p))
 
--- Old bytes and new ones are one expression, but for its references. No number in the new ones has a byte too many, but a reference to a
--- base type has five bytes and a call four, so that their sizes don't depend on the numbers.
-abbrev pub IsPlain : List ℕ → List ℕ → Type 0
-IsPlain old new = (refs : List ℕ) × (ops : List Op) × IsExpression Wide (all_meant old ops) old × IsWrittenPlain refs old ops new
+-- Old bytes and new ones are one expression, but for its references. No number in the new ones has a byte too many, and a
+-- call is a call2 where its number is below 65,536.
+abbrev pub IsShort : List ℕ → List ℕ → Type 0
+IsShort old new = (refs : List ℕ) × (ops : List Op) × IsExpression Wide (all_meant old ops) old × IsWrittenShortest refs old ops new
 
 -- the expressions of the list with a number are such
-abbrev pub ArePlain : ListKind → Reading → Reading → ℕ → Type 0
-ArePlain kind r s k = AllZip IsPlain (expressions_at r.links kind (list_at (lists_of r kind) k)) (expressions_at s.links kind (list_at (lists_of s kind) k))
+abbrev pub AreShort : ListKind → Reading → Reading → ℕ → Type 0
+AreShort kind r s k = AllZip IsShort (expressions_at r.links kind (list_at (lists_of r kind) k)) (expressions_at s.links kind (list_at (lists_of s kind) k))
 
 -- A run of view pairs of the old file is one of the written file: it has the same pairs, and goes with the list that has the number there
 -- of the one with which it went.
@@ -93,5 +93,5 @@ pub record AreTidyLists (kind : ListKind) (r s : Reading) : Type 0 where
   pub part : (k : ℕ) → k < length (lists_of r kind) → (list_at (lists_of s kind) k).part ≡ (list_at (lists_of r kind) k).part
   pub values : (u number k : ℕ) → u < length r.links.units → k < length (lists_of r kind) → IsLinked r.links u number (ListAt kind (list_at (lists_of r kind) k).at) → IsLinked s.links u number (ListAt kind (list_at (lists_of s kind) k).at)
   pub named : (p i k : ℕ) → k < length (lists_of r kind) → SlotNames (of_kind r.links kind) p i (list_at (lists_of r kind) k).at → SlotNames (of_kind s.links kind) p i (list_at (lists_of s kind) k).at
-  pub expressions : (k : ℕ) → k < length (lists_of r kind) → ArePlain kind r s k
+  pub expressions : (k : ℕ) → k < length (lists_of r kind) → AreShort kind r s k
   pub filled : (p : ℕ) → p < length (of_kind s.links kind).parts → IsFilled kind s p

@@ -1,6 +1,6 @@
 -- What parts of the rewriter of units know of a file that is held, and of what they have made of it.
-use Rattle.std.specs.Prelude.{◌≡◌, ◌≢◌, ◌≤◌, ◌<◌, ◌+◌, ◌^◌, ℕ, List, length, slice_index, slice_index_or, take, Some}
-use Rattle.std.specs.List.{All}
+use Rattle.std.specs.Prelude.{◌≡◌, ◌≢◌, ◌≤◌, ◌<◌, ◌+◌, ◌^◌, ◌++◌, ℕ, List, length, slice_index, slice_index_or, take, Some}
+use Rattle.std.specs.List.{All, AllZip}
 use Rattle.form_codec.specs.declared.value.Value.{Value}
 use Rattle.form_codec.specs.declared.value.Value.TheVariants as value
 use Rattle.form_codec.specs.Forms.Meaning.{InUnit}
@@ -8,6 +8,8 @@ use Rattle.form_codec.specs.Values.{meant_in}
 use Rattle.expr_ops.specs.declared.op.Op.{Op}
 use Rattle.expr_ops.specs.declared.names.Named.{Named}
 use Rattle.expr_ops.specs.declared.names.Named.TheVariants.{SectionEntry}
+use Rattle.expr_ops.specs.Expressions.{Operation}
+use Rattle.expr_ops.specs.Slots.{Aim}
 use Rattle.expr_ops.specs.Drafts.{op_at}
 use Rattle.expr_ops.specs.Names.{named_by}
 use Rattle.abbrev_tables.specs.Tables.{Declared}
@@ -17,10 +19,10 @@ use Rattle.entry_arena.specs.Arena.{Arena, entry_at, value_at}
 use Rattle.fixed_width.specs.InitialLengths.{least_reserved}
 use Rattle.entry_read.specs.Heads.{type_unit}
 use Rattle.entry_read.specs.Units.{HeadAndForest}
-use Rattle.entry_read.specs.Locals.{locals_before}
+use Rattle.entry_read.specs.Slots.{aims_before, meaning_at}
 use Rattle.unit_write.specs.declared.places.Places.{Places}
 use Rattle.unit_write.specs.declared.slots.Spot.{Spot}
-use Rattle.unit_write.specs.Slots.{IsSpotAt, spot_at}
+use Rattle.unit_write.specs.Slots.{IsSpotFor}
 use Rattle.unit_write.specs.declared.write.NewNumbers.{NewNumbers}
 use Rattle.unit_write.specs.Placing.{IsRenumbered}
 use Rattle.unit_write.specs.Moved.{IsPlacedAt, IsWrittenAnew, new_values, lens_anew}
@@ -206,10 +208,19 @@ pub record AreNumberedUpTo (world : World) (places : List Places) (new_places : 
 abbrev pub AreNumbered : World → List Places → NewPlaces → ℕ → List ℕ → Type 0
 AreNumbered world places new_places u held = AreNumberedUpTo world places new_places u held (length (unit_in world.units u).forest.entries)
 
--- the references within a unit among its values before one, as they are found one after the other
-pub record AreSpotsUpTo (unit : HeadAndForest) (spots : List Spot) (count : ℕ) : Type 0 where
-  pub counted : length spots ≡ locals_before unit.forest count
-  pub each : (k n : ℕ) → k < count → k < length unit.forest.values → meant_in unit.forest.section (value_at unit.forest.values k) ≡ InUnit n → IsSpotAt unit.forest (spot_at spots (locals_before unit.forest k)) (unit.head.at + n)
+-- the reference of an operation in an expression of the unit `u` names what it may, if it has one
+abbrev pub OperationNames : World → ℕ → Op → Type 0
+OperationNames world u op = (file : List ℕ) (r : Reading) → Holds file world r → (target : OpTarget) × Names r.links u op.code op.a target
+
+-- what the slots with these aims name is added behind others
+pub record AddsSpots (unit : HeadAndForest) (aims : List Aim) (old new : List Spot) : Type 0 where
+  pub spots : List Spot
+  pub behind : new ≡ old ++ spots
+  pub are : AllZip (IsSpotFor unit.forest unit.head.at) aims spots
+
+-- what the slots of a unit name, of the values before one
+abbrev pub AreSpotsUpTo : HeadAndForest → (ℕ → List Operation) → List Spot → ℕ → Type 0
+AreSpotsUpTo unit ops spots count = AllZip (IsSpotFor unit.forest unit.head.at) (aims_before (meaning_at unit.forest) ops count) spots
 
 -- The entry of a type unit's type stands in the unit.
 abbrev pub HasType : HeadAndForest → Type 0
@@ -222,8 +233,8 @@ pub record IsTypeMoved (unit : HeadAndForest) (places : PlacesAnew) (new : ℕ) 
   pub none : unit.head.kind ≢ type_unit → new ≡ 0
   pub fits : new < 2 ^ 32
 
--- The unit with a number stands anew at the end of a section, with its new numbers. Each of its references within itself is as long as its
--- number needs, and so it has its places.
+-- The unit with a number stands anew at the end of a section, with its new numbers. Each of its slots is as long as its number
+-- needs, and so it has its places.
 pub record IsUnitBehind (world : World) (tables : List NewTable) (places : List Places) (new_places : NewPlaces) (u : ℕ) (section : List ℕ) : Type 0 where
   pub numbers : NewNumbers
   pub numbered : (file : List ℕ) (r : Reading) → Holds file world r → AreNewNumbers world r.links tables places new_places u numbers

@@ -1,9 +1,10 @@
 -- Where the units of a file, their entries and the codes 0 that end chains stand in the new .debug_info.
 use Rattle.std.specs.Prelude.{◌≡◌, ◌<◌, ℕ, List, [], ◌∷◌, length, slice_index, slice_index_or, map}
 use Rattle.fixed_width.specs.InitialLengths.{least_reserved}
+use Rattle.expr_ops.specs.Expressions.{Operation}
+use Rattle.entry_read.specs.Slots.{operations_in}
 use Rattle.entry_read.specs.Units.{HeadAndForest}
 use Rattle.unit_write.specs.declared.places.Places.{Places}
-use Rattle.unit_write.specs.NewExpressions.{lens_of, ArePlainEnds}
 use Rattle.unit_write.specs.Lens.{AreLensFor}
 use Rattle.unit_write.specs.Moved.{IsWritable, IsPlacedAt}
 use Rattle.unit_write.specs.declared.slots.Spot.{Spot}
@@ -29,19 +30,16 @@ places_at places u = slice_index_or (map places_anew places) u (record { start =
 abbrev pub unit_in : List HeadAndForest → ℕ → HeadAndForest
 unit_in units u = slice_index_or units u (record { head = record { at = 0; len = 0; kind = 0; table = 0; extra = 0; type_at = 0 }; forest = record { section = []; entries = []; values = []; ends = [] } })
 
--- where the new bytes of the expressions of the unit with a number end
-abbrev pub AreEndsIn : World → ℕ → List ℕ → Type 0
-AreEndsIn world u ends = ArePlainEnds (unit_in world.units u).forest (operations_at world.operations u) ends
+-- the operations of each value of the unit with a number
+abbrev pub operations_for : World → ℕ → ℕ → List Operation
+operations_for world u = operations_in (unit_in world.units u).forest (operations_at world.operations u)
 
--- The unit stands at these places, by the new columns and numbers of its table, the new bytes of its expressions and the least layout of
--- its references within itself.
+-- The unit stands at these places, by the new columns and numbers of its table and the least layout of its slots.
 pub record IsPlacedBy (world : World) (tables : List NewTable) (u : ℕ) (places : PlacesAnew) : Type 0 where
-  pub expressions : List ℕ
-  pub plain : AreEndsIn world u expressions
   pub spots : List Spot
-  pub named : AreSpotsOf (unit_in world.units u) spots
+  pub named : AreSpotsOf (unit_in world.units u) (operations_for world u) spots
   pub lens : List ℕ
-  pub laid_out : IsLaidOut (unit_in world.units u) (table_at world.tables (slice_index world.table_of u)).table (new_table_at tables (slice_index world.table_of u)).columns (new_table_at tables (slice_index world.table_of u)).numbers (lens_of expressions) spots lens
+  pub laid_out : IsLaidOut (unit_in world.units u) (table_at world.tables (slice_index world.table_of u)).table (new_table_at tables (slice_index world.table_of u)).columns (new_table_at tables (slice_index world.table_of u)).numbers (operations_for world u) spots lens
   pub placed : IsPlacedAt (unit_in world.units u) (table_at world.tables (slice_index world.table_of u)).table (new_table_at tables (slice_index world.table_of u)).columns (new_table_at tables (slice_index world.table_of u)).numbers lens places.start places.entries places.ends places.end
 
 -- units stand one after the other, from a place up to another
@@ -56,7 +54,7 @@ pub record ArePlacesOf (world : World) (tables : List NewTable) (places : List P
   pub small : size < least_reserved
   pub each : (u : ℕ) → u < length world.units → IsPlacedBy world tables u (places_at places u)
 
--- each unit of the world can be written by the new columns and numbers of its table, whatever sizes its references have
+-- each unit of the world can be written by the new columns and numbers of its table, whatever sizes its slots have
 abbrev pub AreWritable : World → List NewTable → Type 0
 AreWritable world tables =
     (u : ℕ) (lens : List ℕ) → u < length world.units → AreLensFor (unit_in world.units u).forest lens → IsWritable (unit_in world.units u) (table_at world.tables (slice_index world.table_of u)).table (new_table_at tables (slice_index world.table_of u)).columns (new_table_at tables (slice_index world.table_of u)).numbers lens

@@ -11,8 +11,8 @@ use Rattle.value_links.specs.Layouts.{HaveLeastLayouts}
 use Rattle.value_links.specs.Tidy.{IsTidy}
 
 -- The written file means the same and is valid within the wide limits. Its line number programs, its lists, the forms of its columns,
--- the codes of its entries and the references within its units take the fewest bytes, and of several such choices each is the one that comes
--- first by a stated rule. Its tables and units hold nothing else, and its parts stand where they are to stand.
+-- the codes of its entries and the slots of its units take the fewest bytes, and of several such choices each is the one that comes first
+-- by a stated rule. Its tables and units hold nothing else, and its parts stand where they are to stand.
 pub record IsRewritten (file written : List ℕ) : Type 0 where
   pub same : Same file written
   pub still_valid : IsValid written Wide

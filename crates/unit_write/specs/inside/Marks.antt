@@ -1,26 +1,68 @@
 -- What is counted of a unit for its slots; nothing here is a definition of the format.
-use Rattle.std.specs.Prelude.{◌≡◌, ◌≤◌, ◌<◌, ◌+◌, ℕ, zero, suc, List, [], ◌∷◌, length, slice_index}
+use Rattle.std.specs.Prelude.{◌≡◌, ◌≤◌, ◌<◌, ◌+◌, ◌*◌, ◌^◌, ℕ, zero, suc, List, [], ◌∷◌, length, sum, take, slice_index, slice_index_or, slice_range}
+use Rattle.dw_base.specs.declared.fault.Span.{Span}
+use Rattle.leb_codec.specs.Layout.{SlotForm, uleb, call}
+use Rattle.abbrev_tables.specs.declared.decl.Spec.{Spec}
+use Rattle.abbrev_tables.specs.Listings.{Listing}
 use Rattle.abbrev_tables.specs.Tables.{Declared}
 use Rattle.slot_layout.specs.declared.slots.Slot.{Slot}
-use Rattle.slot_layout.specs.declared.slots.SlotKind.TheVariants.{Uleb as TheUleb}
+use Rattle.slot_layout.specs.declared.slots.SlotKind.{SlotKind}
+use Rattle.slot_layout.specs.declared.slots.SlotKind.TheVariants.{Uleb as TheUleb, Call as TheCall}
+use Rattle.expr_ops.specs.Expressions.{Operation}
+use Rattle.expr_ops.specs.Shortest.{fixed_length}
+use Rattle.expr_ops.specs.Slots.{Aim}
+use Rattle.expr_ops.specs.Slots.Aim.{Place, Length}
 use Rattle.entry_arena.specs.Arena.{Arena, entry_at}
 use Rattle.entry_arena.specs.Trees.{listed_to}
 use Rattle.entry_arena.specs.Walks.{Item, IsWhole}
 use Rattle.entry_arena.specs.Walks.Item.{AnEntry, AnEnd}
-use Rattle.entry_read.specs.Locals.{locals_before}
+use Rattle.entry_read.specs.Expressions.{IsExprAt}
+use Rattle.entry_read.specs.Slots.{meaning_at, value_aims, slots_before, aim_at}
+use Rattle.entry_read.specs.Units.{HeadAndForest}
+use Rattle.unit_write.specs.declared.marks.Marks.{Marks}
+use Rattle.unit_write.specs.declared.measure.Measured.{Measured}
 use Rattle.unit_write.specs.declared.slots.Spot.{Spot}
-use Rattle.unit_write.specs.declared.slots.Spot.TheVariants.{Entry as TheEntry, End as TheEnd}
-use Rattle.unit_write.specs.Slots.{spot_place}
+use Rattle.unit_write.specs.declared.slots.Spot.TheVariants.{Entry as TheEntry, End as TheEnd, Nothing as NoSpot}
+use Rattle.unit_write.specs.Moved.{IsPlacedAt}
+use Rattle.unit_write.specs.Slots.{spot_place, spot_at}
+
+-- VALUES
+
+-- numbers of 31 bits hold three times the length of each expression
+abbrev pub AreShort : Arena → Type 0
+AreShort f = (number : ℕ) (span : Span) → IsExprAt f number span → 3 * span.len < 2 ^ 31
+
+-- of the first so many values it is known how many bytes are no slot's, and how many slots each has
+pub record IsMeasured (f : Arena) (ops : ℕ → List Operation) (measured : Measured) (count : ℕ) : Type 0 where
+  pub fixed_count : length measured.fixed.items ≡ count
+  pub slots_count : length measured.slots.items ≡ count
+  pub fixed : (k : ℕ) → k < count → slice_index measured.fixed.items k ≡ fixed_length (ops k)
+  pub slots : (k : ℕ) → k < count → slice_index measured.slots.items k ≡ length (value_aims (meaning_at f k) (ops k))
+
+abbrev pub AreMeasured : Arena → (ℕ → List Operation) → Measured → Type 0
+AreMeasured f ops measured = IsMeasured f ops measured (length f.values)
+
+-- how many slots each value has
+pub record AreSlotNumbers (f : Arena) (ops : ℕ → List Operation) (slots : List ℕ) : Type 0 where
+  pub count : length slots ≡ length f.values
+  pub each : (k : ℕ) → k < length f.values → slice_index slots k ≡ length (value_aims (meaning_at f k) (ops k))
+
+-- to each number the sizes of its slots are added, which are so many and stand one after the other
+pub record AreLensWith (fixed slots sizes lens : List ℕ) : Type 0 where
+  pub count : length lens ≡ length fixed
+  pub each : (k : ℕ) → k < length fixed → slice_index lens k ≡ slice_index fixed k + sum (slice_range sizes (sum (take k slots)) (sum (take (suc k) slots)))
+
+-- ENTRIES
 
 -- how many values the entries before the one with a number have
 abbrev pub values_before : Arena → ℕ → ℕ
 values_before f zero = 0
 values_before f (suc id) = values_before f id + (entry_at f.entries id).count
 
--- for each entry how many references within the unit stand before it, and last how many all entries have
-pub record AreLocalsCounted (f : Arena) (counts : List ℕ) : Type 0 where
+-- for each entry how many slots stand before it, and last how many all entries have
+pub record AreSlotsCounted (f : Arena) (ops : ℕ → List Operation) (counts : List ℕ) : Type 0 where
   pub count : length counts ≡ suc (length f.entries)
-  pub each : (id : ℕ) → id ≤ length f.entries → slice_index counts id ≡ locals_before f (values_before f id)
+  pub each : (id : ℕ) → id ≤ length f.entries → slice_index counts id ≡ slots_before f ops (values_before f id)
 
 -- the counts say of each code 0 of a walk how many entries stand before it, where so many stand before the walk
 abbrev pub EndsFollow : ℕ → List Item → List ℕ → Type 0
@@ -34,16 +76,49 @@ abbrev pub AreEntriesCounted : Arena → List ℕ → Type 0
 AreEntriesCounted f counts =
     (ds : List Declared) (start place : ℕ) (whole : IsWhole f.section ds start (listed_to f place)) → EndsFollow 0 whole.items counts
 
--- the spot is one of so many entries and codes 0, and there is a count for it
-abbrev pub HasSpot : ℕ → ℕ → List ℕ → List ℕ → Spot → Type 0
-HasSpot entries ends locals before_ends (TheEntry id) = (id < entries) × (id < length locals)
-HasSpot entries ends locals before_ends (TheEnd number) = (number < ends) × (number < length before_ends) × (slice_index before_ends number < length locals)
+-- where all stand with no byte for any slot, and what stands before them
+pub record AreMarks (unit : HeadAndForest) (table : Listing) (columns : List Spec) (numbers : List ℕ) (ops : ℕ → List Operation) (marks : Marks) : Type 0 where
+  pub lens : List ℕ
+  pub fixed : (k : ℕ) → k < length unit.forest.values → slice_index lens k ≡ fixed_length (ops k)
+  pub placed : IsPlacedAt unit table columns numbers lens 0 marks.places.entries.items marks.places.ends.items marks.places.end
+  pub small : marks.places.end < 2 ^ 31
+  pub slots : AreSlotsCounted unit.forest ops marks.slots_before.items
+  pub entries : AreEntriesCounted unit.forest marks.entries_before.items
+
+-- SLOTS
+
+-- the spot is one of those of the marks, and there is a count for it
+abbrev pub HasSpot : Marks → Spot → Type 0
+HasSpot marks (TheEntry id) = (id < length marks.places.entries.items) × (id < length marks.slots_before.items)
+HasSpot marks (TheEnd number) = (number < length marks.places.ends.items) × (number < length marks.entries_before.items) × (slice_index marks.entries_before.items number < length marks.slots_before.items)
+HasSpot marks NoSpot = ⊥
+
+-- a slot that tells a place has such a spot
+abbrev pub HasSpotFor : Marks → Aim → Spot → Type 0
+HasSpotFor marks (Place form n) spot = HasSpot marks spot
+HasSpotFor marks (Length fixed count) spot = Unit {0}
+
+-- there are spots for slots from the one with a number on
+pub record HaveSpots (marks : Marks) (from : ℕ) (aims : List Aim) (spots : List Spot) : Type 0 where
+  pub inside : from + length aims ≤ length spots
+  pub each : (i : ℕ) → i < length aims → HasSpotFor marks (aim_at aims i) (spot_at spots (from + i))
 
 -- how many entries stand before a spot
 abbrev pub entries_before : List ℕ → Spot → ℕ
 entries_before before_ends (TheEntry id) = id
 entries_before before_ends (TheEnd number) = slice_index before_ends number
+entries_before before_ends NoSpot = 0
 
--- the slot of a reference to a spot, where entries and codes 0 stand at these places with no byte for any slot
-abbrev pub slot_by : List ℕ → List ℕ → List ℕ → List ℕ → Spot → Slot
-slot_by entries ends locals before_ends spot = record { kind = TheUleb; fixed = spot_place entries ends spot; from = 0; to = slice_index locals (entries_before before_ends spot) }
+abbrev pub kind_of : SlotForm → SlotKind
+kind_of uleb = TheUleb
+kind_of call = TheCall
+
+-- the slot with a number, by what it tells and what it names
+abbrev pub slot_for : Marks → Spot → ℕ → Aim → Slot
+slot_for marks spot i (Place form n) = record { kind = kind_of form; fixed = spot_place marks.places.entries.items marks.places.ends.items spot; from = 0; to = slice_index marks.slots_before.items (entries_before marks.entries_before.items spot) }
+slot_for marks spot i (Length fixed count) = record { kind = TheUleb; fixed = fixed; from = suc i; to = suc i + count }
+
+-- the slots are those by what they tell
+pub record AreSlotsMade (marks : Marks) (spots : List Spot) (aims : List Aim) (slots : List Slot) : Type 0 where
+  pub count : length slots ≡ length aims
+  pub each : (i : ℕ) (d : Slot) → i < length aims → slice_index_or slots i d ≡ slot_for marks (spot_at spots i) i (aim_at aims i)

@@ -1,5 +1,5 @@
 use Rattle.std.proofs.Common.{take}
-use Rattle.expr_ops.specs.Plain.{AreSimple}
+use Rattle.expr_ops.specs.Shortest.{AreSimple}
 use Rattle.expr_ops.proofs.simple.are_simple.Given as goal
 
 abbrev pub invariant-loop-op : goal.invariant-loop-op

@@ -10,7 +10,7 @@ put_op-requires-clause-known c =
 
 pub put_op-requires-clause-holds : goal.put_op-requires-clause-holds
 put_op-requires-clause-holds c =
-    next_holds c.args.refs.now c.args.bytes.now c.args.ops.now c.requires.simple c.loop-op.op-index c.loop-op.ref_at c.with_next_ref-next.new.at no_draft.op c.with_next_ref-next.result c.plain_slot.result c.requires.refs c.loop-op-test.true c.with_next_ref-next.ensures.code (c.with_next_ref-next.ensures.next c.args.bytes.now) (c.plain_slot.ensures c.args.bytes.now)
+    next_holds c.args.refs.now c.args.bytes.now c.args.ops.now c.requires.simple c.loop-op.op-index no_draft.op c.with_next_ref-next.result c.needed_slot.result c.loop-op-test.true c.with_next_ref-next.ensures.code (c.needed_slot.ensures c.args.bytes.now)
 
 pub returns-in_err-put_op-clause-err : goal.returns-in_err-put_op-clause-err
 returns-in_err-put_op-clause-err c =
@@ -20,7 +20,7 @@ returns-in_err-put_op-clause-err c =
 pub loop-op-preserved : goal.loop-op-preserved
 loop-op-preserved c =
     let a = c.loop-op in
-    put_more c.args.refs.now c.args.bytes.now c.args.ops.now c.requires.simple c.args.out.now.items a.out.items c.put_op.new.out.items a.op-index a.ref_at c.with_next_ref-next.new.at no_draft.op c.with_next_ref-next.result c.plain_slot.result a.invariant c.loop-op-test.true (c.with_next_ref-next.ensures.next c.args.bytes.now) (c.plain_slot.ensures c.args.bytes.now) c.in_ok-put_op.ensures.ok
+    put_more c.args.refs.now c.args.bytes.now c.args.ops.now c.requires.simple c.args.out.now.items a.out.items c.put_op.new.out.items a.op-index a.ref_at c.with_next_ref-next.new.at no_draft.op c.with_next_ref-next.result c.needed_slot.result a.invariant c.loop-op-test.true c.with_next_ref-next.ensures.code (c.with_next_ref-next.ensures.next c.args.bytes.now) (c.needed_slot.ensures c.args.bytes.now) c.in_ok-put_op.ensures.ok
 
 pub returns-clause-ok : goal.returns-clause-ok
 returns-clause-ok c =

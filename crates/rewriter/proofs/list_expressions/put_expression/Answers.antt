@@ -16,4 +16,4 @@ returns c =
     let read : IsReadAgain bytes ops = subst (λ (z : List Op). IsReadAgain bytes z) (sym c.deref-2.ensures.value) c.in_ok-read_again.ensures in
     let same : c.deref.result.now ≡ ops = c.deref.ensures.value ∙ sym c.deref-2.ensures.value in
     let are : AreListReferences world places u ops refs = subst (λ (z : List ℕ). AreListReferences world places u ops z) (sym c.deref-3.ensures.value) (subst (λ (z : List Op). AreListReferences world places u z c.in_ok-refs.refs.items) same c.in_ok-refs.ensures.references) in
-    on_ok_weaker c.write_plain.result (put_expression world places u bytes c.args.out.now.items c.write_plain.new.out.items ops refs read are) c.write_plain.ensures.ok
+    on_ok_weaker c.write_shortest.result (put_expression world places u bytes c.args.out.now.items c.write_shortest.new.out.items ops refs read are) c.write_shortest.ensures.ok

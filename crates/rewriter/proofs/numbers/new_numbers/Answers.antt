@@ -10,8 +10,8 @@ use Rattle.rewriter.proofs.Links.{own_is, placed_read, places_read}
 use Rattle.rewriter.proofs.Meant.{unit_means, has_type}
 use Rattle.rewriter.proofs.Final.{has_anew, new_table_is}
 use Rattle.rewriter.proofs.OpNumbers.{operations_count, operations_read}
-use Rattle.rewriter.proofs.UnitExpressions.{operations_there, section_room, ends_in}
-use Rattle.rewriter.proofs.NewExpressions.{expressions_filled, expressions_made, are_new_numbers}
+use Rattle.rewriter.proofs.UnitExpressions.{operations_there, section_room}
+use Rattle.rewriter.proofs.NewExpressions.{are_new_numbers}
 use Rattle.rewriter.proofs.numbers.new_numbers.Goals as goal
 
 pub new_held-requires-clause-unit : goal.new_held-requires-clause-unit
@@ -31,23 +31,17 @@ index-operations-requires c =
     let inside : c.args.unit < length c.operations.result.now.items = subst (λ (z : List HeldOps). c.args.unit < length z) (sym c.operations.ensures) (operations_count c.args.world.now (Narrow, c.requires.world) c.args.unit c.requires.unit) in
     grind (arith, common_steps, inside)
 
-pub expression_ends-requires-clause-operations : goal.expression_ends-requires-clause-operations
-expression_ends-requires-clause-operations c =
-    let own = own_is c.args.world.now c.args.unit c.units.result.now.items c.index-own.result.now c.requires.unit c.units.ensures c.index-own.ensures in
-    let operations = operations_read c.args.world.now c.args.unit c.operations.result.now.items c.index-operations.result.now (operations_count c.args.world.now (Narrow, c.requires.world) c.args.unit c.requires.unit) c.operations.ensures c.index-operations.ensures in
-    operations_there c.args.world.now c.args.unit c.index-own.result.now c.index-operations.result.now c.requires.world c.requires.unit own operations
-
-pub expression_ends-requires-clause-room : goal.expression_ends-requires-clause-room
-expression_ends-requires-clause-room c =
-    let own = own_is c.args.world.now c.args.unit c.units.result.now.items c.index-own.result.now c.requires.unit c.units.ensures c.index-own.ensures in
-    let operations = operations_read c.args.world.now c.args.unit c.operations.result.now.items c.index-operations.result.now (operations_count c.args.world.now (Narrow, c.requires.world) c.args.unit c.requires.unit) c.operations.ensures c.index-operations.ensures in
-    section_room c.args.world.now c.args.unit c.index-own.result.now c.index-operations.result.now c.requires.world c.requires.unit own operations
-
 pub write_expressions-requires-clause-operations : goal.write_expressions-requires-clause-operations
 write_expressions-requires-clause-operations c =
     let own = own_is c.args.world.now c.args.unit c.units.result.now.items c.index-own.result.now c.requires.unit c.units.ensures c.index-own.ensures in
     let operations = operations_read c.args.world.now c.args.unit c.operations.result.now.items c.index-operations.result.now (operations_count c.args.world.now (Narrow, c.requires.world) c.args.unit c.requires.unit) c.operations.ensures c.index-operations.ensures in
     operations_there c.args.world.now c.args.unit c.index-own.result.now c.index-operations.result.now c.requires.world c.requires.unit own operations
+
+pub write_expressions-requires-clause-room : goal.write_expressions-requires-clause-room
+write_expressions-requires-clause-room c =
+    let own = own_is c.args.world.now c.args.unit c.units.result.now.items c.index-own.result.now c.requires.unit c.units.ensures c.index-own.ensures in
+    let operations = operations_read c.args.world.now c.args.unit c.operations.result.now.items c.index-operations.result.now (operations_count c.args.world.now (Narrow, c.requires.world) c.args.unit c.requires.unit) c.operations.ensures c.index-operations.ensures in
+    section_room c.args.world.now c.args.unit c.index-own.result.now c.index-operations.result.now c.requires.world c.requires.unit own operations
 
 pub write_expressions-requires-clause-numbers : goal.write_expressions-requires-clause-numbers
 write_expressions-requires-clause-numbers c =
@@ -74,8 +68,5 @@ returns c = record {
       let mine = places_read c.args.places.now.items c.args.unit c.index-new.result.now (omega arith) c.index-new.ensures in
       let has = has_anew c.args.world.now c.requires.tables.0 c.args.tables.now.items c.args.unit (Narrow, c.requires.world) c.requires.tables.2 c.requires.unit in
       let table = new_table_is c.args.world.now c.args.tables.now.items c.args.unit c.table_numbers.result.now.items c.index.result.now c.index-2.result.now has c.table_numbers.ensures c.index.ensures c.index-2.ensures in
-      let filled = expressions_filled file c.args.world.now r c.args.places.now.items c.args.unit c.index-own.result.now c.index-operations.result.now c.requires.world holds c.requires.unit own operations c.in_ok-numbers.numbers.items c.in_ok-ends.ends.items c.in_ok-expressions.expressions.items c.in_ok-numbers.ensures c.in_ok-expressions.ensures in
-      let made = expressions_made file c.args.world.now r c.args.places.now.items c.args.unit c.index-own.result.now c.index-operations.result.now c.requires.world holds c.requires.unit own operations c.in_ok-numbers.numbers.items c.in_ok-ends.ends.items c.in_ok-expressions.expressions.items c.in_ok-numbers.ensures c.in_ok-expressions.ensures in
-      let ends = ends_in c.args.world.now c.args.unit c.index-own.result.now c.index-operations.result.now c.requires.world c.requires.unit own operations c.in_ok-ends.ends.items c.in_ok-ends.ensures in
-      are_new_numbers file c.args.world.now r c.args.tables.now.items c.args.places.now.items c.args.new_places.now c.args.unit Narrow c.index-own.result.now c.index-new.result.now (record { end = c.index-new.result.now.end; table = c.index-2.result.now.at; type_offset = c.new_type_offset.result; held = c.in_ok-held.held; ends = c.in_ok-ends.ends; expressions = c.in_ok-expressions.expressions }) c.requires.world holds c.requires.unit own mine refl (ap (λ (t : TableAnew). t.at) table) c.new_type_offset.ensures c.in_ok-held.ensures ends filled made;
+      are_new_numbers file c.args.world.now r c.args.tables.now.items c.args.places.now.items c.args.new_places.now c.args.unit c.index-own.result.now c.index-new.result.now (record { end = c.index-new.result.now.end; table = c.index-2.result.now.at; type_offset = c.new_type_offset.result; held = c.in_ok-held.held; expressions = c.in_ok-expressions.expressions }) c.requires.world holds c.requires.unit c.index-operations.result.now own operations mine refl (ap (λ (t : TableAnew). t.at) table) c.new_type_offset.ensures c.in_ok-held.ensures c.in_ok-numbers.numbers.items c.in_ok-numbers.ensures c.in_ok-expressions.ensures.ends c.in_ok-expressions.ensures.written;
 }

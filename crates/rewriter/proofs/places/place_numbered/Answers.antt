@@ -5,34 +5,18 @@ use Rattle.dw_base.specs.declared.fault.Reach.TheVariants.{Narrow}
 use Rattle.entry_arena.specs.Operations.{HeldOps}
 use Rattle.entry_read.specs.Units.{HeadAndForest}
 use Rattle.unit_write.specs.Most.{most_bytes}
-use Rattle.unit_write.specs.NewExpressions.{lens_of}
-use Rattle.unit_write.specs.Slots.{AreSpotsOf}
-use Rattle.rewriter.specs.inside.Placed.{unit_in}
 use Rattle.rewriter.proofs.UnitRoom.{units_are_few}
 use Rattle.rewriter.proofs.Links.{own_is}
 use Rattle.rewriter.proofs.Final.{named_is, new_table_is}
 use Rattle.rewriter.proofs.OpNumbers.{operations_count, operations_read}
-use Rattle.rewriter.proofs.Standing.{has_written}
-use Rattle.rewriter.proofs.UnitExpressions.{plain_lens, number_read, operations_there, section_room, ends_in}
-use Rattle.rewriter.proofs.Behind.{writable_there, all_placed_back}
+use Rattle.rewriter.proofs.UnitExpressions.{number_read, operations_there}
+use Rattle.rewriter.proofs.PlacedUnits.{has_tables, spots_few, writable_however, spots_there, all_placed_back}
 use Rattle.rewriter.proofs.places.place_numbered.Goals as goal
 
 pub index-operations-requires : goal.index-operations-requires
 index-operations-requires c =
     let inside : c.args.number < length c.operations.result.now.items = subst (λ (z : List HeldOps). c.args.number < length z) (sym c.operations.ensures) (operations_count c.args.world.now (Narrow, c.requires.world) c.args.number c.requires.known) in
     grind (arith, common_steps, inside)
-
-pub expression_ends-requires-clause-operations : goal.expression_ends-requires-clause-operations
-expression_ends-requires-clause-operations c =
-    let own = own_is c.args.world.now c.args.number c.units.result.now.items c.index-unit.result.now c.requires.known c.units.ensures c.index-unit.ensures in
-    let operations = operations_read c.args.world.now c.args.number c.operations.result.now.items c.index-operations.result.now (operations_count c.args.world.now (Narrow, c.requires.world) c.args.number c.requires.known) c.operations.ensures c.index-operations.ensures in
-    operations_there c.args.world.now c.args.number c.index-unit.result.now c.index-operations.result.now c.requires.world c.requires.known own operations
-
-pub expression_ends-requires-clause-room : goal.expression_ends-requires-clause-room
-expression_ends-requires-clause-room c =
-    let own = own_is c.args.world.now c.args.number c.units.result.now.items c.index-unit.result.now c.requires.known c.units.ensures c.index-unit.ensures in
-    let operations = operations_read c.args.world.now c.args.number c.operations.result.now.items c.index-operations.result.now (operations_count c.args.world.now (Narrow, c.requires.world) c.args.number c.requires.known) c.operations.ensures c.index-operations.ensures in
-    section_room c.args.world.now c.args.number c.index-unit.result.now c.index-operations.result.now c.requires.world c.requires.known own operations
 
 pub overflow_cast-number : goal.overflow_cast-number
 overflow_cast-number c =
@@ -42,19 +26,13 @@ overflow_cast-number c =
 
 pub index-requires : goal.index-requires
 index-requires c =
-    let own = own_is c.args.world.now c.args.number c.units.result.now.items c.index-unit.result.now c.requires.known c.units.ensures c.index-unit.ensures in
-    let operations = operations_read c.args.world.now c.args.number c.operations.result.now.items c.index-operations.result.now (operations_count c.args.world.now (Narrow, c.requires.world) c.args.number c.requires.known) c.operations.ensures c.index-operations.ensures in
-    let ends = ends_in c.args.world.now c.args.number c.index-unit.result.now c.index-operations.result.now c.requires.world c.requires.known own operations c.in_ok-ends.ends.items c.in_ok-ends.ensures in
-    let has = has_written c.args.world.now c.args.tables.now.items c.args.number (lens_of c.in_ok-ends.ends.items) (Narrow, c.requires.world) c.requires.writable c.requires.known (plain_lens (unit_in c.args.world.now.units c.args.number).forest c.in_ok-ends.ends.items ends.fit) in
+    let has = has_tables c.args.world.now c.args.tables.now.items c.args.number c.requires.world c.requires.writable c.requires.known in
     let inside : c.args.number < length c.table_numbers.result.now.items = subst (λ (z : List ℕ). c.args.number < length z) (sym c.table_numbers.ensures) has.numbered in
     grind (arith, common_steps, inside)
 
 pub index-old-requires : goal.index-old-requires
 index-old-requires c =
-    let own = own_is c.args.world.now c.args.number c.units.result.now.items c.index-unit.result.now c.requires.known c.units.ensures c.index-unit.ensures in
-    let operations = operations_read c.args.world.now c.args.number c.operations.result.now.items c.index-operations.result.now (operations_count c.args.world.now (Narrow, c.requires.world) c.args.number c.requires.known) c.operations.ensures c.index-operations.ensures in
-    let ends = ends_in c.args.world.now c.args.number c.index-unit.result.now c.index-operations.result.now c.requires.world c.requires.known own operations c.in_ok-ends.ends.items c.in_ok-ends.ensures in
-    let has = has_written c.args.world.now c.args.tables.now.items c.args.number (lens_of c.in_ok-ends.ends.items) (Narrow, c.requires.world) c.requires.writable c.requires.known (plain_lens (unit_in c.args.world.now.units c.args.number).forest c.in_ok-ends.ends.items ends.fit) in
+    let has = has_tables c.args.world.now c.args.tables.now.items c.args.number c.requires.world c.requires.writable c.requires.known in
     let at = number_read c.args.world.now c.args.number c.table_numbers.result.now.items c.index.result.now has.numbered c.table_numbers.ensures c.index.ensures in
     let inside : slice_index c.args.world.now.table_of c.args.number < length c.args.world.now.tables = has.old in
     let size : length c.tables.result.now.items ≡ length c.args.world.now.tables = ap length c.tables.ensures in
@@ -62,27 +40,25 @@ index-old-requires c =
 
 pub index-new-requires : goal.index-new-requires
 index-new-requires c =
-    let own = own_is c.args.world.now c.args.number c.units.result.now.items c.index-unit.result.now c.requires.known c.units.ensures c.index-unit.ensures in
-    let operations = operations_read c.args.world.now c.args.number c.operations.result.now.items c.index-operations.result.now (operations_count c.args.world.now (Narrow, c.requires.world) c.args.number c.requires.known) c.operations.ensures c.index-operations.ensures in
-    let ends = ends_in c.args.world.now c.args.number c.index-unit.result.now c.index-operations.result.now c.requires.world c.requires.known own operations c.in_ok-ends.ends.items c.in_ok-ends.ensures in
-    let has = has_written c.args.world.now c.args.tables.now.items c.args.number (lens_of c.in_ok-ends.ends.items) (Narrow, c.requires.world) c.requires.writable c.requires.known (plain_lens (unit_in c.args.world.now.units c.args.number).forest c.in_ok-ends.ends.items ends.fit) in
+    let has = has_tables c.args.world.now c.args.tables.now.items c.args.number c.requires.world c.requires.writable c.requires.known in
     let at = number_read c.args.world.now c.args.number c.table_numbers.result.now.items c.index.result.now has.numbered c.table_numbers.ensures c.index.ensures in
     let inside : slice_index c.args.world.now.table_of c.args.number < length c.args.tables.now.items = has.new in
     grind (arith, common_steps, at, inside)
+
+pub lay_out-requires-clause-operations : goal.lay_out-requires-clause-operations
+lay_out-requires-clause-operations c =
+    let own = own_is c.args.world.now c.args.number c.units.result.now.items c.index-unit.result.now c.requires.known c.units.ensures c.index-unit.ensures in
+    let operations = operations_read c.args.world.now c.args.number c.operations.result.now.items c.index-operations.result.now (operations_count c.args.world.now (Narrow, c.requires.world) c.args.number c.requires.known) c.operations.ensures c.index-operations.ensures in
+    operations_there c.args.world.now c.args.number c.index-unit.result.now c.index-operations.result.now c.requires.world c.requires.known own operations
 
 pub lay_out-requires-clause-writable : goal.lay_out-requires-clause-writable
 lay_out-requires-clause-writable c =
     let own = own_is c.args.world.now c.args.number c.units.result.now.items c.index-unit.result.now c.requires.known c.units.ensures c.index-unit.ensures in
     let operations = operations_read c.args.world.now c.args.number c.operations.result.now.items c.index-operations.result.now (operations_count c.args.world.now (Narrow, c.requires.world) c.args.number c.requires.known) c.operations.ensures c.index-operations.ensures in
-    let ends = ends_in c.args.world.now c.args.number c.index-unit.result.now c.index-operations.result.now c.requires.world c.requires.known own operations c.in_ok-ends.ends.items c.in_ok-ends.ensures in
-    let has = has_written c.args.world.now c.args.tables.now.items c.args.number (lens_of c.in_ok-ends.ends.items) (Narrow, c.requires.world) c.requires.writable c.requires.known (plain_lens (unit_in c.args.world.now.units c.args.number).forest c.in_ok-ends.ends.items ends.fit) in
+    let has = has_tables c.args.world.now c.args.tables.now.items c.args.number c.requires.world c.requires.writable c.requires.known in
     let old = named_is c.args.world.now c.args.number c.tables.result.now.items c.table_numbers.result.now.items c.index.result.now c.index-old.result.now has.numbered has.old c.tables.ensures c.table_numbers.ensures c.index.ensures c.index-old.ensures in
     let new = new_table_is c.args.world.now c.args.tables.now.items c.args.number c.table_numbers.result.now.items c.index.result.now c.index-new.result.now has c.table_numbers.ensures c.index.ensures c.index-new.ensures in
-    writable_there c.args.world.now c.args.tables.now.items c.args.number c.index-unit.result.now c.index-old.result.now c.index-new.result.now own old new (lens_of c.in_ok-ends.ends.items) c.requires.writable c.requires.known (plain_lens (unit_in c.args.world.now.units c.args.number).forest c.in_ok-ends.ends.items ends.fit)
-
-pub lay_out-requires-clause-ends : goal.lay_out-requires-clause-ends
-lay_out-requires-clause-ends c =
-    c.in_ok-ends.ensures.fit
+    writable_however c.args.world.now c.args.tables.now.items c.args.number c.index-unit.result.now c.index-operations.result.now c.index-old.result.now c.index-new.result.now own operations old new c.requires.writable c.requires.known
 
 pub lay_out-requires-clause-room : goal.lay_out-requires-clause-room
 lay_out-requires-clause-room c =
@@ -92,14 +68,25 @@ lay_out-requires-clause-room c =
 
 pub lay_out-requires-clause-few : goal.lay_out-requires-clause-few
 lay_out-requires-clause-few c =
-    let own = own_is c.args.world.now c.args.number c.units.result.now.items c.index-unit.result.now c.requires.known c.units.ensures c.index-unit.ensures in
-    let room = subst (λ (h : HeadAndForest). c.args.start + most_bytes h < 2 ^ 31) (sym own) c.requires.room in
-    omega (arith, room)
+    spots_few c.args.world.now c.args.number c.requires.world c.requires.known c.in_ok-spots.spots.items c.slots_fit.ensures c.in_ok-spots.ensures
 
 pub lay_out-requires-clause-spots : goal.lay_out-requires-clause-spots
 lay_out-requires-clause-spots c =
     let own = own_is c.args.world.now c.args.number c.units.result.now.items c.index-unit.result.now c.requires.known c.units.ensures c.index-unit.ensures in
-    subst (λ (h : HeadAndForest). AreSpotsOf h c.in_ok-spots.spots.items) (sym own) c.in_ok-spots.ensures
+    let operations = operations_read c.args.world.now c.args.number c.operations.result.now.items c.index-operations.result.now (operations_count c.args.world.now (Narrow, c.requires.world) c.args.number c.requires.known) c.operations.ensures c.index-operations.ensures in
+    let has = has_tables c.args.world.now c.args.tables.now.items c.args.number c.requires.world c.requires.writable c.requires.known in
+    let old = named_is c.args.world.now c.args.number c.tables.result.now.items c.table_numbers.result.now.items c.index.result.now c.index-old.result.now has.numbered has.old c.tables.ensures c.table_numbers.ensures c.index.ensures c.index-old.ensures in
+    let new = new_table_is c.args.world.now c.args.tables.now.items c.args.number c.table_numbers.result.now.items c.index.result.now c.index-new.result.now has c.table_numbers.ensures c.index.ensures c.index-new.ensures in
+    spots_there c.args.world.now c.args.tables.now.items c.args.number c.index-unit.result.now c.index-operations.result.now c.index-old.result.now c.index-new.result.now own operations old new c.in_ok-spots.spots.items c.in_ok-spots.ensures
+
+pub place_unit-requires-clause-writable : goal.place_unit-requires-clause-writable
+place_unit-requires-clause-writable c =
+    let own = own_is c.args.world.now c.args.number c.units.result.now.items c.index-unit.result.now c.requires.known c.units.ensures c.index-unit.ensures in
+    let operations = operations_read c.args.world.now c.args.number c.operations.result.now.items c.index-operations.result.now (operations_count c.args.world.now (Narrow, c.requires.world) c.args.number c.requires.known) c.operations.ensures c.index-operations.ensures in
+    let has = has_tables c.args.world.now c.args.tables.now.items c.args.number c.requires.world c.requires.writable c.requires.known in
+    let old = named_is c.args.world.now c.args.number c.tables.result.now.items c.table_numbers.result.now.items c.index.result.now c.index-old.result.now has.numbered has.old c.tables.ensures c.table_numbers.ensures c.index.ensures c.index-old.ensures in
+    let new = new_table_is c.args.world.now c.args.tables.now.items c.args.number c.table_numbers.result.now.items c.index.result.now c.index-new.result.now has c.table_numbers.ensures c.index.ensures c.index-new.ensures in
+    writable_however c.args.world.now c.args.tables.now.items c.args.number c.index-unit.result.now c.index-operations.result.now c.index-old.result.now c.index-new.result.now own operations old new c.requires.writable c.requires.known c.in_ok-lens.lens.items c.in_ok-lens.ensures.lens
 
 pub place_unit-requires-clause-room : goal.place_unit-requires-clause-room
 place_unit-requires-clause-room c =
@@ -111,11 +98,10 @@ pub returns-clause-placed : goal.returns-clause-placed
 returns-clause-placed c =
     let own = own_is c.args.world.now c.args.number c.units.result.now.items c.index-unit.result.now c.requires.known c.units.ensures c.index-unit.ensures in
     let operations = operations_read c.args.world.now c.args.number c.operations.result.now.items c.index-operations.result.now (operations_count c.args.world.now (Narrow, c.requires.world) c.args.number c.requires.known) c.operations.ensures c.index-operations.ensures in
-    let ends = ends_in c.args.world.now c.args.number c.index-unit.result.now c.index-operations.result.now c.requires.world c.requires.known own operations c.in_ok-ends.ends.items c.in_ok-ends.ensures in
-    let has = has_written c.args.world.now c.args.tables.now.items c.args.number (lens_of c.in_ok-ends.ends.items) (Narrow, c.requires.world) c.requires.writable c.requires.known (plain_lens (unit_in c.args.world.now.units c.args.number).forest c.in_ok-ends.ends.items ends.fit) in
+    let has = has_tables c.args.world.now c.args.tables.now.items c.args.number c.requires.world c.requires.writable c.requires.known in
     let old = named_is c.args.world.now c.args.number c.tables.result.now.items c.table_numbers.result.now.items c.index.result.now c.index-old.result.now has.numbered has.old c.tables.ensures c.table_numbers.ensures c.index.ensures c.index-old.ensures in
     let new = new_table_is c.args.world.now c.args.tables.now.items c.args.number c.table_numbers.result.now.items c.index.result.now c.index-new.result.now has c.table_numbers.ensures c.index.ensures c.index-new.ensures in
-    all_placed_back c.args.world.now c.args.tables.now.items c.args.number c.index-unit.result.now c.index-old.result.now c.index-new.result.now own old new c.in_ok-ends.ends.items c.in_ok-lens.lens.items c.in_ok-spots.spots.items c.args.start c.place_unit.result ends c.in_ok-spots.ensures c.in_ok-lens.ensures.laid_out c.place_unit.ensures.start c.place_unit.ensures.fits c.place_unit.ensures.placed
+    all_placed_back c.args.world.now c.args.tables.now.items c.args.number c.index-unit.result.now c.index-operations.result.now c.index-old.result.now c.index-new.result.now own operations old new c.in_ok-lens.lens.items c.in_ok-spots.spots.items c.args.start c.place_unit.result c.in_ok-spots.ensures c.in_ok-lens.ensures.laid_out c.place_unit.ensures.start c.place_unit.ensures.fits c.place_unit.ensures.placed
 
 pub returns-clause-most : goal.returns-clause-most
 returns-clause-most c =

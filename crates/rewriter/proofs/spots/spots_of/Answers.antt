@@ -3,7 +3,7 @@ use Rattle.dw_base.specs.declared.fault.Reach.TheVariants.{Narrow}
 use Rattle.entry_arena.specs.Arena.{Arena}
 use Rattle.entry_read.specs.Units.{HeadAndForest}
 use Rattle.unit_write.specs.declared.slots.Spot.{Spot}
-use Rattle.rewriter.specs.inside.Placed.{unit_in}
+use Rattle.rewriter.specs.inside.Placed.{unit_in, operations_for}
 use Rattle.rewriter.proofs.Links.{own_is}
 use Rattle.rewriter.proofs.Meant.{unit_means}
 use Rattle.rewriter.proofs.UnitExpressions.{section_short}
@@ -13,7 +13,7 @@ use Rattle.rewriter.proofs.spots.spots_of.Goals as goal
 pub loop-id-init : goal.loop-id-init
 loop-id-init c =
     let unit = unit_means c.args.world.now c.args.unit Narrow c.requires.world c.requires.unit in
-    subst (λ (z : List Spot). AreSpotsOfFirst (unit_in c.args.world.now.units c.args.unit) z 0) (sym c.new-spots.ensures.items) (first_none (unit_in c.args.world.now.units c.args.unit) unit.values)
+    subst (λ (z : List Spot). AreSpotsOfFirst (unit_in c.args.world.now.units c.args.unit) (operations_for c.args.world.now c.args.unit) z 0) (sym c.new-spots.ensures.items) (first_none (unit_in c.args.world.now.units c.args.unit) (operations_for c.args.world.now c.args.unit) unit.values)
 
 pub push_spots-requires-clause-entry : goal.push_spots-requires-clause-entry
 push_spots-requires-clause-entry c =
@@ -28,7 +28,7 @@ push_spots-requires-clause-short c = section_short c.args.world.now c.args.unit 
 pub loop-id-preserved : goal.loop-id-preserved
 loop-id-preserved c =
     let unit = unit_means c.args.world.now c.args.unit Narrow c.requires.world c.requires.unit in
-    first_more (unit_in c.args.world.now.units c.args.unit) c.push_spots.new.spots.items c.loop-id.id unit.values c.in_ok-push_spots.ensures
+    first_more (unit_in c.args.world.now.units c.args.unit) (operations_for c.args.world.now c.args.unit) c.push_spots.new.spots.items c.loop-id.id unit.values c.in_ok-push_spots.ensures
 
 pub returns : goal.returns
 returns c =

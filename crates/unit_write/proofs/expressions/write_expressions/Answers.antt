@@ -1,24 +1,25 @@
-use Rattle.std.proofs.Common.{◌≡◌, ◌∙◌, length, ap, arith}
+use Rattle.std.proofs.Common.{rules, ◌≡◌, ◌<◌, ◌*◌, ◌^◌, ◌∙◌, length, ap, arith}
 use Rattle.entry_arena.specs.Arena.{Arena}
-use Rattle.unit_write.proofs.ExprLaws.{no_expression, expression_put, all_expressions}
+use Rattle.unit_write.proofs.ExprLaws.{next_below, more_put, all_ends}
 use Rattle.unit_write.proofs.expressions.write_expressions.Goals as goal
 
-pub put_expression-requires-clause-number : goal.put_expression-requires-clause-number
-put_expression-requires-clause-number c =
-    let count : c.value_count-number-end.result ≡ length c.args.unit.now.forest.values = c.value_count-number-end.ensures ∙ ap (λ (g : Arena). length g.values) c.forest.ensures in
-    omega (arith, c.loop-number-test.true)
-
-pub loop-number-init : goal.loop-number-init
-loop-number-init c = no_expression c.args.unit.now.forest c.args.operations.now c.args.ends.now.items c.args.numbers.now.items c.requires.ends c.new-out.result.items c.new-out.ensures.items
+pub overflow_cast-len : goal.overflow_cast-len
+overflow_cast-len c =
+    let f = c.args.unit.now.forest in
+    let count : c.value_count-number-end.result ≡ length f.values = c.value_count-number-end.ensures ∙ ap (λ (g : Arena). length g.values) c.forest.ensures in
+    let below = next_below f c.args.operations.now c.args.numbers.now.items c.put_expression.ensures.order c.loop-number.number c.loop-number.ends.items c.loop-number.bytes.items c.put_expression.new.out.items (omega (arith, count, c.loop-number-test.true)) c.loop-number.invariant c.in_ok-put_expression.ensures.put in
+    let long : c.len.result ≡ length c.put_expression.new.out.items = search rules in
+    let room : 3 * length f.section < 2 ^ 32 = c.requires.room in
+    omega (arith, below, long, room)
 
 pub loop-number-preserved : goal.loop-number-preserved
 loop-number-preserved c =
     let f = c.args.unit.now.forest in
     let count : c.value_count-number-end.result ≡ length f.values = c.value_count-number-end.ensures ∙ ap (λ (g : Arena). length g.values) c.forest.ensures in
-    expression_put f c.args.operations.now c.args.ends.now.items c.args.numbers.now.items c.requires.ends c.loop-number.number c.loop-number.out.items c.put_expression.new.out.items (omega (arith, c.loop-number-test.true)) c.loop-number.invariant c.in_ok-put_expression.ensures
+    more_put f c.args.operations.now c.args.numbers.now.items c.put_expression.ensures.order c.loop-number.number c.loop-number.ends.items c.loop-number.bytes.items c.put_expression.new.out.items (omega (arith, count, c.loop-number-test.true)) c.loop-number.invariant c.in_ok-put_expression.ensures.put c.push.new.self.items _ (search rules) c.in_ok-push.ensures.items
 
-pub returns : goal.returns
-returns c =
+pub returns-clause-ends : goal.returns-clause-ends
+returns-clause-ends c =
     let f = c.args.unit.now.forest in
     let count : c.value_count-number-end.result ≡ length f.values = c.value_count-number-end.ensures ∙ ap (λ (g : Arena). length g.values) c.forest.ensures in
-    all_expressions f c.args.operations.now c.args.ends.now.items c.args.numbers.now.items c.requires.ends c.loop-number.number c.loop-number.out.items (omega (arith, c.loop-number-test.false)) c.loop-number.invariant
+    all_ends f c.args.operations.now c.args.numbers.now.items c.loop-number.number c.loop-number.ends.items c.loop-number.bytes.items (omega (arith, count, c.loop-number-test.false)) c.loop-number.invariant

@@ -43,7 +43,7 @@ loop-place-preserved c =
     let held : length c.args.new.now.held.items ≡ c.requires.new.0 = c.requires.new.1.numbers in
     let lt : number < length c.args.new.now.held.items = omega (arith, c.requires.new.2) in
     let n : c.index.result.now ≡ get_or c.args.new.now.held.items number 0 = c.index.ensures ∙ get_or_default_zero c.args.new.now.held.items number c.index.result.now lt in
-    let made : c.made_for-made.result.now ≡ made_of c.args.new.now.ends.items c.args.new.now.expressions.items number = c.made_for-made.ensures ∙ ap (λ (z : List ℕ). made_of z c.deref-in-loop-place.result.now number) c.deref.ensures.value ∙ ap (λ (z : List ℕ). made_of c.args.new.now.ends.items z number) c.deref-in-loop-place.ensures.value in
+    let made : c.made_for-made.result.now ≡ made_of c.args.new.now.expressions.ends.items c.args.new.now.expressions.bytes.items number = c.made_for-made.ensures ∙ ap (λ (z : List ℕ). made_of z c.deref-in-loop-place.result.now number) c.deref.ensures.value ∙ ap (λ (z : List ℕ). made_of c.args.new.now.expressions.ends.items z number) c.deref-in-loop-place.ensures.value in
     let put : Appends (IsWritten (spec_at c.args.columns.now c.loop-place.place)) (renewed_at anew number (meant_in c.args.section.now (value_at c.args.values.now c.loop-place.place))) c.loop-place.out.items c.put_value.new.out.items = value_as (spec_at c.args.columns.now c.loop-place.place) c.args.section.now c.index.result.now _ c.made_for-made.result.now _ c.index-values-place.result _ c.loop-place.out.items c.put_value.new.out.items n made read c.in_ok-put_value.ensures.ok in
     record { put = value_put c.args.section.now anew c.args.first c.args.columns.now c.args.values.now c.loop-place.place number c.args.out.now.items c.loop-place.out.items c.put_value.new.out.items c.loop-place.invariant.put refl column value put }
 
@@ -57,8 +57,8 @@ returns-clause-ok c =
 pub made_for-made-requires-clause-number : goal.made_for-made-requires-clause-number
 made_for-made-requires-clause-number c =
     let same : length c.args.columns.now ≡ length c.args.values.now = sized_lengths c.args.section.now c.args.columns.now c.args.values.now c.requires.sized.0 c.requires.sized.1 c.requires.sized.2 in
-    let ends : length c.deref.result.now ≡ length c.args.new.now.ends.items = ap length c.deref.ensures.value in
-    let each : length c.args.new.now.ends.items ≡ c.requires.new.0 = c.requires.new.1.each in
+    let ends : length c.deref.result.now ≡ length c.args.new.now.expressions.ends.items = ap length c.deref.ensures.value in
+    let each : length c.args.new.now.expressions.ends.items ≡ c.requires.new.0 = c.requires.new.1.each in
     omega (arith, c.loop-place-test.true, c.requires.new.2)
 
 pub made_for-made-requires-clause-rising : goal.made_for-made-requires-clause-rising
@@ -71,8 +71,8 @@ pub made_for-made-requires-clause-inside : goal.made_for-made-requires-clause-in
 made_for-made-requires-clause-inside c =
     let same : length c.args.columns.now ≡ length c.args.values.now = sized_lengths c.args.section.now c.args.columns.now c.args.values.now c.requires.sized.0 c.requires.sized.1 c.requires.sized.2 in
     let number : ℕ = c.args.first + c.loop-place.place in
-    let bytes : length c.deref-in-loop-place.result.now ≡ length c.args.new.now.expressions.items = ap length c.deref-in-loop-place.ensures.value in
-    let inside : get_or c.args.new.now.ends.items number 0 ≤ length c.args.new.now.expressions.items = c.requires.new.1.inside number (omega (arith, c.loop-place-test.true, c.requires.new.2)) in
+    let bytes : length c.deref-in-loop-place.result.now ≡ length c.args.new.now.expressions.bytes.items = ap length c.deref-in-loop-place.ensures.value in
+    let inside : get_or c.args.new.now.expressions.ends.items number 0 ≤ length c.args.new.now.expressions.bytes.items = c.requires.new.1.inside number (omega (arith, c.loop-place-test.true, c.requires.new.2)) in
     subst (λ (z : List ℕ). get_or z number 0 ≤ length c.deref-in-loop-place.result.now) (sym c.deref.ensures.value) (omega arith)
 
 pub index-requires : goal.index-requires

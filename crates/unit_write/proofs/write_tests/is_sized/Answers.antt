@@ -9,27 +9,27 @@ use Rattle.unit_write.proofs.TestUnits.{none_expr}
 use Rattle.unit_write.proofs.write_tests.is_sized.Goals as goal
 
 pub returns-in-Expr : goal.returns-in-Expr
-returns-in-Expr c = λ is section len few i small.
+returns-in-Expr c = λ is section len few i.
     let form : c.args.column.form ≡ 24 = search (rules, is) in
-    subst (λ (v : Value). (size : ℕ) × HasSize c.args.column (meant_in section v) len size) (sym c.in-Expr.is) (expressions_have_sizes c.args.column (bytes_in section c.in-Expr.field-0) len small form)
+    subst (λ (v : Value). (size : ℕ) × HasSize c.args.column (meant_in section v) len size) (sym c.in-Expr.is) (expressions_have_sizes c.args.column (bytes_in section c.in-Expr.field-0) len form)
 
 pub returns-in-LocalRef : goal.returns-in-LocalRef
-returns-in-LocalRef c = λ is section len few i small.
+returns-in-LocalRef c = λ is section len few i.
     let form : c.args.column.form ≡ 21 = search (rules, is) in
     subst (λ (v : Value). (size : ℕ) × HasSize c.args.column (meant_in section v) len size) (sym c.in-LocalRef.is) (numbers_have_sizes c.args.column (InUnit c.in-LocalRef.field-0) len form)
 
 pub returns-in-SectionRef : goal.returns-in-SectionRef
-returns-in-SectionRef c = λ is section len few i small.
+returns-in-SectionRef c = λ is section len few i.
     let form : c.args.column.form ≡ 16 = search (rules, is) in
     subst (λ (v : Value). (size : ℕ) × HasSize c.args.column (meant_in section v) len size) (sym c.in-SectionRef.is) (numbers_have_sizes c.args.column (InSection c.in-SectionRef.field-0) len form)
 
 pub returns-in-Offset : goal.returns-in-Offset
-returns-in-Offset c = λ is section len few i small.
+returns-in-Offset c = λ is section len few i.
     let form : c.args.column.form ≡ 23 = search (rules, is) in
     subst (λ (v : Value). (size : ℕ) × HasSize c.args.column (meant_in section v) len size) (sym c.in-Offset.is) (numbers_have_sizes c.args.column (SectionPlace c.in-Offset.field-0) len form)
 
 pub returns-then-column-ne33 : goal.returns-then-column-ne33
-returns-then-column-ne33 c = λ is section len few i small.
+returns-then-column-ne33 c = λ is section len few i.
     let meaning = meant_in section c.args.value.now in
     let kept = other_value section c.args.value.now c.in_default.not-Expr c.in_default.not-LocalRef c.in_default.not-SectionRef c.in_default.not-Offset in
     let a = (c.admits.ensures section i).0 is in

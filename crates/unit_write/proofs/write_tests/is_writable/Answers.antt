@@ -20,4 +20,4 @@ returns c = λ is.
     let few = subst (λ (z : List ℕ). length z < 2 ^ 63) section c.bytes_are_small.ensures.few in
     let small = subst AreBytes section c.bytes_are_small.ensures.small in
     let each = subst (λ (z : List Spec). (id : ℕ) → id < length unit.forest.entries → ((entry_at unit.forest.entries id).decl < length table.decls) × AreSizedIn (columns_of table z (entry_at unit.forest.entries id).decl) (values_in unit.forest id)) c.deref-2.ensures.value (c.entries_are_sized.ensures is) in
-    sized_writable unit table specs numbers c.args.lens.now.items c.requires.lens.each c.numbers_are_small.ensures c.requires.head c.requires.held numbered renewed used small few each
+    sized_writable unit table specs numbers c.args.lens.now.items c.requires.lens.each c.requires.head c.requires.held numbered renewed used small few each

@@ -8,17 +8,19 @@ use Rattle.unit_write.proofs.write_tests.write_sized.Goals as goal
 pub is_writable-requires-clause-lens : goal.is_writable-requires-clause-lens
 is_writable-requires-clause-lens c =
     let f = c.args.unit.now.forest in
-    let fit = c.in_ok-ends.ensures.fit in
-    let anew : NewValues = record { held = c.in_ok-held.held.items; ends = c.in_ok-ends.ends.items; expressions = [] } in
+    let ends = c.in_ok-expressions.ensures.ends in
+    let anew : NewValues = record { held = c.in_ok-held.held.items; ends = c.in_ok-expressions.expressions.ends.items; expressions = [] } in
     let count : length c.in_ok-held.held.items ≡ length f.values = search rules in
+    let small : length f.section < 2 ^ 63 = search rules in
     let narrow : All (λ (n : ℕ). n < 2 ^ 32) c.in_ok-held.held.items = search rules in
-    subst (λ (z : List ℕ). AreLensFor f z) (sym c.in_ok-lens.ensures) (lens_fit f anew count fit.rise.each fit narrow)
+    subst (λ (z : List ℕ). AreLensFor f z) (sym c.in_ok-lens.ensures) (lens_fit f anew count ends.rise.each ends small narrow)
 
 pub place_unit-requires-clause-lens : goal.place_unit-requires-clause-lens
 place_unit-requires-clause-lens c =
     let f = c.args.unit.now.forest in
-    let fit = c.in_ok-ends.ensures.fit in
-    let anew : NewValues = record { held = c.in_ok-held.held.items; ends = c.in_ok-ends.ends.items; expressions = [] } in
+    let ends = c.in_ok-expressions.ensures.ends in
+    let anew : NewValues = record { held = c.in_ok-held.held.items; ends = c.in_ok-expressions.expressions.ends.items; expressions = [] } in
     let count : length c.in_ok-held.held.items ≡ length f.values = search rules in
+    let small : length f.section < 2 ^ 63 = search rules in
     let narrow : All (λ (n : ℕ). n < 2 ^ 32) c.in_ok-held.held.items = search rules in
-    subst (λ (z : List ℕ). AreLensFor f z) (sym c.in_ok-lens.ensures) (lens_fit f anew count fit.rise.each fit narrow)
+    subst (λ (z : List ℕ). AreLensFor f z) (sym c.in_ok-lens.ensures) (lens_fit f anew count ends.rise.each ends small narrow)

@@ -1,9 +1,0 @@
-use Rattle.std.proofs.Common.{◌∙◌, ap, sym, Some, None, ℕ}
-use Rattle.std.specs.Prelude.{if◌then◌else◌, Bool}
-use Rattle.expr_ops.specs.Ops.{meant}
-use Rattle.expr_ops.specs.Plain.{plain_size}
-use Rattle.expr_ops.proofs.plain.plain_slot.Goals as goal
-
-pub returns-then-has_slot : goal.returns-then-has_slot
-returns-then-has_slot c = λ bytes.
-    ap (λ (n : ℕ). Some n) (c.plain_size.ensures.size bytes) ∙ ap (λ (b : Bool). if b then Some (plain_size (meant bytes c.args.op.now) c.args.held) else None) (sym c.if-has_slot.true ∙ c.has_slot.ensures)

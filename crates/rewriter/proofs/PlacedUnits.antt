@@ -1,0 +1,115 @@
+-- A unit that is placed: it has few slots, and has the places that it got.
+use Rattle.std.proofs.Common.{◌≡◌, ◌≤◌, ◌<◌, ◌^◌, ℕ, zero, suc, List, [], ◌∷◌, length, slice_index, sym, ap, refl, subst, arith}
+use Rattle.std.specs.Prelude.{map, Result, Ok, Err, IfOk}
+use Rattle.std.proofs.lemmas.List.{length-map}
+use Rattle.std.proofs.lemmas.List.Sums.{get_or-le-sum_by}
+use Rattle.std.proofs.lemmas.Slice.Zip.{AllZip-long}
+use Rattle.dw_base.specs.declared.fault.NoMemory.{NoMemory}
+use Rattle.dw_base.specs.declared.fault.Reach.TheVariants.{Narrow}
+use Rattle.fixed_width.specs.InitialLengths.{least_reserved}
+use Rattle.form_codec.specs.declared.value.Value.{Value}
+use Rattle.abbrev_tables.specs.Listings.{Listing}
+use Rattle.entry_arena.specs.Arena.{Arena}
+use Rattle.entry_arena.specs.Operations.{HeldOps}
+use Rattle.entry_arena.specs.Order.{IsInOrder}
+use Rattle.entry_read.specs.Slots.{aims_of, operations_in}
+use Rattle.entry_read.specs.Units.{HeadAndForest}
+use Rattle.entry_read.proofs.PlaceLaws.{units_lie}
+use Rattle.unit_write.specs.declared.places.Places.{Places}
+use Rattle.unit_write.specs.declared.slots.Spot.{Spot}
+use Rattle.unit_write.specs.Lens.{AreLensFor}
+use Rattle.unit_write.specs.Moved.{IsWritable, IsPlacedAt}
+use Rattle.unit_write.specs.Slots.{IsSpotFor, AreSpotsOf, IsLaidOut, SlotsFit}
+use Rattle.value_links.specs.Sections.{debug_info}
+use Rattle.value_links.specs.Reading.{UnitRead, unit_at, no_unit, declarations}
+use Rattle.value_links.specs.World.{World, table_at, operations_at, IsWorldOf}
+use Rattle.value_links.specs.declared.units.NamedTable.{NamedTable}
+use Rattle.rewriter.specs.declared.tables.NewTable.{NewTable}
+use Rattle.rewriter.specs.inside.Tables.{TableAnew, table_anew, new_table_at}
+use Rattle.rewriter.specs.inside.Placed.{unit_in, operations_for, AreWritable}
+use Rattle.rewriter.specs.inside.Held.{HasTable, table_for, IsPlacedFrom}
+use Rattle.rewriter.proofs.Standing.{held_unit, held_count, has_written}
+use Rattle.rewriter.proofs.Final.{unit_reads}
+use Rattle.rewriter.proofs.UnitExpressions.{unit_short}
+
+-- LENGTHS
+
+no_len : (values : List Value) (k : ℕ) → slice_index (map (λ (v : Value). 0) values) k ≡ 0
+no_len [] k = refl
+no_len (v ∷ vs) zero = refl
+no_len (v ∷ vs) (suc k) = no_len vs k
+
+-- a unit can be written if none of its values has a byte, so that it has tables
+no_lens : (f : Arena) → AreLensFor f (map (λ (v : Value). 0) f.values)
+no_lens f = record {
+  each = length-map f.values (λ (v : Value). 0);
+  few = λ k span is. omega (arith, no_len f.values k);
+  narrow = λ k inside local. omega (arith, no_len f.values k);
+}
+
+pub has_tables : (world : World) (tables : List NewTable) (u : ℕ) → IsWorldOf world.image Narrow world → AreWritable world tables → u < length world.units → HasTable world tables u
+has_tables world tables u is writable known =
+    has_written world tables u (map (λ (v : Value). 0) (unit_in world.units u).forest.values) (Narrow, is) writable known (no_lens (unit_in world.units u).forest)
+
+-- FEW SLOTS
+
+module _ (world : World) (u : ℕ) (is : IsWorldOf world.image Narrow world) (known : u < length world.units) where
+  in_order : IsInOrder (unit_in world.units u).forest
+  in_order =
+      let read = unit_reads world.image world is.r u Narrow is is.holds known in
+      let order : IsInOrder (unit_at is.r.links u).forest = (units_lie (debug_info world.image) (unit_at is.r.links u).head (declarations (unit_at is.r.links u)) (unit_at is.r.links u).forest read.section read.entries).order in
+      subst (λ (h : HeadAndForest). IsInOrder h.forest) (sym (held_unit world.image world is.r u is.holds)) order
+
+  values_few : length (unit_in world.units u).forest.values ≤ 2 ^ 26
+  values_few =
+      let same : length (unit_in world.units u).forest.values ≡ length (unit_at is.r.links u).forest.values = ap (λ (h : HeadAndForest). length h.forest.values) (held_unit world.image world is.r u is.holds) in
+      let count : length world.units ≡ length is.r.links.units = held_count world.image world is.r is.holds in
+      let part : length (unit_at is.r.links u).forest.values ≤ _ = get_or-le-sum_by (λ (unit : UnitRead). length unit.forest.values) is.r.links.units u no_unit (omega (arith, count, known)) in
+      omega (arith, same, part, is.read.links.units.within.values)
+
+  -- a unit within the narrow limits has at most 2^28 slots
+  pub spots_few : (spots : List Spot) → SlotsFit → AreSpotsOf (unit_in world.units u) (operations_for world u) spots → length spots ≤ 2 ^ 28
+  spots_few spots fit are =
+      let unit = unit_in world.units u in
+      let count : length spots ≡ length (aims_of unit.forest (operations_for world u)) = AllZip-long (IsSpotFor unit.forest unit.head.at) (aims_of unit.forest (operations_for world u)) spots are in
+      let few = fit unit.forest (operations_at world.operations u) in_order (is.operations.each u (unit_in [] 0) known) in
+      omega (arith, count, few, values_few, unit_short world u is known)
+
+-- WHAT IS READ OF THE PARTS
+
+module _ (world : World) (tables : List NewTable) (u : ℕ) (unit : HeadAndForest) (operations : HeldOps) (old : NamedTable) (anew : NewTable) (unit_is : unit ≡ unit_in world.units u) (operations_are : operations ≡ operations_at world.operations u) (old_is : old ≡ table_at world.tables (slice_index world.table_of u)) (anew_is : table_anew anew ≡ new_table_at tables (slice_index world.table_of u)) where
+  -- what holds of the parts that were read holds of those that are held, and the other way round
+  back : (P : HeadAndForest → HeldOps → Listing → TableAnew → Type 0) → P unit operations old.table (table_anew anew) → P (unit_in world.units u) (operations_at world.operations u) (table_for world u) (new_table_at tables (slice_index world.table_of u))
+  back P read =
+      subst (P (unit_in world.units u) (operations_at world.operations u) (table_for world u)) anew_is (subst (λ (n : NamedTable). P (unit_in world.units u) (operations_at world.operations u) n.table (table_anew anew)) old_is (subst (λ (o : HeldOps). P (unit_in world.units u) o old.table (table_anew anew)) operations_are (subst (λ (h : HeadAndForest). P h operations old.table (table_anew anew)) unit_is read)))
+
+  there : (P : HeadAndForest → Listing → TableAnew → Type 0) → P (unit_in world.units u) (table_for world u) (new_table_at tables (slice_index world.table_of u)) → P unit old.table (table_anew anew)
+  there P held =
+      subst (λ (h : HeadAndForest). P h old.table (table_anew anew)) (sym unit_is) (subst (λ (n : NamedTable). P (unit_in world.units u) n.table (table_anew anew)) (sym old_is) (subst (P (unit_in world.units u) (table_for world u)) (sym anew_is) held))
+
+  -- it can be written whatever sizes its slots have
+  pub writable_however : AreWritable world tables → u < length world.units → (lens : List ℕ) → AreLensFor unit.forest lens → IsWritable unit old.table anew.columns.items anew.numbers.items lens
+  writable_however writable known lens fit =
+      there (λ h t n. IsWritable h t n.columns n.numbers lens) (writable u lens known (subst (λ (h : HeadAndForest). AreLensFor h.forest lens) unit_is fit))
+
+  pub spots_there : (spots : List Spot) → AreSpotsOf (unit_in world.units u) (operations_for world u) spots → AreSpotsOf unit (operations_in unit.forest operations) spots
+  spots_there spots are =
+      subst (λ (h : HeadAndForest). AreSpotsOf h (operations_in h.forest operations) spots) (sym unit_is) (subst (λ (o : HeldOps). AreSpotsOf (unit_in world.units u) (operations_in (unit_in world.units u).forest o) spots) (sym operations_are) are)
+
+  -- a unit that was placed stands at its places
+  placed_back : (lens : List ℕ) (spots : List Spot) (start : ℕ) (places : Places) → AreSpotsOf (unit_in world.units u) (operations_for world u) spots → IsLaidOut unit old.table anew.columns.items anew.numbers.items (operations_in unit.forest operations) spots lens → places.start ≡ start → places.end < least_reserved → IsPlacedAt unit old.table anew.columns.items anew.numbers.items lens start places.entries.items places.ends.items places.end → IsPlacedFrom world tables u start places
+  placed_back lens spots start places named laid_out begins fits placed = record {
+    begins = begins;
+    placed = record {
+      spots = spots;
+      named = named;
+      lens = lens;
+      laid_out = back (λ h o t n. IsLaidOut h t n.columns n.numbers (operations_in h.forest o) spots lens) laid_out;
+      placed = back (λ h o t n. IsPlacedAt h t n.columns n.numbers lens places.start places.entries.items places.ends.items places.end) (subst (λ (z : ℕ). IsPlacedAt unit old.table anew.columns.items anew.numbers.items lens z places.entries.items places.ends.items places.end) (sym begins) placed);
+    };
+    fits = fits;
+  }
+
+  pub all_placed_back : (lens : List ℕ) (spots : List Spot) (start : ℕ) (r : Result Places NoMemory) → AreSpotsOf (unit_in world.units u) (operations_for world u) spots → IsLaidOut unit old.table anew.columns.items anew.numbers.items (operations_in unit.forest operations) spots lens → IfOk r (λ places. places.start ≡ start) → IfOk r (λ places. places.end < least_reserved) → IfOk r (λ places. IsPlacedAt unit old.table anew.columns.items anew.numbers.items lens start places.entries.items places.ends.items places.end) → IfOk r (IsPlacedFrom world tables u start)
+  all_placed_back lens spots start (Ok places) named laid_out begins fits placed = placed_back lens spots start places named laid_out begins fits placed
+  all_placed_back lens spots start (Err e) named laid_out begins fits placed = tt

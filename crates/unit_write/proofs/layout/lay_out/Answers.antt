@@ -1,0 +1,77 @@
+use Rattle.std.proofs.Common.{◌≡◌, ◌≤◌, ◌∙◌, ℕ, List, All, length, sum, sym, ap, subst, arith}
+use Rattle.std.proofs.lemmas.List.{length-map}
+use Rattle.std.proofs.lemmas.Slice.Zip.{AllZip-long}
+use Rattle.leb_codec.specs.Layout.{SlotRow}
+use Rattle.slot_layout.specs.Rows.{rows_of, row_of}
+use Rattle.entry_arena.specs.Arena.{Arena}
+use Rattle.entry_read.specs.Slots.{aims_of, operations_in}
+use Rattle.unit_write.specs.Slots.{IsSpotFor}
+use Rattle.unit_write.specs.inside.Marks.{AreLensWith}
+use Rattle.unit_write.proofs.ShortSpans.{short_of}
+use Rattle.unit_write.proofs.LaidOut.{sizes_small, all_slots, lens_under, lens_laid, fixed_room}
+use Rattle.unit_write.proofs.layout.lay_out.Goals as goal
+
+pub measure-requires-clause-short : goal.measure-requires-clause-short
+measure-requires-clause-short c = short_of c.args.unit.now c.args.decls.now c.args.specs.now.items c.args.numbers.now.items c.requires.writable c.requires.room
+
+pub solve-requires-clause-few : goal.solve-requires-clause-few
+solve-requires-clause-few c =
+    let f : Arena = c.args.unit.now.forest in
+    let aims = aims_of f (operations_in f c.args.operations.now) in
+    let rows : length (rows_of c.in_ok-slots.slots.items) ≡ length aims = c.in_ok-slots.ensures.slots.count in
+    let count : length (rows_of c.in_ok-slots.slots.items) ≡ length c.in_ok-slots.slots.items = length-map c.in_ok-slots.slots.items row_of in
+    let spots : length c.args.spots.now.items ≡ length aims = AllZip-long (IsSpotFor f c.args.unit.now.head.at) aims c.args.spots.now.items c.requires.spots in
+    let few = c.requires.few in
+    omega (arith, rows, count, spots, few)
+
+pub add_sizes-requires-clause-all : goal.add_sizes-requires-clause-all
+add_sizes-requires-clause-all c =
+    let f : Arena = c.args.unit.now.forest in
+    ap sum c.deref.ensures.value ∙ all_slots f (operations_in f c.args.operations.now) c.in_ok-measured.measured c.in_ok-measured.ensures.measured ∙ sym c.in_ok-slots.ensures.slots.count ∙ sym c.in_ok-layout.ensures.member.same_length ∙ sym (ap length c.deref-2.ensures.value)
+
+pub add_sizes-requires-clause-small : goal.add_sizes-requires-clause-small
+add_sizes-requires-clause-small c =
+    let rows : List SlotRow = rows_of c.in_ok-slots.slots.items in
+    subst (λ (z : List ℕ). All (λ (size : ℕ). size ≤ 5) z) (sym c.deref-2.ensures.value) (sizes_small rows c.in_ok-layout.layout.sizes.items c.in_ok-layout.ensures.member.same_length c.in_ok-layout.ensures.tight c.in_ok-layout.ensures.narrow)
+
+pub add_sizes-requires-clause-few : goal.add_sizes-requires-clause-few
+add_sizes-requires-clause-few c =
+    let f : Arena = c.args.unit.now.forest in
+    let aims = aims_of f (operations_in f c.args.operations.now) in
+    let rows : length (rows_of c.in_ok-slots.slots.items) ≡ length aims = c.in_ok-slots.ensures.slots.count in
+    let long : length c.in_ok-layout.layout.sizes.items ≡ length (rows_of c.in_ok-slots.slots.items) = c.in_ok-layout.ensures.member.same_length in
+    let lent : length c.deref-2.result.now ≡ length c.in_ok-layout.layout.sizes.items = ap length c.deref-2.ensures.value in
+    let spots : length c.args.spots.now.items ≡ length aims = AllZip-long (IsSpotFor f c.args.unit.now.head.at) aims c.args.spots.now.items c.requires.spots in
+    let few = c.requires.few in
+    omega (arith, rows, long, lent, spots, few)
+
+pub add_sizes-requires-clause-room : goal.add_sizes-requires-clause-room
+add_sizes-requires-clause-room c =
+    let short = short_of c.args.unit.now c.args.decls.now c.args.specs.now.items c.args.numbers.now.items c.requires.writable c.requires.room in
+    fixed_room c.args.unit.now.forest c.args.operations.now c.requires.operations c.slots_are_few.ensures.opcodes c.slots_are_few.ensures.few short c.in_ok-measured.measured c.in_ok-measured.ensures.measured
+
+pub returns-clause-laid_out : goal.returns-clause-laid_out
+returns-clause-laid_out c =
+    let f : Arena = c.args.unit.now.forest in
+    let counts = subst (λ (z : List ℕ). AreLensWith c.in_ok-measured.measured.fixed.items z c.deref-2.result.now c.add_sizes.new.lens.items) c.deref.ensures.value c.add_sizes.ensures in
+    let added = subst (λ (z : List ℕ). AreLensWith c.in_ok-measured.measured.fixed.items c.in_ok-measured.measured.slots.items z c.add_sizes.new.lens.items) c.deref-2.ensures.value counts in
+    record {
+      rows = rows_of c.in_ok-slots.slots.items;
+      slots = c.in_ok-slots.ensures.slots;
+      sizes = c.in_ok-layout.layout.sizes.items;
+      layout = c.in_ok-layout.ensures.member;
+      least = c.in_ok-layout.ensures.least;
+      tight = c.in_ok-layout.ensures.tight;
+      lens_are = lens_under f (operations_in f c.args.operations.now) c.in_ok-measured.measured c.in_ok-measured.ensures.measured c.in_ok-layout.layout.sizes.items c.add_sizes.new.lens.items added;
+    }
+
+pub returns-clause-lens : goal.returns-clause-lens
+returns-clause-lens c =
+    let f : Arena = c.args.unit.now.forest in
+    let rows : List SlotRow = rows_of c.in_ok-slots.slots.items in
+    let sizes : List ℕ = c.in_ok-layout.layout.sizes.items in
+    let counts = subst (λ (z : List ℕ). AreLensWith c.in_ok-measured.measured.fixed.items z c.deref-2.result.now c.add_sizes.new.lens.items) c.deref.ensures.value c.add_sizes.ensures in
+    let added = subst (λ (z : List ℕ). AreLensWith c.in_ok-measured.measured.fixed.items c.in_ok-measured.measured.slots.items z c.add_sizes.new.lens.items) c.deref-2.ensures.value counts in
+    let under = lens_under f (operations_in f c.args.operations.now) c.in_ok-measured.measured c.in_ok-measured.ensures.measured sizes c.add_sizes.new.lens.items added in
+    let small = sizes_small rows sizes c.in_ok-layout.ensures.member.same_length c.in_ok-layout.ensures.tight c.in_ok-layout.ensures.narrow in
+    lens_laid f c.args.operations.now c.requires.operations c.slots_are_few.ensures.few c.in_ok-measured.measured c.in_ok-measured.ensures.measured sizes c.add_sizes.new.lens.items under small
