@@ -1,5 +1,5 @@
 -- Laws of the search over the pairs.
-use Rattle.std.proofs.Common.{◌≡◌, ◌≤◌, ◌<◌, ◌+◌, ◌-◌, ◌*◌, ◌^◌, ◌⊎◌, ℕ, List, take, drop, get_or, length, refl, sym, subst, arith, inl, inr}
+use Rattle.std.proofs.Common.{◌≡◌, ◌≤◌, ◌<◌, ◌+◌, ◌^◌, ◌⊎◌, ℕ, List, get_or, length, sym, subst, arith, inl, inr}
 use Rattle.std.specs.Prelude.{ℤ, pos, neg_ℤ, ◌+ℤ◌, ◌≤ℤ◌, nat_abs}
 use Rattle.std.proofs.lemmas.Int.{ints}
 use Rattle.std.proofs.lemmas.Bool.{cases_lt, cases_eq}
@@ -7,12 +7,13 @@ use Rattle.leb_codec.specs.LineCosts.{IsLeastCost}
 use Rattle.line_machine.specs.declared.head.Head.{Head}
 use Rattle.line_machine.specs.Class.{IsPair, IsPairOf, ComesFirst}
 use Rattle.line_params.specs.declared.choice.Choice.{Choice}
-use Rattle.line_params.specs.declared.count.CountedStep.{CountedStep}
-use Rattle.line_params.specs.declared.step.Step.{Step}
+use Rattle.line_sums.specs.declared.count.CountedStep.{CountedStep}
+use Rattle.line_sums.specs.declared.step.Step.{Step}
 use Rattle.line_params.specs.Pairs.{IsLeastPair}
-use Rattle.line_params.specs.inside.Counting.{IsCounted, CountedWithin, counted_price, count_of, floor_of}
-use Rattle.line_params.specs.inside.PairSearch.{AddsCost, AreSums, IsTried, IsBestTried, IsFirstLeast, base_at}
-use Rattle.line_params.proofs.Prices.{number_or_not, none_least, more_least, counted_more, counted_split, count_cost, count_part, rest_low, rest_few, all_least, within_counted, counted_within}
+use Rattle.line_sums.specs.Counting.{IsCounted, CountedWithin, count_of, floor_of}
+use Rattle.line_sums.specs.Sums.{AreSummed, IsFirstLeast, base_at}
+use Rattle.line_params.specs.inside.PairSearch.{AreSums, IsTried, IsBestTried}
+use Rattle.line_sums.proofs.Prices.{number_or_not, count_part, rest_low, rest_few, all_least, within_counted, counted_within}
 
 -- the place of a line_base
 record IsPlaceOf (base : ℤ) (place : ℕ) : Type 0 where
@@ -135,42 +136,16 @@ all_tried head steps counted best same is = record {
   first = λ b r pair within. is.first b r best.bytes pair (inr (omega (arith, pair.range_to))) (within_counted b r head.min steps counted best.bytes same within) (omega arith);
 }
 
--- some of the counted steps are summed up, and the rest is the floor of the others
-pub record IsFilled (range scale : ℕ) (counted : List CountedStep) (index : ℕ) (sums : List ℕ) (rest : ℕ) : Type 0 where
-  pub least : (place : ℕ) → place < 256 → IsLeastCost (CountedWithin (base_at place) range scale (take index counted)) (get_or sums place 0)
-  pub few : (place : ℕ) → place < 256 → get_or sums place 0 ≤ 18 * count_of (take index counted)
-  pub rest_is : rest ≡ counted_price (floor_of range scale) (drop index counted)
-
-pub filled_none : (range scale : ℕ) (counted : List CountedStep) (sums : List ℕ) (rest : ℕ) → ((place : ℕ) → place < 256 → get_or sums place 0 ≡ 0) → rest ≡ counted_price (floor_of range scale) counted → IsFilled range scale counted 0 sums rest
-filled_none range scale counted sums rest none is = record {
-  least = λ place h. let zero : get_or sums place 0 ≡ 0 = none place h in subst (λ (x : ℕ). IsLeastCost (CountedWithin (base_at place) range scale (take 0 counted)) x) (sym zero) (none_least (base_at place) range scale);
-  few = λ place h. let zero : get_or sums place 0 ≡ 0 = none place h in omega arith;
-  rest_is = is;
-}
-
-pub floor_more : (range scale : ℕ) (counted : List CountedStep) (i : ℕ) (d : CountedStep) → i < length counted → counted_price (floor_of range scale) (drop i counted) ≡ (get_or counted i d).count * floor_of range scale (get_or counted i d).step + counted_price (floor_of range scale) (drop (i + 1) counted)
-floor_more range scale counted i d h = omega (arith, counted_split (floor_of range scale) counted i, counted_split (floor_of range scale) counted (i + 1), counted_more (floor_of range scale) counted i d h)
-
-pub filled_more : (range scale : ℕ) (counted : List CountedStep) (i : ℕ) (d : CountedStep) (sums new : List ℕ) (rest floor : ℕ) → i < length counted → IsFilled range scale counted i sums rest → ((place : ℕ) → place < 256 → AddsCost (base_at place) range scale (get_or counted i d) (get_or sums place 0) (get_or new place 0)) → floor ≡ (get_or counted i d).count * floor_of range scale (get_or counted i d).step → IsFilled range scale counted (i + 1) new (rest - floor)
-filled_more range scale counted i d sums new rest floor h is adds fall = record {
-  least = λ place within. let add = adds place within in more_least (base_at place) range scale counted i d (get_or sums place 0) add.bytes (get_or new place 0) h (is.least place within) add.least add.added;
-  few = λ place within.
-      let add = adds place within in
-      let cost = count_cost counted i d (get_or sums place 0) (get_or counted i d).count add.bytes 18 h refl (is.few place within) add.few in
-      omega (arith, cost, add.added);
-  rest_is = omega (arith, floor_more range scale counted i d h, is.rest_is, fall);
-}
-
-pub filled_all : (range scale : ℕ) (counted : List CountedStep) (i : ℕ) (sums : List ℕ) (rest : ℕ) → length counted ≤ i → IsFilled range scale counted i sums rest → AreSums range scale counted sums
+pub filled_all : (range scale : ℕ) (counted : List CountedStep) (i : ℕ) (sums : List ℕ) (rest : ℕ) → length counted ≤ i → AreSummed range scale (floor_of range scale) counted i sums rest → AreSums range scale counted sums
 filled_all range scale counted i sums rest h is = record { each = λ place within. all_least (base_at place) range scale counted i (get_or sums place 0) h (is.least place within) }
 
-pub filled_past : (range scale : ℕ) (counted : List CountedStep) (i : ℕ) (sums : List ℕ) (rest bytes : ℕ) → 0 < range → scale ≤ 255 → IsFilled range scale counted i sums rest → ((place : ℕ) → place < 256 → bytes ≤ get_or sums place 0 + rest) → (place n : ℕ) → place < 256 → CountedWithin (base_at place) range scale counted n → bytes ≤ n
+pub filled_past : (range scale : ℕ) (counted : List CountedStep) (i : ℕ) (sums : List ℕ) (rest bytes : ℕ) → 0 < range → scale ≤ 255 → AreSummed range scale (floor_of range scale) counted i sums rest → ((place : ℕ) → place < 256 → bytes ≤ get_or sums place 0 + rest) → (place n : ℕ) → place < 256 → CountedWithin (base_at place) range scale counted n → bytes ≤ n
 filled_past range scale counted i sums rest bytes some small is past place n within enough =
     let low = rest_low (base_at place) range scale counted i (get_or sums place 0) rest n some small (is.least place within) is.rest_is enough in
     let h = past place within in
     omega arith
 
 -- the sums stay small
-pub filled_small : (range scale : ℕ) (counted : List CountedStep) (i : ℕ) (sums : List ℕ) (rest : ℕ) → count_of counted < 2 ^ 32 → IsFilled range scale counted i sums rest → (place : ℕ) → place < 256 → get_or sums place 0 + rest < 2 ^ 40
+pub filled_small : (range scale : ℕ) (counted : List CountedStep) (i : ℕ) (sums : List ℕ) (rest : ℕ) → count_of counted < 2 ^ 32 → AreSummed range scale (floor_of range scale) counted i sums rest → (place : ℕ) → place < 256 → get_or sums place 0 + rest < 2 ^ 40
 filled_small range scale counted i sums rest few is place within =
     omega (arith, is.few place within, is.rest_is, count_part counted i, rest_few range scale counted i)

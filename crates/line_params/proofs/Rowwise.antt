@@ -11,7 +11,7 @@ use Rattle.line_machine.specs.declared.registers.Row.{Row}
 use Rattle.line_machine.specs.Rows.{start, HasLine}
 use Rattle.line_machine.specs.Class.{IsRow}
 use Rattle.line_params.specs.Shortest.{ShortestOpcode}
-use Rattle.line_params.specs.Steps.{left_by}
+use Rattle.line_sums.specs.Steps.{left_by}
 use Rattle.line_params.specs.Order.{OpcodesIf, RowsOpcodes, AreInOrder}
 use Rattle.line_params.specs.inside.Appended.{AppendsOpcodes, AppendsSome, RowFits}
 use Rattle.line_params.proofs.Appending.{adds_none, adds_append}

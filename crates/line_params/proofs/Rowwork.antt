@@ -13,7 +13,7 @@ use Rattle.line_machine.specs.Class.{with_pair}
 use Rattle.line_step.specs.declared.way.RowOpcode.{RowOpcode}
 use Rattle.line_step.specs.declared.way.RowOpcode.TheVariants.{Copy as ByCopy, Special as BySpecial}
 use Rattle.line_step.specs.Ways.{line_before, distance_before}
-use Rattle.line_params.specs.Steps.{left_by, set_bytes}
+use Rattle.line_sums.specs.Steps.{left_by, set_bytes}
 use Rattle.line_params.specs.Order.{number_opcodes, mark_opcodes, address_opcodes, address_before, line_opcodes, row_opcode, StepOpcodes, RowOpcodes, EndOpcodes}
 use Rattle.line_params.proofs.Doing.{Does, does_append, does_same, does_one, size_code, size_end}
 use Rattle.line_params.proofs.Setting.{IsClear, with_numbers, with_marks, mark_bytes, does_numbers, does_marks}

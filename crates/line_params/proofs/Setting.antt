@@ -1,7 +1,6 @@
 -- Opcodes that set registers other than the address and the line.
-use Rattle.std.proofs.Common.{◌≡◌, ◌≢◌, ◌+◌, ◌==◌, ◌∙◌, ℕ, [], ◌∷◌, ◌++◌, sym, ap, refl}
+use Rattle.std.proofs.Common.{◌≡◌, ◌+◌, ◌==◌, ◌∙◌, ℕ, [], ◌∷◌, ◌++◌, sym, ap, refl}
 use Rattle.std.specs.Prelude.{Bool, true, false, not}
-use Rattle.std.proofs.lemmas.Bool.{eq-eqb, ne_eqb}
 use Rattle.leb_codec.specs.Leb.{least_unsigned_len}
 use Rattle.leb_codec.specs.LineCosts.{register_bytes, stmt_bytes, flag_bytes, discriminator_bytes}
 use Rattle.line_machine.specs.declared.head.Head.{Head}
@@ -9,23 +8,8 @@ use Rattle.line_machine.specs.declared.opcode.Opcode.TheVariants.{SetFile, SetCo
 use Rattle.line_machine.specs.declared.registers.Registers.{Registers}
 use Rattle.line_machine.specs.declared.registers.Row.{Row}
 use Rattle.line_params.specs.Order.{opcode_if, stmt_opcodes, number_opcodes, mark_opcodes}
+use Rattle.line_sums.proofs.FixedBytes.{register_same, register_other, no_discriminator, some_discriminator}
 use Rattle.line_params.proofs.Doing.{Does, does_none, does_append, does_same, does_one, does_change, size_code, size_uleb, size_discriminator}
-
-pub register_same : (from to : ℕ) → from ≡ to → 0 ≡ register_bytes from to
-unfolding register_bytes
-register_same from to e = rw (eq-eqb from to e) refl
-
-pub register_other : (from to : ℕ) → from ≢ to → 1 + least_unsigned_len to ≡ register_bytes from to
-unfolding register_bytes
-register_other from to ne = rw (ne_eqb from to ne) refl
-
-pub no_discriminator : (to : ℕ) → to ≡ 0 → 0 ≡ discriminator_bytes to
-unfolding discriminator_bytes
-no_discriminator to e = rw (eq-eqb to 0 e) refl
-
-pub some_discriminator : (to : ℕ) → to ≢ 0 → 3 + least_unsigned_len to ≡ discriminator_bytes to
-unfolding discriminator_bytes
-some_discriminator to ne = rw (ne_eqb to 0 ne) refl
 
 -- The registers have no discriminator and no flag, as after a row.
 pub record IsClear (r : Registers) : Type 0 where

@@ -5,9 +5,9 @@ use Rattle.line_machine.specs.declared.head.Head.{Head}
 use Rattle.line_machine.specs.declared.registers.Row.{Row}
 use Rattle.line_machine.specs.Class.{Encoding, IsEncoding, IsTaken}
 use Rattle.line_params.specs.declared.pair.Pair.{Pair}
-use Rattle.line_params.specs.Steps.{StepsWithin, steps_of, fixed_bytes}
+use Rattle.line_sums.specs.Steps.{StepsWithin, steps_of, fixed_bytes}
 use Rattle.line_params.specs.Pairs.{IsLeastPair}
-use Rattle.line_params.proofs.Bound.{no_shorter}
+use Rattle.line_sums.proofs.Bound.{no_shorter}
 
 abbrev pub under : Pair → List ℕ → Encoding
 under pair program = record { base = pair.base; range = pair.range; bytes = program }

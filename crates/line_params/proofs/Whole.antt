@@ -16,15 +16,16 @@ use Rattle.line_machine.specs.Opcodes.{SpellsOpcode}
 use Rattle.line_machine.specs.Rows.{start, end_row, HasLine}
 use Rattle.line_machine.specs.Class.{with_pair, IsPair, IsEncoding, IsRow, AreRows}
 use Rattle.line_step.proofs.RowWays.{step_few}
-use Rattle.line_params.specs.declared.step.Step.{Step}
-use Rattle.line_params.specs.declared.step.Step.TheVariants.{Row as RowStep, End as EndStep}
+use Rattle.line_sums.specs.declared.step.Step.{Step}
+use Rattle.line_sums.specs.declared.step.Step.TheVariants.{Row as RowStep, End as EndStep}
 use Rattle.line_params.specs.Shortest.{ShortestOpcode}
-use Rattle.line_params.specs.Steps.{step_to, steps_from, steps_of, StepCosts, StepsWithin, left_by, set_bytes, set_bytes_from, fixed_bytes}
+use Rattle.line_sums.specs.Steps.{step_to, steps_from, steps_of, StepCosts, StepsWithin, left_by, set_bytes, set_bytes_from, fixed_bytes}
 use Rattle.line_params.specs.Order.{RowOpcodes, EndOpcodes, OpcodesIf, RowsOpcodes, AreInOrder}
 use Rattle.line_params.specs.inside.Appended.{RowFits}
 use Rattle.line_params.proofs.ShortestLaws.{shortest_spell}
 use Rattle.line_params.proofs.Doing.{Does, does_none, does_append, len_most}
-use Rattle.line_params.proofs.Setting.{IsClear, register_same, register_other, no_discriminator, some_discriminator}
+use Rattle.line_sums.proofs.FixedBytes.{register_same, register_other, no_discriminator, some_discriminator}
+use Rattle.line_params.proofs.Setting.{IsClear}
 use Rattle.line_params.proofs.Rowwise.{Written, behind, left_line, written_order}
 use Rattle.line_params.proofs.Rowwork.{does_row, does_end}
 

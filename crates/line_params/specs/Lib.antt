@@ -2,5 +2,4 @@ pub mod Laws
 pub mod Order
 pub mod Pairs
 pub mod Shortest
-pub mod Steps
 pub mod inside

@@ -17,7 +17,7 @@ use Rattle.line_step.specs.declared.way.RowOpcode.TheVariants.{Copy as ByCopy, S
 use Rattle.line_step.specs.declared.way.RowWay.{RowWay}
 use Rattle.line_step.specs.Ways.{IsAddressWay, IsRowWay}
 use Rattle.line_params.specs.Shortest.{ShortestOpcode}
-use Rattle.line_params.specs.Steps.{left_by}
+use Rattle.line_sums.specs.Steps.{left_by}
 
 -- an opcode, where it is wanted
 abbrev pub opcode_if : Bool → Opcode → List Opcode

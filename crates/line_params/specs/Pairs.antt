@@ -3,8 +3,8 @@ use Rattle.std.specs.Prelude.{◌≤◌, ℕ, ℤ, List}
 use Rattle.line_machine.specs.declared.head.Head.{Head}
 use Rattle.line_machine.specs.Class.{IsPair, ComesFirst}
 use Rattle.line_params.specs.declared.pair.Pair.{Pair}
-use Rattle.line_params.specs.declared.step.Step.{Step}
-use Rattle.line_params.specs.Steps.{StepsWithin}
+use Rattle.line_sums.specs.declared.step.Step.{Step}
+use Rattle.line_sums.specs.Steps.{StepsWithin}
 
 -- Under this pair the steps cost no more than under any other one, and of those under which they cost as much it comes first.
 pub record IsLeastPair (head : Head) (steps : List Step) (chosen : Pair) : Type 0 where

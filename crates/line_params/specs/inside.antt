@@ -1,5 +1,5 @@
 -- What inner functions and proofs need, and no public clause says.
 pub mod Appended
-pub mod Counting
+pub mod Joined
+pub mod Numbers
 pub mod PairSearch
-pub mod RunningSums

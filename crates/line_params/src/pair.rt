@@ -1,18 +1,17 @@
 // The pair under which a program is shortest.
 ghost use Rattle.std.specs.Prelude.{◌<◌, IfOk};
 ghost use Rattle.line_machine.specs.Class.{AreRows};
-ghost use Rattle.line_params.specs.Steps.{steps_of};
+ghost use Rattle.line_sums.specs.Steps.{steps_of};
 ghost use Rattle.line_params.specs.Pairs.{IsLeastPair};
 
-use crate::base_sums::BaseSums;
-use crate::count::count_steps;
 use crate::search::best_choice;
 use dw_base::NoMemory;
 use line_machine::{Head, Row};
+use line_sums::{BaseSums, count_steps};
 use std::alloc::Global;
 
-// The most rows: their bytes are counted in 64 bits.
-const MOST_ROWS: usize = u32::MAX as usize;
+/// The most rows: their bytes are counted in 64 bits.
+pub const MOST_ROWS: usize = u32::MAX as usize;
 
 /// The two fields of a header by which special opcodes step (DWARF 5 section 6.2.4).
 #[derive(Clone, Copy, Debug, PartialEq, Eq)]

@@ -2,7 +2,7 @@
 ghost use Rattle.std.specs.Prelude.{◌≡◌, ◌≤◌, ◌<◌, ◌+◌, ◌*◌, ◌^◌, ℕ, length, IfOk, OnOk};
 ghost use Rattle.line_machine.specs.Rows.{HasLine};
 ghost use Rattle.line_machine.specs.Class.{IsEncoding, IsRow, AreRows};
-ghost use Rattle.line_params.specs.Steps.{StepsWithin, steps_of, fixed_bytes, left_by};
+ghost use Rattle.line_sums.specs.Steps.{StepsWithin, steps_of, fixed_bytes, left_by};
 ghost use Rattle.line_params.specs.Order.{OpcodesIf, AreInOrder};
 ghost use Rattle.line_params.specs.inside.Appended.{AppendsSome, RowFits};
 

@@ -1,19 +1,16 @@
 // The search over the pairs.
 ghost use Rattle.std.specs.Prelude.{◌≡◌, ◌≤◌, ◌<◌, ◌+◌, ◌-◌, ◌*◌, ◌^◌, ℕ, ℤ, All, false, IsTrue};
 ghost use Rattle.leb_codec.specs.LineCosts.{IsLeastCost};
-ghost use Rattle.line_params.specs.Steps.{StepCosts};
-ghost use Rattle.line_params.specs.inside.Counting.{CountedWithin, HasCountedLine, HasLine, count_of, counted_price, floor_of};
-ghost use Rattle.line_params.specs.inside.PairSearch.{AreSums, IsBestTried, base_at};
+ghost use Rattle.line_sums.specs.Steps.{StepCosts};
+ghost use Rattle.line_sums.specs.Counting.{CountedWithin, HasCountedLine, HasLine, count_of, counted_price, floor_of};
+ghost use Rattle.line_sums.specs.Sums.{base_at};
+ghost use Rattle.line_params.specs.inside.PairSearch.{AreSums, IsBestTried};
 
-use crate::base_sums::BaseSums;
 use crate::choice::Choice;
-use crate::count::CountedStep;
 use crate::pair::Pair;
-use crate::step::Step;
-use crate::sums::add_step;
-use crate::window::{LAST_SPECIAL, bytes_beyond};
 use line_machine::Head;
 use line_step::{advance, step};
+use line_sums::{BaseSums, CountedStep, Step, add_step, floor_bytes, floor_total};
 
 // The bytes of a step.
 fn step_bytes(base: i8, range: u8, min: u8, taken: Step) -> u32
@@ -41,33 +38,6 @@ fn bytes_of(base: i8, range: u8, min: u8, counted: &[CountedStep]) -> u64
     for counted_step in counted {
         let each = step_bytes(base, range, min, counted_step.step);
         bytes += u64::from(counted_step.count) * u64::from(each);
-    }
-    bytes
-}
-
-// The bytes that a counted step has at least under every line_base.
-fn floor_bytes(range: u8, min: u8, counted: CountedStep) -> u64
-    requires range { 0 < range }
-    ensures is { result ≡ counted.count * floor_of range min counted.step }
-    ensures few { result ≤ 3 * counted.count }
-{
-    let reach = u64::from(LAST_SPECIAL / range) * u64::from(min);
-    let each = match counted.step {
-        Step::Row(_, distance) => 1 + bytes_beyond(reach, distance),
-        Step::End(_) => 3,
-    };
-    u64::from(each) * u64::from(counted.count)
-}
-
-// The bytes that counted steps have at least under every line_base.
-fn floor_total(range: u8, min: u8, counted: &[CountedStep]) -> u64
-    requires range { 0 < range }
-    requires few { count_of counted.now < 2 ^ 32 }
-    ensures { result ≡ counted_price (floor_of range min) counted.now }
-{
-    let mut bytes = 0;
-    for counted_step in counted {
-        bytes += floor_bytes(range, min, *counted_step);
     }
     bytes
 }

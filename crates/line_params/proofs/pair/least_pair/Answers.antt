@@ -1,7 +1,7 @@
 use Rattle.std.proofs.Common.{arith}
 use Rattle.std.specs.Prelude.{pos}
-use Rattle.line_params.specs.Steps.{steps_of}
-use Rattle.line_params.proofs.Counted.{steps_len}
+use Rattle.line_sums.specs.Steps.{steps_of}
+use Rattle.line_sums.proofs.Counted.{steps_len}
 use Rattle.line_params.proofs.PairLaws.{all_tried}
 use Rattle.line_params.proofs.pair.least_pair.Goals as goal
 

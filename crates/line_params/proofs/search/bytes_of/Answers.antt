@@ -2,7 +2,7 @@ use Rattle.std.proofs.Common.{◌+◌, arith}
 use Rattle.std.specs.Prelude.{FitsSigned}
 use Rattle.std.specs.Int.{w8}
 use Rattle.std.proofs.lemmas.Int.{to_z-of_z}
-use Rattle.line_params.proofs.Prices.{none_least, more_least, count_part, count_cost, all_least}
+use Rattle.line_sums.proofs.Prices.{none_least, more_least, count_part, count_cost, all_least}
 use Rattle.line_params.proofs.search.bytes_of.Goals as goal
 
 pub loop-counted_step-init : goal.loop-counted_step-init

@@ -1,6 +1,6 @@
 use Rattle.std.proofs.Common.{◌≤◌, ◌*◌, take}
 use Rattle.leb_codec.specs.LineCosts.{IsLeastCost}
-use Rattle.line_params.specs.inside.Counting.{CountedWithin, count_of}
+use Rattle.line_sums.specs.Counting.{CountedWithin, count_of}
 use Rattle.line_params.proofs.search.bytes_of.Given as goal
 
 abbrev pub invariant-loop-counted_step : goal.invariant-loop-counted_step

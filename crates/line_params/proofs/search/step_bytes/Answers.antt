@@ -3,10 +3,10 @@ use Rattle.std.specs.Prelude.{FitsSigned}
 use Rattle.std.specs.Int.{w8, w64}
 use Rattle.std.proofs.lemmas.Int.{ints, to_z-of_z}
 use Rattle.leb_codec.specs.LineCosts.{IsLeastCost}
-use Rattle.line_params.specs.declared.step.Step.{Step}
-use Rattle.line_params.specs.Steps.{StepCosts}
-use Rattle.line_params.specs.inside.Counting.{HasLine}
-use Rattle.line_params.proofs.Prices.{end_least}
+use Rattle.line_sums.specs.declared.step.Step.{Step}
+use Rattle.line_sums.specs.Steps.{StepCosts}
+use Rattle.line_sums.specs.Counting.{HasLine}
+use Rattle.line_sums.proofs.Prices.{end_least}
 use Rattle.line_params.proofs.search.step_bytes.Goals as goal
 
 pub returns-in-Row-clause-least : goal.returns-in-Row-clause-least

@@ -1,5 +1,0 @@
-use Rattle.line_params.proofs.RunningLaws.{sums_none}
-use Rattle.line_params.proofs.base_sums.BaseSums.clear.Goals as goal
-
-pub returns : goal.returns
-returns c = λ place h. rw (c.fill.ensures.items (λ y is. is)) (sums_none _ place)

@@ -1,5 +1,0 @@
-use Rattle.line_params.proofs.RunningLaws.{sums_none}
-use Rattle.line_params.proofs.base_sums.BaseSums.new.Goals as goal
-
-pub returns : goal.returns
-returns c = λ place h. rw c.in_ok-zeros.ensures (sums_none 257 place)

@@ -1,0 +1,20 @@
+-- Runs of equal numbers, one number after the other. Private functions alone cite this.
+use Rattle.std.specs.Prelude.{◌+◌, ◌<◌, ◌^◌, ◌==◌, if◌then◌else◌, ℕ, List, [], ◌∷◌, All}
+use Rattle.dw_base.specs.declared.record.Run.{Run}
+use Rattle.leb_codec.specs.Records.{NeighboursDiffer}
+
+-- a number more: the last run has one more, where it has that number, or a new one is behind it
+abbrev pub with_number : List Run → ℕ → List Run
+with_number [] n = record { len = 1; number = n } ∷ []
+with_number (run ∷ []) n = if run.number == n then record { len = run.len + 1; number = run.number } ∷ [] else run ∷ record { len = 1; number = n } ∷ []
+with_number (run ∷ next ∷ runs) n = run ∷ with_number (next ∷ runs) n
+
+-- the run isn't empty, and its number fits 32 bits
+pub record IsSome (run : Run) : Type 0 where
+  pub some : 0 < run.len
+  pub narrow : run.number < 2 ^ 32
+
+-- runs of equal numbers, no longer to be joined
+pub record AreJoined (runs : List Run) : Type 0 where
+  pub each : All IsSome runs
+  pub differ : NeighboursDiffer runs

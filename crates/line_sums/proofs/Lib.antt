@@ -1,0 +1,13 @@
+pub mod Bound
+pub mod Counted
+pub mod Firsts
+pub mod FixedBytes
+pub mod Lengths
+pub mod LineRuns
+pub mod Nearness
+pub mod Ordering
+pub mod Prices
+pub mod RowSums
+pub mod RunningLaws
+pub mod SpecialParts
+pub mod Summing

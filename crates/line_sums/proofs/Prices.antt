@@ -1,0 +1,274 @@
+-- Prices of steps: what is enough for steps one by one is enough for them counted, and the other way round.
+use Rattle.std.proofs.Common.{◌≡◌, ◌≤◌, ◌<◌, ◌+◌, ◌*◌, ◌/◌, ◌%◌, ◌^◌, ◌++◌, ◌⊎◌, ◌∙◌, ℕ, List, [], ◌∷◌, take, drop, get_or, length, refl, sym, ap, subst, arith, inl, inr, zero, suc}
+use Rattle.std.specs.Prelude.{ℤ, pos, negsuc}
+use Rattle.std.proofs.Math.Nat.{mul-le-mul, mul-le-mul_right}
+use Rattle.std.proofs.lemmas.Bool.{cases_lt, cases_eq}
+use Rattle.std.proofs.lemmas.Bool.Decides.{nat_tests}
+use Rattle.line_step.proofs.NearWays.{near}
+use Rattle.line_step.proofs.RowWays.{div_rises}
+use Rattle.std.proofs.lemmas.List.{take_more, take_all}
+use Rattle.leb_codec.specs.LineCosts.{IsLeastCost, AdvanceWithin, address_distance, advance_line_bytes}
+use Rattle.line_sums.specs.declared.count.CountedStep.{CountedStep}
+use Rattle.line_sums.specs.declared.step.Step.{Step}
+use Rattle.line_sums.specs.declared.step.Step.TheVariants.{Row as RowStep, End as EndStep}
+use Rattle.line_sums.specs.Steps.{StepCosts, StepsWithin}
+use Rattle.line_sums.specs.Counting.{price_of, counted_price, IsCounted, ArePrices, CountedWithin, floor_of, level, count_of}
+
+abbrev IsOrNot : Step → Step → Type 0
+IsOrNot t s = (t ≡ s) ⊎ (t ≡ s → ⊥)
+
+pub number_or_not : (y z : ℤ) → (y ≡ z) ⊎ (y ≡ z → ⊥)
+number_or_not (pos m) (pos n) = elim (cases_eq m n) [ inl e ↦ inl (ap pos e) | inr other ↦ inr (λ e. other (cc)) ]
+number_or_not (pos m) (negsuc n) = inr (λ e. cc)
+number_or_not (negsuc m) (pos n) = inr (λ e. cc)
+number_or_not (negsuc m) (negsuc n) = elim (cases_eq m n) [ inl e ↦ inl (ap negsuc e) | inr other ↦ inr (λ e. other (cc)) ]
+
+step_or_not : (t s : Step) → IsOrNot t s
+step_or_not (RowStep l d) (RowStep m e) =
+    elim (number_or_not l m) [
+      | inl same ↦ elim (cases_eq d e) [ inl same' ↦ inl (cc) | inr other ↦ inr (λ h. other (cc)) ]
+      | inr other ↦ inr (λ h. other (cc))
+    ]
+step_or_not (RowStep l d) (EndStep e) = inr (λ h. cc)
+step_or_not (EndStep d) (RowStep m e) = inr (λ h. cc)
+step_or_not (EndStep d) (EndStep e) = elim (cases_eq d e) [ inl same ↦ inl (cc) | inr other ↦ inr (λ h. other (cc)) ]
+
+-- the lower of a price and of an offer that may be for another step
+abbrev pick : {t s : Step} → (offer price : ℕ) → IsOrNot t s → (price < offer) ⊎ (offer ≤ price) → ℕ
+pick offer price (inr other) _ = price
+pick offer price (inl same) (inl low) = price
+pick offer price (inl same) (inr high) = offer
+
+-- prices where one step has an offer
+abbrev cheaper : ℕ → Step → (Step → ℕ) → Step → ℕ
+cheaper offer s price t = pick offer (price t) (step_or_not t s) (cases_lt (price t) offer)
+
+pick_le : {t s : Step} (offer price : ℕ) (is : IsOrNot t s) (low : (price < offer) ⊎ (offer ≤ price)) → pick offer price is low ≤ price
+pick_le offer price (inr other) low = omega arith
+pick_le offer price (inl same) (inl low) = omega arith
+pick_le offer price (inl same) (inr high) = high
+
+pick_self : {s : Step} (offer price : ℕ) (is : IsOrNot s s) (low : (price < offer) ⊎ (offer ≤ price)) → pick offer price is low ≤ offer
+pick_self offer price (inr other) low = absurd (other refl)
+pick_self offer price (inl same) (inl low) = omega arith
+pick_self offer price (inl same) (inr high) = omega arith
+
+pick_enough : (base : ℤ) (range scale : ℕ) (t s : Step) (offer price : ℕ) (is : IsOrNot t s) (low : (price < offer) ⊎ (offer ≤ price)) → StepCosts base range scale t price → StepCosts base range scale s offer → StepCosts base range scale t (pick offer price is low)
+pick_enough base range scale t s offer price (inr other) low paid offered = paid
+pick_enough base range scale t s offer price (inl same) (inl low) paid offered = paid
+pick_enough base range scale t s offer price (inl same) (inr high) paid offered = subst (λ (x : Step). StepCosts base range scale x offer) (sym same) offered
+
+cheaper_le : (offer : ℕ) (s : Step) (price : Step → ℕ) (t : Step) → cheaper offer s price t ≤ price t
+cheaper_le offer s price t = pick_le offer (price t) (step_or_not t s) (cases_lt (price t) offer)
+
+cheaper_self : (offer : ℕ) (s : Step) (price : Step → ℕ) → cheaper offer s price s ≤ offer
+cheaper_self offer s price = pick_self offer (price s) (step_or_not s s) (cases_lt (price s) offer)
+
+cheaper_enough : (base : ℤ) (range scale offer : ℕ) (s : Step) (price : Step → ℕ) → ArePrices base range scale price → StepCosts base range scale s offer → ArePrices base range scale (cheaper offer s price)
+cheaper_enough base range scale offer s price paid offered = record { each = λ t. pick_enough base range scale t s offer (price t) (step_or_not t s) (cases_lt (price t) offer) (paid.each t) offered }
+
+price_falls : (price lower : Step → ℕ) (steps : List Step) → ((s : Step) → lower s ≤ price s) → price_of lower steps ≤ price_of price steps
+price_falls price lower [] low = omega arith
+price_falls price lower (s ∷ ss) low = let rest = price_falls price lower ss low in let one = low s in omega arith
+
+pub counted_falls : (price lower : Step → ℕ) (counted : List CountedStep) → ((s : Step) → lower s ≤ price s) → counted_price lower counted ≤ counted_price price counted
+counted_falls price lower [] low = omega arith
+counted_falls price lower (c ∷ cs) low =
+    let rest = counted_falls price lower cs low in
+    let one = mul-le-mul {n₁ = c.count} {m₁ = lower c.step} {n₂ = c.count} {m₂ = price c.step} (omega arith) (low c.step) in
+    omega arith
+
+-- a price that is enough for each step
+abbrev most : Step → ℕ
+most (RowStep line distance) = 1 + advance_line_bytes line + 11
+most (EndStep distance) = 3 + 11
+
+most_enough : (base : ℤ) (range scale : ℕ) (s : Step) → StepCosts base range scale s (most s)
+most_enough base range scale (RowStep line distance) = inl (11, inl (omega arith), omega arith)
+most_enough base range scale (EndStep distance) = (11, inl (omega arith), omega arith)
+
+-- prices that are enough and with which steps cost at most n
+record Paid (base : ℤ) (range scale : ℕ) (steps : List Step) (n : ℕ) : Type 0 where
+  price : Step → ℕ
+  enough : ArePrices base range scale price
+  cost : price_of price steps ≤ n
+
+within_paid : (base : ℤ) (range scale : ℕ) (steps : List Step) (n : ℕ) → StepsWithin base range scale steps n → Paid base range scale steps n
+within_paid base range scale [] n _ = record { price = most; enough = record { each = most_enough base range scale }; cost = omega arith }
+within_paid base range scale (s ∷ ss) n (a, b, one, more, sum) =
+    let rest = within_paid base range scale ss b more in
+    let self = cheaper_self a s rest.price in
+    let falls = price_falls rest.price (cheaper a s rest.price) ss (cheaper_le a s rest.price) in
+    record {
+      price = cheaper a s rest.price;
+      enough = cheaper_enough base range scale a s rest.price rest.enough one;
+      cost = omega (arith, self, falls, rest.cost);
+    }
+
+paid_within : (base : ℤ) (range scale : ℕ) (steps : List Step) (price : Step → ℕ) (n : ℕ) → ArePrices base range scale price → price_of price steps ≤ n → StepsWithin base range scale steps n
+paid_within base range scale [] price n paid cost = tt
+paid_within base range scale (s ∷ ss) price n paid cost = (price s, price_of price ss, paid.each s, paid_within base range scale ss price (price_of price ss) paid (omega arith), cost)
+
+pub within_counted : (base : ℤ) (range scale : ℕ) (steps : List Step) (counted : List CountedStep) (n : ℕ) → IsCounted steps counted → StepsWithin base range scale steps n → CountedWithin base range scale counted n
+within_counted base range scale steps counted n same within =
+    let paid = within_paid base range scale steps n within in
+    record { paid = paid.price; enough = paid.enough; cost = omega (arith, same.same paid.price, paid.cost) }
+
+pub counted_within : (base : ℤ) (range scale : ℕ) (steps : List Step) (counted : List CountedStep) (n : ℕ) → IsCounted steps counted → CountedWithin base range scale counted n → StepsWithin base range scale steps n
+counted_within base range scale steps counted n same within =
+    paid_within base range scale steps within.paid n within.enough (omega (arith, same.same within.paid, within.cost))
+
+-- no counted steps cost nothing
+pub none_least : (base : ℤ) (range scale : ℕ) → IsLeastCost (CountedWithin base range scale []) 0
+none_least base range scale = record {
+  enough = record { paid = most; enough = record { each = most_enough base range scale }; cost = omega arith };
+  least = λ n within. omega arith;
+}
+
+pub counted_push : (price : Step → ℕ) (cs : List CountedStep) (c : CountedStep) → counted_price price (cs ++ c ∷ []) ≡ counted_price price cs + c.count * price c.step
+counted_push price [] c = omega arith
+counted_push price (d ∷ cs) c = let rest = counted_push price cs c in omega (arith, rest)
+
+-- one counted step more
+push_least : (base : ℤ) (range scale : ℕ) (cs : List CountedStep) (c : CountedStep) (sum bytes new : ℕ) → IsLeastCost (CountedWithin base range scale cs) sum → IsLeastCost (StepCosts base range scale c.step) bytes → new ≡ sum + c.count * bytes → IsLeastCost (CountedWithin base range scale (cs ++ c ∷ [])) new
+push_least base range scale cs c sum bytes new before one is = record {
+  enough =
+      let paid = before.enough in
+      let price = cheaper bytes c.step paid.paid in
+      let falls = counted_falls paid.paid price cs (cheaper_le bytes c.step paid.paid) in
+      let self = mul-le-mul {n₁ = c.count} {m₁ = price c.step} {n₂ = c.count} {m₂ = bytes} (omega arith) (cheaper_self bytes c.step paid.paid) in
+      let push = counted_push price cs c in
+      record {
+        paid = price;
+        enough = cheaper_enough base range scale bytes c.step paid.paid paid.enough one.enough;
+        cost = omega (arith, falls, self, push, paid.cost, is);
+      };
+  least = λ n within.
+      let price = within.paid in
+      let push = counted_push price cs c in
+      let low = before.least (counted_price price cs) (record { paid = price; enough = within.enough; cost = omega arith }) in
+      let here = mul-le-mul {n₁ = c.count} {m₁ = bytes} {n₂ = c.count} {m₂ = price c.step} (omega arith) (one.least (price c.step) (within.enough.each c.step)) in
+      omega (arith, push, low, here, within.cost, is);
+}
+
+pub more_least : (base : ℤ) (range scale : ℕ) (cs : List CountedStep) (i : ℕ) (d : CountedStep) (sum bytes new : ℕ) → i < length cs → IsLeastCost (CountedWithin base range scale (take i cs)) sum → IsLeastCost (StepCosts base range scale (get_or cs i d).step) bytes → new ≡ sum + (get_or cs i d).count * bytes → IsLeastCost (CountedWithin base range scale (take (i + 1) cs)) new
+more_least base range scale cs i d sum bytes new h before one add =
+    rw (take_more cs i d h) (push_least base range scale (take i cs) (get_or cs i d) sum bytes new before one add)
+
+pub counted_split : (price : Step → ℕ) (cs : List CountedStep) (i : ℕ) → counted_price price (take i cs) + counted_price price (drop i cs) ≡ counted_price price cs
+counted_split price [] zero = omega arith
+counted_split price [] (suc i) = omega arith
+counted_split price (c ∷ cs) zero = omega arith
+counted_split price (c ∷ cs) (suc i) = let rest = counted_split price cs i in omega (arith, rest)
+
+pub counted_more : (price : Step → ℕ) (cs : List CountedStep) (i : ℕ) (d : CountedStep) → i < length cs → counted_price price (take (i + 1) cs) ≡ counted_price price (take i cs) + (get_or cs i d).count * price (get_or cs i d).step
+counted_more price cs i d h =
+    rw (take_more cs i d h) (counted_push price (take i cs) (get_or cs i d))
+
+-- the counts of some are no more than those of all
+pub count_more : (cs : List CountedStep) (i : ℕ) (d : CountedStep) → i < length cs → count_of (take i cs) + (get_or cs i d).count ≤ count_of cs
+count_more cs i d h = omega (arith, counted_more (λ _. 1) cs i d h, counted_split (λ _. 1) cs (i + 1))
+
+pub end_least : (base : ℤ) (range scale distance a bytes : ℕ) → IsLeastCost (AdvanceWithin range scale distance) a → bytes ≡ 3 + a → IsLeastCost (StepCosts base range scale (EndStep distance)) bytes
+end_least base range scale distance a bytes least is = record {
+  enough = (a, least.enough, omega (arith, is));
+  least = λ n within. omega (arith, is, least.least within.0 within.1, within.2);
+}
+
+pub count_cost : (cs : List CountedStep) (i : ℕ) (d : CountedStep) (sum count bytes most : ℕ) → i < length cs → count ≡ (get_or cs i d).count → sum ≤ most * count_of (take i cs) → bytes ≤ most → sum + count * bytes ≤ most * count_of (take (i + 1) cs)
+count_cost cs i d sum count bytes most h is few low =
+    let more = counted_more (λ _. 1) cs i d h in
+    let here : count * bytes ≤ count * most = mul-le-mul {n₁ = count} {m₁ = bytes} {n₂ = count} {m₂ = most} (omega arith) low in
+    let split : most * count_of (take (i + 1) cs) ≡ most * count_of (take i cs) + most * count = ap (λ x. most * x) more ∙ grind (arith, is) in
+    omega (arith, here, split, few)
+
+pub count_part : (cs : List CountedStep) (i : ℕ) → count_of (take i cs) ≤ count_of cs
+count_part cs i = omega (arith, counted_split (λ _. 1) cs i)
+
+pub all_least : (base : ℤ) (range scale : ℕ) (cs : List CountedStep) (i sum : ℕ) → length cs ≤ i → IsLeastCost (CountedWithin base range scale (take i cs)) sum → IsLeastCost (CountedWithin base range scale cs) sum
+all_least base range scale cs i sum h least = rw (take_all i cs h) at least
+
+level_few : (reach distance : ℕ) → level reach distance ≤ 2
+level_few reach distance = grind (arith, nat_tests)
+
+level_one : (reach distance : ℕ) → distance ≤ reach → level reach distance ≡ 0
+level_one reach distance h = grind (arith, nat_tests)
+
+level_two : (reach distance : ℕ) → distance ≤ 2 * reach → level reach distance ≤ 1
+level_two reach distance h = grind (arith, nat_tests)
+
+reach_small : (range scale : ℕ) → scale ≤ 255 → 242 / range * scale ≤ 61710
+reach_small range scale small = mul-le-mul {n₁ = 242 / range} {m₁ = scale} {n₂ = 242} {m₂ = 255} (omega arith) small
+
+-- an address that goes far takes bytes before each opcode that appends a row
+pub level_low : (range scale part d a : ℕ) → scale ≤ 255 → part ≤ 242 / range → AdvanceWithin range scale (address_distance (part * scale) d) a → level (242 / range * scale) (d % 2 ^ 64) ≤ a
+level_low range scale part d a small inside within =
+    let reach = reach_small range scale small in
+    let taken : part * scale ≤ 242 / range * scale = mul-le-mul_right scale inside in
+    elim (cases_lt 1 a) [
+      | inl many ↦ omega (arith, level_few (242 / range * scale) (d % 2 ^ 64))
+      | inr few ↦
+          elim (near range scale (address_distance (part * scale) d) a within few) [
+            | inl none ↦
+                let at : d % 2 ^ 64 ≤ 242 / range * scale = omega (arith, none, reach, taken) in
+                omega (arith, level_one (242 / range * scale) (d % 2 ^ 64) at)
+            | inr once ↦
+                let at : d % 2 ^ 64 ≤ 2 * (242 / range * scale) = omega (arith, once.1, reach, taken) in
+                omega (arith, level_two (242 / range * scale) (d % 2 ^ 64) at, once.0)
+          ]
+    ]
+
+-- the same before copy
+copy_low : (range scale d a : ℕ) → scale ≤ 255 → AdvanceWithin range scale d a → level (242 / range * scale) (d % 2 ^ 64) ≤ a
+copy_low range scale d a small within =
+    let reach = reach_small range scale small in
+    elim (cases_lt 1 a) [
+      | inl many ↦ omega (arith, level_few (242 / range * scale) (d % 2 ^ 64))
+      | inr few ↦
+          elim (near range scale d a within few) [
+            | inl none ↦
+                let at : d % 2 ^ 64 ≤ 242 / range * scale = omega (arith, none) in
+                omega (arith, level_one (242 / range * scale) (d % 2 ^ 64) at)
+            | inr once ↦
+                let at : d % 2 ^ 64 ≤ 242 / range * scale = omega (arith, once.1, reach) in
+                omega (arith, level_one (242 / range * scale) (d % 2 ^ 64) at)
+          ]
+    ]
+
+-- what is enough for a step is no less than its floor
+floor_low : (base : ℤ) (range scale : ℕ) (s : Step) (n : ℕ) → 0 < range → scale ≤ 255 → StepCosts base range scale s n → floor_of range scale s ≤ n
+floor_low base range scale (RowStep line distance) n some small (inl (a, within, cost)) = let low = copy_low range scale distance a small within in omega arith
+floor_low base range scale (RowStep line distance) n some small (inr (s, few, (a, within, cost))) =
+    let low = level_low range scale (s / range) distance a small (div_rises s 242 range some few) within in
+    omega arith
+floor_low base range scale (EndStep distance) n some small (a, within, cost) = omega arith
+
+-- the sum of some counted steps, and the floor of the rest
+pub rest_low : (base : ℤ) (range scale : ℕ) (cs : List CountedStep) (i sum rest n : ℕ) → 0 < range → scale ≤ 255 → IsLeastCost (CountedWithin base range scale (take i cs)) sum → rest ≡ counted_price (floor_of range scale) (drop i cs) → CountedWithin base range scale cs n → sum + rest ≤ n
+rest_low base range scale cs i sum rest n some small before is within =
+    let price = within.paid in
+    let split = counted_split price cs i in
+    let low = before.least (counted_price price (take i cs)) (record { paid = price; enough = within.enough; cost = omega arith }) in
+    let floor = counted_falls price (floor_of range scale) (drop i cs) (λ s. floor_low base range scale s (price s) some small (within.enough.each s)) in
+    omega (arith, split, low, floor, within.cost, is)
+
+floor_three : (range scale : ℕ) (s : Step) → floor_of range scale s ≤ 3
+floor_three range scale (RowStep line distance) = omega (arith, level_few (242 / range * scale) (distance % 2 ^ 64))
+floor_three range scale (EndStep distance) = omega arith
+
+-- the floor of counted steps is at most three bytes each
+pub floor_few : (range scale : ℕ) (cs : List CountedStep) → counted_price (floor_of range scale) cs ≤ 3 * count_of cs
+floor_few range scale [] = omega arith
+floor_few range scale (c ∷ cs) =
+    let one = mul-le-mul {n₁ = c.count} {m₁ = floor_of range scale c.step} {n₂ = c.count} {m₂ = 3} (omega arith) (floor_three range scale c.step) in
+    let rest = floor_few range scale cs in
+    omega (arith, one, rest)
+
+pub rest_few : (range scale : ℕ) (cs : List CountedStep) (i : ℕ) → counted_price (floor_of range scale) (drop i cs) ≤ 3 * count_of cs
+rest_few range scale cs i = omega (arith, floor_few range scale cs, counted_split (floor_of range scale) cs i)
+
+pub floor_part : (range scale : ℕ) (cs : List CountedStep) (i : ℕ) → counted_price (floor_of range scale) (take i cs) ≤ 3 * count_of cs
+floor_part range scale cs i = omega (arith, floor_few range scale cs, counted_split (floor_of range scale) cs i)
+
+pub level_is : (reach distance : ℕ) → (distance ≤ reach → level reach distance ≡ 0) × ((reach < distance) → distance ≤ 2 * reach → level reach distance ≡ 1) × (2 * reach < distance → level reach distance ≡ 2)
+level_is reach distance = (λ h. grind (arith, nat_tests), λ h l. grind (arith, nat_tests), λ h. grind (arith, nat_tests))

@@ -1,0 +1,3 @@
+-- What inner functions and proofs need, and no public clause says.
+pub mod RunningSums
+pub mod Windows

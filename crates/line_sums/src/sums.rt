@@ -1,0 +1,96 @@
+// What steps cost under each line_base.
+ghost use Rattle.std.specs.Prelude.{◌≡◌, ◌≤◌, ◌<◌, ◌+◌, ◌-◌, ◌*◌, ◌^◌, ℕ, ℤ, pos, neg_ℤ, ◌≤ℤ◌, ◌<ℤ◌, ◌-ℤ◌, slice_index};
+ghost use Rattle.line_sums.specs.Counting.{HasCountedLine};
+ghost use Rattle.line_sums.specs.Sums.{AddsCost, base_at};
+ghost use Rattle.line_sums.specs.inside.Windows.{IsStepRun};
+ghost use Rattle.line_sums.specs.declared.step.Step.TheVariants.{Row as RowStep};
+
+use crate::base_sums::{BASES, BaseSums};
+use crate::count::CountedStep;
+use crate::line_run::{line_bytes, line_run};
+use crate::step::Step;
+use crate::window::{Windows, windows_for};
+use line_step::advance;
+
+// How many bytes a step takes whose line distance less line_base is known, and down to which such distance all take as many.
+#[derive(Clone, Copy, Debug)]
+struct StepRun {
+    bytes: u32,
+    low: i64,
+}
+
+// The run of a step whose line distance less line_base is `left`, and which takes `copy` bytes where copy appends the row.
+fn step_run(left: i64, copy: u32, windows: &Windows) -> StepRun
+    requires low { neg_ℤ (pos (2 ^ 33)) ≤ℤ left }
+    requires high { left ≤ℤ pos (2 ^ 33) }
+    requires wide { windows.now.wide.address ≤ 11 }
+    requires last { windows.now.last.address ≤ 11 }
+    ensures run { IsStepRun left copy windows.now result }
+    ensures below { result.low ≤ℤ left }
+    ensures above { neg_ℤ (pos (2 ^ 34)) ≤ℤ result.low }
+    ensures few { result.bytes ≤ copy }
+{
+    let wide = line_run(left, windows.wide.most);
+    let last = line_run(left, windows.last.most);
+    let wide_bytes = 1 + windows.wide.address + wide.bytes;
+    let last_bytes = 1 + windows.last.address + last.bytes;
+    StepRun {
+        bytes: copy.min(wide_bytes).min(last_bytes),
+        low: wide.low.max(last.low),
+    }
+}
+
+// How many line_base, from -128 on, leave at least `low` of a line distance: the first of them leaves `top`.
+fn places_down_to(top: i64, low: i64) -> usize
+    requires high { top ≤ℤ pos (2 ^ 34) }
+    requires low { neg_ℤ (pos (2 ^ 34)) ≤ℤ low }
+    requires order { low ≤ℤ top }
+    ensures within { result ≤ 256 }
+    ensures before { (place : ℕ) → place < result → low ≤ℤ (top -ℤ pos place) }
+    ensures after { (place : ℕ) → place < 256 → low ≤ℤ (top -ℤ pos place) → place < result }
+{
+    let more = top - low;
+    if more >= 255 {
+        BASES
+    } else {
+        more as usize + 1
+    }
+}
+
+// Adds what a row's step costs under each line_base, times its count.
+fn add_row(sums: &mut BaseSums, range: u8, min: u8, line: i64, distance: u64, count: u32)
+    requires range { 0 < range }
+    requires scale { 0 < min }
+    requires low { neg_ℤ (pos (2 ^ 32)) ≤ℤ line }
+    requires high { line ≤ℤ pos (2 ^ 32) }
+    requires room { (place : ℕ) → place < 256 → slice_index sums.old place < 2 ^ 63 }
+    ensures { (place : ℕ) → place < 256 → AddsCost (base_at place) range min (record { step = RowStep line distance; count = count }) (slice_index sums.old place) (slice_index sums.new place) }
+{
+    let windows = windows_for(range, min, distance);
+    let copy = 1 + line_bytes(line) + advance(range, min, distance);
+    let top = line + 128;
+    let mut from = 0;
+    while from < BASES {
+        let run = step_run(top - from as i64, copy, &windows);
+        let to = places_down_to(top, run.low);
+        sums.add_between(from, to, u64::from(count) * u64::from(run.bytes));
+        from = to;
+    }
+}
+
+/// Adds what a step costs under each line_base, times its count.
+pub fn add_step(sums: &mut BaseSums, range: u8, min: u8, counted: CountedStep)
+    requires range { 0 < range }
+    requires scale { 0 < min }
+    requires line { HasCountedLine counted }
+    requires room { (place : ℕ) → place < 256 → slice_index sums.old place < 2 ^ 63 }
+    ensures { (place : ℕ) → place < 256 → AddsCost (base_at place) range min counted (slice_index sums.old place) (slice_index sums.new place) }
+{
+    match counted.step {
+        Step::Row(line, distance) => add_row(sums, range, min, line, distance, counted.count),
+        Step::End(distance) => {
+            let bytes = 3 + advance(range, min, distance);
+            sums.add_between(0, BASES, u64::from(counted.count) * u64::from(bytes));
+        }
+    }
+}

@@ -1,0 +1,116 @@
+// The address before a row's special opcode.
+ghost use Rattle.std.specs.Prelude.{◌≡◌, ◌≤◌, ◌<◌, ◌*◌, ◌/◌, ◌%◌, ◌^◌};
+ghost use Rattle.leb_codec.specs.LineCosts.{IsLeastCost, AdvanceWithin, last_special, address_distance};
+ghost use Rattle.line_sums.specs.Counting.{level};
+ghost use Rattle.line_sums.specs.inside.Windows.{PartWithin, AreWindows};
+
+use line_step::advance;
+
+// The last special opcode, counted from 0: opcode 255 where opcode_base is 13.
+pub const LAST_SPECIAL: u8 = 242;
+
+// Special opcodes that add each number from 0 to `most` to line_base, and how many bytes the address takes before them.
+#[derive(Clone, Copy, Debug)]
+pub struct Window {
+    pub most: u8,
+    pub address: u32,
+}
+
+// The special opcodes that add up to line_range - 1 to line_base, and those that advance the address furthest, which may
+// add less. There may be only one of the two kinds, or one may be as good as both: then it stands twice.
+#[derive(Clone, Copy, Debug)]
+pub struct Windows {
+    pub wide: Window,
+    pub last: Window,
+}
+
+// The bytes that advance the address before a special opcode that itself advances it by `part` instructions.
+fn address_before(range: u8, min: u8, distance: u64, part: u8) -> u32
+    requires range { 0 < range }
+    requires scale { 0 < min }
+    ensures least { IsLeastCost (AdvanceWithin range min (address_distance (part * min) distance)) result }
+    ensures few { result ≤ 11 }
+{
+    let taken = u64::from(part) * u64::from(min);
+    advance(range, min, distance.wrapping_sub(taken))
+}
+
+/// The bytes that an address distance takes at least before an opcode that appends a row, where a special opcode and
+/// const_add_pc each advance the address by at most `reach`.
+pub fn bytes_beyond(reach: u64, distance: u64) -> u32
+    requires { reach < 2 ^ 32 }
+    ensures { result ≡ level reach distance }
+{
+    if distance <= reach {
+        0
+    } else if distance <= 2 * reach {
+        1
+    } else {
+        2
+    }
+}
+
+// The fewest bytes that advance the address before a special opcode that itself advances it by fewer than `parts`
+// instructions.
+fn least_before(range: u8, min: u8, distance: u64, parts: u8) -> u32
+    requires range { 0 < range }
+    requires scale { 0 < min }
+    requires parts { 0 < parts }
+    requires reached { parts ≤ 242 / range }
+    ensures least { IsLeastCost (PartWithin range min distance parts) result }
+    ensures few { result ≤ 11 }
+{
+    let scale = u64::from(min);
+    if distance % scale == 0 && distance / scale < u64::from(parts) {
+        return 0;
+    }
+    let enough = bytes_beyond(u64::from(LAST_SPECIAL / range) * scale, distance);
+    let mut least = address_before(range, min, distance, 0);
+    for part in 1..parts {
+        if least <= enough {
+            return least;
+        }
+        least = least.min(address_before(range, min, distance, part));
+    }
+    least
+}
+
+/// The two kinds of special opcodes for an address distance.
+pub fn windows_for(range: u8, min: u8, distance: u64) -> Windows
+    requires range { 0 < range }
+    requires scale { 0 < min }
+    ensures windows { AreWindows range min distance result }
+    ensures wide_few { result.wide.address ≤ 11 }
+    ensures last_few { result.last.address ≤ 11 }
+{
+    let parts = LAST_SPECIAL / range;
+    if parts > 0 {
+        let wide = Window {
+            most: range - 1,
+            address: least_before(range, min, distance, parts),
+        };
+        if wide.address == 0 {
+            return Windows { wide, last: wide };
+        }
+        return Windows {
+            wide,
+            last: last_window(range, min, distance),
+        };
+    }
+    let last = last_window(range, min, distance);
+    Windows { wide: last, last }
+}
+
+// The special opcodes that advance the address furthest.
+fn last_window(range: u8, min: u8, distance: u64) -> Window
+    requires range { 0 < range }
+    requires scale { 0 < min }
+    ensures most { result.most ≡ last_special % range }
+    ensures address { IsLeastCost (AdvanceWithin range min (address_distance (last_special / range * min) distance)) result.address }
+    ensures few { result.address ≤ 11 }
+{
+    Window {
+        most: LAST_SPECIAL % range,
+        address: address_before(range, min, distance, LAST_SPECIAL / range),
+    }
+}
