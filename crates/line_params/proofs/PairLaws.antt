@@ -1,6 +1,6 @@
 -- Laws of the search over the pairs.
-use Rattle.std.proofs.Common.{◌≡◌, ◌≤◌, ◌<◌, ◌+◌, ◌^◌, ◌⊎◌, ℕ, List, get_or, length, sym, subst, arith, inl, inr}
-use Rattle.std.specs.Prelude.{ℤ, pos, neg_ℤ, ◌+ℤ◌, ◌≤ℤ◌, nat_abs}
+use Rattle.std.proofs.Common.{◌≡◌, ◌≤◌, ◌<◌, ◌+◌, ◌*◌, ◌/◌, ◌^◌, ◌⊎◌, ℕ, List, get_or, length, sym, subst, arith, inl, inr}
+use Rattle.std.specs.Prelude.{ℤ, pos, neg_ℤ, ◌+ℤ◌, ◌≤ℤ◌, nat_abs, All}
 use Rattle.std.proofs.lemmas.Int.{ints}
 use Rattle.std.proofs.lemmas.Bool.{cases_lt, cases_eq}
 use Rattle.leb_codec.specs.LineCosts.{IsLeastCost}
@@ -10,7 +10,7 @@ use Rattle.line_params.specs.declared.choice.Choice.{Choice}
 use Rattle.line_sums.specs.declared.count.CountedStep.{CountedStep}
 use Rattle.line_sums.specs.declared.step.Step.{Step}
 use Rattle.line_params.specs.Pairs.{IsLeastPair}
-use Rattle.line_sums.specs.Counting.{IsCounted, CountedWithin, count_of, floor_of}
+use Rattle.line_sums.specs.Counting.{IsCounted, CountedWithin, HasCountedLine, count_of, floor_of}
 use Rattle.line_sums.specs.Sums.{AreSummed, IsFirstLeast, base_at}
 use Rattle.line_params.specs.inside.PairSearch.{AreSums, IsTried, IsBestTried}
 use Rattle.line_sums.proofs.Prices.{number_or_not, count_part, rest_low, rest_few, all_least, within_counted, counted_within}
@@ -136,16 +136,16 @@ all_tried head steps counted best same is = record {
   first = λ b r pair within. is.first b r best.bytes pair (inr (omega (arith, pair.range_to))) (within_counted b r head.min steps counted best.bytes same within) (omega arith);
 }
 
-pub filled_all : (range scale : ℕ) (counted : List CountedStep) (i : ℕ) (sums : List ℕ) (rest : ℕ) → length counted ≤ i → AreSummed range scale (floor_of range scale) counted i sums rest → AreSums range scale counted sums
-filled_all range scale counted i sums rest h is = record { each = λ place within. all_least (base_at place) range scale counted i (get_or sums place 0) h (is.least place within) }
+pub filled_all : (range scale : ℕ) (floor : Step → ℕ) (counted : List CountedStep) (i : ℕ) (sums : List ℕ) (rest : ℕ) → length counted ≤ i → AreSummed range scale floor counted i sums rest → AreSums range scale counted sums
+filled_all range scale floor counted i sums rest h is = record { each = λ place within. all_least (base_at place) range scale counted i (get_or sums place 0) h (is.least place within) }
 
-pub filled_past : (range scale : ℕ) (counted : List CountedStep) (i : ℕ) (sums : List ℕ) (rest bytes : ℕ) → 0 < range → scale ≤ 255 → AreSummed range scale (floor_of range scale) counted i sums rest → ((place : ℕ) → place < 256 → bytes ≤ get_or sums place 0 + rest) → (place n : ℕ) → place < 256 → CountedWithin (base_at place) range scale counted n → bytes ≤ n
-filled_past range scale counted i sums rest bytes some small is past place n within enough =
-    let low = rest_low (base_at place) range scale counted i (get_or sums place 0) rest n some small (is.least place within) is.rest_is enough in
+pub filled_past : (range scale reach last : ℕ) (counted : List CountedStep) (i : ℕ) (sums : List ℕ) (rest bytes : ℕ) → 0 < range → scale ≤ 255 → reach ≡ 242 / range * scale → last ≡ 126 + range → AreSummed range scale (floor_of reach last) counted i sums rest → ((place : ℕ) → place < 256 → bytes ≤ get_or sums place 0 + rest) → (place n : ℕ) → place < 256 → CountedWithin (base_at place) range scale counted n → bytes ≤ n
+filled_past range scale reach last counted i sums rest bytes some small reach_is last_is is past place n within enough =
+    let low = rest_low (base_at place) range scale reach last counted i (get_or sums place 0) rest n (omega (arith, ints)) (omega (arith, ints)) some small reach_is last_is (is.least place within) is.rest_is enough in
     let h = past place within in
     omega arith
 
 -- the sums stay small
-pub filled_small : (range scale : ℕ) (counted : List CountedStep) (i : ℕ) (sums : List ℕ) (rest : ℕ) → count_of counted < 2 ^ 32 → AreSummed range scale (floor_of range scale) counted i sums rest → (place : ℕ) → place < 256 → get_or sums place 0 + rest < 2 ^ 40
-filled_small range scale counted i sums rest few is place within =
-    omega (arith, is.few place within, is.rest_is, count_part counted i, rest_few range scale counted i)
+pub filled_small : (range scale reach last : ℕ) (counted : List CountedStep) (i : ℕ) (sums : List ℕ) (rest : ℕ) → count_of counted < 2 ^ 32 → All HasCountedLine counted → AreSummed range scale (floor_of reach last) counted i sums rest → (place : ℕ) → place < 256 → get_or sums place 0 + rest < 2 ^ 40
+filled_small range scale reach last counted i sums rest few lines is place within =
+    omega (arith, is.few place within, is.rest_is, count_part counted i, rest_few reach last counted i lines)

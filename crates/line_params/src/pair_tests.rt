@@ -11,7 +11,7 @@ use std::test::Fail;
 // Line and address distances of rows, and the address distance of the end of their sequence.
 #[derive(Clone, Copy)]
 struct Steps<'a> {
-    rows: &'a [(i8, u16)],
+    rows: &'a [(i16, u16)],
     end: u16,
 }
 
@@ -22,8 +22,8 @@ fn rows_of(alloc: Global, steps: &Steps<'_>) -> Result<Vec<Row>, Fail> {
     let mut address = 0u64;
     for (lines, bytes) in steps.rows {
         line = line
-            .wrapping_add((i64::from(*lines) + 128) as u64)
-            .wrapping_sub(128);
+            .wrapping_add((i64::from(*lines) + 32768) as u64)
+            .wrapping_sub(32768);
         address = address.wrapping_add(u64::from(*bytes));
         rows.push(row(address, line, 0)).map_err(|_| "no memory")?;
     }
@@ -72,7 +72,7 @@ fn plain_pair(min: u8, steps: &Steps<'_>) -> Pair
 
 #[test]
 fn no_pair_is_better(rt: HostRuntime) -> Result<(), Fail> {
-    let table: [(u8, Steps<'_>); 3] = [
+    let table: [(u8, Steps<'_>); 5] = [
         (
             1,
             Steps {
@@ -92,6 +92,37 @@ fn no_pair_is_better(rt: HostRuntime) -> Result<(), Fail> {
             Steps {
                 rows: &[(9, 1001), (1, 1), (1, 1), (-3, 70), (1, 500)],
                 end: 244,
+            },
+        ),
+        // lines beyond what special opcodes take under each line_base, and the first and the last that they take
+        (
+            1,
+            Steps {
+                rows: &[
+                    (300, 4),
+                    (-129, 8),
+                    (-128, 4),
+                    (2000, 4),
+                    (381, 2),
+                    (382, 6),
+                    (-1500, 40),
+                ],
+                end: 3,
+            },
+        ),
+        (
+            4,
+            Steps {
+                rows: &[
+                    (4000, 8),
+                    (-192, 4),
+                    (-193, 4),
+                    (191, 4),
+                    (-192, 4),
+                    (3, 8),
+                    (-192, 4),
+                ],
+                end: 12,
             },
         ),
     ];

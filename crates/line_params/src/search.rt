@@ -2,7 +2,7 @@
 ghost use Rattle.std.specs.Prelude.{◌≡◌, ◌≤◌, ◌<◌, ◌+◌, ◌-◌, ◌*◌, ◌^◌, ℕ, ℤ, All, false, IsTrue};
 ghost use Rattle.leb_codec.specs.LineCosts.{IsLeastCost};
 ghost use Rattle.line_sums.specs.Steps.{StepCosts};
-ghost use Rattle.line_sums.specs.Counting.{CountedWithin, HasCountedLine, HasLine, count_of, counted_price, floor_of};
+ghost use Rattle.line_sums.specs.Counting.{CountedWithin, HasCountedLine, HasLine, count_of};
 ghost use Rattle.line_sums.specs.Sums.{base_at};
 ghost use Rattle.line_params.specs.inside.PairSearch.{AreSums, IsBestTried};
 
@@ -10,7 +10,7 @@ use crate::choice::Choice;
 use crate::pair::Pair;
 use line_machine::Head;
 use line_step::{advance, step};
-use line_sums::{BaseSums, CountedStep, Step, add_step, floor_bytes, floor_total};
+use line_sums::{BaseSums, CountedStep, Floors, Step, add_step};
 
 // The bytes of a step.
 fn step_bytes(base: i8, range: u8, min: u8, taken: Step) -> u32
@@ -53,13 +53,14 @@ fn fill_sums(sums: &mut BaseSums, range: u8, min: u8, counted: &[CountedStep], b
     ensures left { result ≡ false → (place n : ℕ) → place < 256 → CountedWithin (base_at place) range min counted.now n → bytes ≤ n }
 {
     sums.clear();
-    let mut rest = floor_total(range, min, counted);
+    let floors = Floors::new(range, min);
+    let mut rest = floors.total(counted);
     if rest >= bytes {
         return false;
     }
     for (index, counted_step) in counted.iter().enumerate() {
         add_step(sums, range, min, *counted_step);
-        rest -= floor_bytes(range, min, *counted_step);
+        rest -= floors.bytes(*counted_step);
         if (index + 1).is_power_of_two() && sums.are_past(rest, bytes) {
             return false;
         }

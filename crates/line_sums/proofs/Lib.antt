@@ -1,3 +1,4 @@
+pub mod Beyond
 pub mod Bound
 pub mod Counted
 pub mod Firsts

@@ -16,7 +16,7 @@ mod window;
 pub use base_sums::{BASES, BaseSums};
 pub use count::{CountedStep, count_steps};
 pub use fixed::fixed_size;
-pub use floors::{add_next, floor_bytes, floor_total, row_total};
+pub use floors::{Floors, add_next, row_total};
 pub use step::Step;
 pub use sums::add_step;
 

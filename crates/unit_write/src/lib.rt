@@ -18,7 +18,9 @@ mod write;
 mod write_tests;
 
 pub use expressions::{NewExpressions, write_expressions};
-pub use laws::{bytes_are_small, layouts_hold, one_placing, one_size, slots_fit, values_have_sizes};
+pub use laws::{
+    bytes_are_small, layouts_hold, one_placing, one_size, slots_fit, values_have_sizes,
+};
 pub use layout::lay_out;
 pub use places::{Places, place_unit};
 pub use slots::{Spot, slots_of};

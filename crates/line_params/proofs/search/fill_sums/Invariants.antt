@@ -3,4 +3,4 @@ use Rattle.line_sums.specs.Sums.{AreSummed}
 use Rattle.line_params.proofs.search.fill_sums.Given as goal
 
 abbrev pub invariant-loop-index : goal.invariant-loop-index
-invariant-loop-index l = AreSummed l.range l.min (floor_of l.range l.min) l.counted l.index l.sums l.rest
+invariant-loop-index l = AreSummed l.range l.min (floor_of l.floors.reach l.floors.last_line) l.counted l.index l.sums l.rest
