@@ -17,7 +17,7 @@ mod writing;
 
 pub use dw_base::Run;
 pub use proof::{CertFault, Proof};
-pub use reading::read;
+pub use reading::{MAGIC, read};
 pub use record::{ReadProof, read_record};
 pub use writing::{put_record, write};
 

@@ -10,7 +10,7 @@ use dw_base::NoMemory;
 use std::alloc::Global;
 
 /// The first bytes of a record file: "DWMIN01" and the end of a line.
-pub(crate) const MAGIC: [u8; 8] = [0x44, 0x57, 0x4d, 0x49, 0x4e, 0x30, 0x31, 0x0a];
+pub const MAGIC: [u8; 8] = [0x44, 0x57, 0x4d, 0x49, 0x4e, 0x30, 0x31, 0x0a];
 
 // The bytes begin as a record file does.
 fn begins(bytes: &[u8]) -> bool

@@ -1,10 +1,12 @@
 // A program in its shortest form.
-ghost use Rattle.std.specs.Prelude.{◌≡◌, ◌≤◌, ◌<◌, ◌*◌, [], length, IfOk};
+ghost use Rattle.std.specs.Prelude.{◌≤◌, ◌<◌, ◌*◌, length, IfOk};
 ghost use Rattle.line_machine.specs.Class.{IsTaken, AreRows};
+ghost use Rattle.line_sums.specs.Accepted.{AreLeastRuns};
 ghost use Rattle.line_params.specs.Order.{AreInOrder};
 
 use crate::pair::least_pair;
 use crate::rows::write_rows;
+use crate::runs::pair_runs;
 use dw_base::{NoMemory, Run};
 use line_machine::{Head, Row};
 use std::alloc::Global;
@@ -18,7 +20,8 @@ pub struct Program {
     pub range: u8,
     /// The opcodes.
     pub bytes: Vec<u8>,
-    /// Why no other pair is better. No record is made yet: there are none.
+    /// Why no program under any pair is shorter: for each pair the least number of different steps that shows it, as
+    /// `pair_runs` says.
     pub runs: Vec<Run>,
 }
 
@@ -28,7 +31,7 @@ pub struct Program {
 ///
 /// The rows are such as a program gives: the last ends a sequence, or there is none; a row that ends one has an address
 /// alone; and the line of another is below 2^32. Neither minimum_instruction_length nor line_range is 0. `NoMemory` may
-/// come wherever memory is wanting.
+/// come wherever memory is wanting, and comes for more than 2^32 - 1 rows.
 pub fn shrink_program(alloc: Global, head: &Head, rows: &Vec<Row>) -> Result<Program, NoMemory>
     requires rows { AreRows rows.now.items }
     requires scale { 0 < head.now.min }
@@ -36,17 +39,18 @@ pub fn shrink_program(alloc: Global, head: &Head, rows: &Vec<Row>) -> Result<Pro
     ensures taken { IfOk result (λ p. IsTaken head.now rows.now.items (record { base = p.base; range = p.range; bytes = p.bytes.items })) }
     ensures few { IfOk result (λ p. length p.bytes.items ≤ 68 * length rows.now.items) }
     ensures order { IfOk result (λ p. AreInOrder head.now.stmt p.base p.range head.now.min rows.now.items p.bytes.items) }
-    ensures no_runs { IfOk result (λ p. p.runs.items ≡ []) }
+    ensures runs { IfOk result (λ p. AreLeastRuns head.now rows.now.items (length p.bytes.items) p.runs.items) }
 {
     // Read here, so that the proof knows it for a byte.
     let _scale = head.min;
     let rows = rows.as_slice();
     let pair = least_pair(alloc, head, rows)?;
     let bytes = write_rows(alloc, head, pair.base, pair.range, rows)?;
+    let runs = pair_runs(alloc, head, rows, bytes.len() as u64)?;
     Ok(Program {
         base: pair.base,
         range: pair.range,
         bytes,
-        runs: Vec::new(alloc),
+        runs,
     })
 }

@@ -59,6 +59,13 @@ pub record AreLeastRuns (head : Head) (rows : List Row) (size : ℕ) (runs : Lis
   pub fit : All IsRun runs
   pub least : (pair : ℕ) → pair < pair_count → IsLeastPairNumber head rows size counted pair (slice_index (numbers_of runs) pair)
 
+-- the number that the runs give to each pair is accepted, by the different steps in their order
+pub record AreAcceptedRuns (head : Head) (rows : List Row) (size : ℕ) (runs : List Run) : Type 0 where
+  pub counted : List CountedStep
+  pub ordered : AreOrdered (steps_of rows) counted
+  pub whole : AreRuns runs
+  pub accepted : (pair : ℕ) → pair < pair_count → IsPairAccepted head rows size counted pair (slice_index (numbers_of runs) pair)
+
 -- under no pair do the rows take fewer bytes than these
 abbrev pub NoneTakesFewer : Head → List Row → ℕ → Type 0
 NoneTakesFewer head rows size =

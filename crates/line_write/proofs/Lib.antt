@@ -4,5 +4,6 @@ pub mod Putting
 pub mod ReadBack
 pub mod Reading
 pub mod RowLaws
+pub mod RunLaws
 pub mod Tiling
 pub mod Writing

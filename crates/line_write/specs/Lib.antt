@@ -4,4 +4,5 @@ pub mod Least
 pub mod Meaning
 pub mod Programs
 pub mod Readings
+pub mod Records
 pub mod inside
