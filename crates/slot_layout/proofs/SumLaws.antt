@@ -5,18 +5,19 @@ use Rattle.std.specs.Prelude.{slice_range}
 use Rattle.std.proofs.lemmas.List.{drop-take, length-take, length-drop, get_or-take, get_or-drop, take-take}
 use Rattle.std.proofs.lemmas.List.Sums.{sum_by-take-drop, sum_by-cons, sum_by-take-le, sum_by-le}
 use Rattle.std.proofs.lemmas.List.Elements.{All-from_get_or}
+use Rattle.slot_layout.specs.Rows.{most_slots}
 use Rattle.slot_layout.specs.inside.Rounds.{AreSmall}
 
 -- sums of so many small sizes are small
-pub sum-small : (sizes : List ℕ) → AreSmall sizes → sum sizes ≤ 5 * 2 ^ 28
+pub sum-small : (sizes : List ℕ) → AreSmall sizes → sum sizes ≤ 5 * most_slots
 sum-small sizes small =
     let all : All (λ s. s ≤ 5) sizes = All-from_get_or (λ s. s ≤ 5) sizes 0 small.each in
     omega (arith, sum_by-le (λ s. s) 5 sizes all, small.few)
 
-pub sum_take-small : (sizes : List ℕ) (k : ℕ) → AreSmall sizes → sum (take k sizes) ≤ 5 * 2 ^ 28
+pub sum_take-small : (sizes : List ℕ) (k : ℕ) → AreSmall sizes → sum (take k sizes) ≤ 5 * most_slots
 sum_take-small sizes k small = omega (arith, sum_by-take-le (λ s. s) sizes k, sum-small sizes small)
 
-pub sum_range-small : (sizes : List ℕ) (from to : ℕ) → AreSmall sizes → sum (slice_range sizes from to) ≤ 5 * 2 ^ 28
+pub sum_range-small : (sizes : List ℕ) (from to : ℕ) → AreSmall sizes → sum (slice_range sizes from to) ≤ 5 * most_slots
 sum_range-small sizes from to small =
     omega (arith, sum_by-take-le (λ s. s) (drop from sizes) (to - from), sum_by-take-drop (λ s. s) sizes from, sum-small sizes small)
 

@@ -1,5 +1,5 @@
 -- Slots as the rows of the layout's definition.
-use Rattle.std.specs.Prelude.{◌≡◌, ◌≤◌, ◌<◌, ◌^◌, ℕ, List, length, map, slice_index}
+use Rattle.std.specs.Prelude.{◌≡◌, ◌≤◌, ◌<◌, ◌*◌, ◌^◌, ℕ, List, length, map, slice_index}
 use Rattle.slot_layout.specs.declared.slots.SlotKind.{SlotKind}
 use Rattle.slot_layout.specs.declared.slots.SlotKind.TheVariants.{Uleb, Call}
 use Rattle.slot_layout.specs.declared.slots.Slot.{Slot}
@@ -14,6 +14,10 @@ row_of slot = record { form = form_of slot.kind; fixed = slot.fixed; from = slot
 
 abbrev pub rows_of : List Slot → List SlotRow
 rows_of slots = map row_of slots
+
+-- the most slots that are laid out together: with five bytes for each, and fixed parts below 2^31, each number is below 2^32
+abbrev pub most_slots : ℕ
+most_slots = 17 * 2 ^ 24
 
 -- each range of slots lies in the list
 abbrev pub HasRangesInside : List SlotRow → Type 0

@@ -4,7 +4,7 @@
 
 ghost use Rattle.std.specs.Prelude.{◌≡◌, ◌<◌, ◌≤◌, ◌^◌, length, IfOk};
 ghost use Rattle.leb_codec.specs.Layout.{IsLayout, IsLowestLayout, IsLeastLayout, HasNarrowNumbers, AcceptsLayout, HasFirstRanks};
-ghost use Rattle.slot_layout.specs.Rows.{rows_of, HasRangesInside, HasSmallFixed, IsTight};
+ghost use Rattle.slot_layout.specs.Rows.{rows_of, HasRangesInside, HasSmallFixed, IsTight, most_slots};
 
 mod ranking;
 mod rounds;
@@ -35,10 +35,10 @@ pub struct Layout {
 ///
 /// So each slot has just the bytes that its number needs, and no LEB128 number in the layout is padded.
 ///
-/// There are at most 2^28 slots, each range of slots lies in the list, and each fixed part is below 2^31. Then every
+/// There are at most 17 * 2^24 slots, each range of slots lies in the list, and each fixed part is below 2^31. Then every
 /// number in the answered layout is below 2^32. The only error is want of memory.
 pub fn solve(alloc: Global, slots: &Vec<Slot>) -> Result<Layout, NoMemory>
-    requires few { length slots.now.items ≤ 2 ^ 28 }
+    requires few { length slots.now.items ≤ most_slots }
     requires inside { HasRangesInside (rows_of slots.now.items) }
     requires small { HasSmallFixed (rows_of slots.now.items) }
     ensures member { IfOk result (λ layout. IsLayout (rows_of slots.now.items) layout.sizes.items) }

@@ -1,9 +1,14 @@
 -- A unit whose declarations have no columns can be written with any codes.
-use Rattle.std.proofs.Common.{◌≡◌, ◌≢◌, ◌<◌, ◌+◌, ℕ, List, [], ◌∷◌, length, take, drop, ◌∙◌, sym, ap, refl, subst, arith}
+use Rattle.std.proofs.Common.{◌≡◌, ◌≢◌, ◌≤◌, ◌<◌, ◌+◌, ◌-◌, ◌^◌, ℕ, zero, suc, List, [], ◌∷◌, length, take, drop, ◌∙◌, sym, ap, refl, subst, arith}
 use Rattle.std.specs.Prelude.{slice_index}
 use Rattle.std.specs.List.{All}
+use Rattle.std.proofs.lemmas.List.{nil_from_length}
 use Rattle.std.proofs.Math.Seq.{take-nil, drop-nil}
 use Rattle.leb_codec.specs.Leb.{least_unsigned_len}
+use Rattle.leb_codec.specs.Layout.{uleb}
+use Rattle.slot_layout.specs.declared.slots.SlotKind.TheVariants.{Uleb as TheUleb}
+use Rattle.expr_ops.specs.Slots.{Aim}
+use Rattle.expr_ops.specs.Slots.Aim.{Place, Length}
 use Rattle.form_codec.specs.declared.value.Value.{Value}
 use Rattle.abbrev_tables.specs.declared.decl.Spec.{Spec}
 use Rattle.abbrev_tables.specs.Listings.{Listing, decl_at}
@@ -11,13 +16,17 @@ use Rattle.entry_arena.specs.declared.entry.Entry.{Entry}
 use Rattle.entry_arena.specs.Arena.{Arena, entry_at}
 use Rattle.entry_arena.specs.Trees.{ValuesBetween, declared_at}
 use Rattle.entry_read.specs.Heads.{IsHead}
+use Rattle.entry_read.specs.Slots.{aim_at}
 use Rattle.entry_read.specs.Units.{HeadAndForest, declarations_of, IsUnitHeld}
 use Rattle.entry_read.proofs.Declarations.{declared_is}
 use Rattle.entry_read.proofs.PlaceLaws.{entry_stands}
+use Rattle.unit_write.specs.declared.slots.ListSlot.TheVariants.{Length as ListLength, Place as ListPlace}
+use Rattle.unit_write.specs.declared.slots.Spot.TheVariants.{Entry as TheEntry}
 use Rattle.unit_write.specs.Lens.{AreLensFor}
 use Rattle.unit_write.specs.Values.{HaveSize}
 use Rattle.unit_write.specs.Placing.{columns_of, values_in, EntrySize}
 use Rattle.unit_write.specs.Moved.{IsWritable}
+use Rattle.unit_write.specs.Slots.{AreListSlots}
 use Rattle.unit_write.proofs.Standing.{entry_declared}
 
 none_of : {A : Type 0} (items : List A) (first count : ℕ) → items ≡ [] → take count (drop first items) ≡ []
@@ -66,3 +75,37 @@ no_lens_fit f lens is none =
       few = λ k span at. absurd (let lt : k < length f.values = at.inside in omega arith);
       narrow = λ k lt local. absurd (omega arith);
     }
+
+-- where it has no values, whatever these take
+pub bare_always : (unit : HeadAndForest) (table : Listing) (columns : List Spec) (numbers : List ℕ) → length unit.forest.values ≡ 0 → IsUnitHeld unit.forest.section unit.head (declarations_of table) unit.forest → length table.specs ≡ 0 → columns ≡ [] → length numbers ≡ length table.decls → IsHead unit.forest.section unit.head → All (λ (number : ℕ). number ≢ 0) numbers → (lens : List ℕ) → AreLensFor unit.forest lens → IsWritable unit table columns numbers lens
+bare_always unit table columns numbers none held bare no_columns numbered head used lens fit =
+    let many : length lens ≡ 0 = fit.each ∙ none in
+    bare_writable unit table columns numbers lens held (nil_from_length table.specs bare) no_columns (nil_from_length lens many) numbered head (ap length no_columns ∙ sym bare) used
+
+-- an expression of a list that refers to an entry once
+module _ (unit : HeadAndForest) (fixed target : ℕ) (small : fixed < 2 ^ 31) (inside : target < length unit.forest.entries) (behind : unit.head.at ≤ (entry_at unit.forest.entries target).at) where
+  abbrev aims : List Aim
+  aims = Length fixed 1 ∷ Place uleb ((entry_at unit.forest.entries target).at - unit.head.at) ∷ []
+
+  one_length : (j size count : ℕ) → j < 2 → aim_at aims j ≡ Length size count → (j ≡ 0) × (size ≡ fixed) × (count ≡ 1)
+  one_length zero size count lt is = (refl, ap size_of (sym is), ap count_of (sym is))
+    where
+      size_of : Aim → ℕ
+      size_of (Length n m) = n
+      size_of (Place form n) = 0
+
+      count_of : Aim → ℕ
+      count_of (Length n m) = m
+      count_of (Place form n) = 0
+  one_length (suc zero) size count lt is = absurd (cc (is))
+  one_length (suc (suc j)) size count lt is = absurd (omega (arith, lt))
+
+  pub one_reference : (more : List Aim) × AreListSlots unit more (ListLength fixed 1 ∷ ListPlace TheUleb (TheEntry target) ∷ [])
+  one_reference = (
+    aims,
+    record {
+      each = ((refl, refl), ((refl, (inside, omega (arith, behind))), tt));
+      inside = λ j size count lt is. let own = one_length j size count lt is in let first : j ≡ 0 = own.0 in let one : count ≡ 1 = own.2 in omega (arith, first, one);
+      small = λ j size count lt is. let own = one_length j size count lt is in let same : size ≡ fixed = own.1 in omega (arith, same, small);
+    },
+  )

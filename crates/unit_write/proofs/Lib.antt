@@ -22,13 +22,14 @@ pub mod SlotAims
 pub mod SlotMeasures
 pub mod ShortSpans
 pub mod SlotsMade
+pub mod ListSlots
 pub mod SlotSizes
 pub mod SlotLens
 pub mod SlotPlaces
 pub mod SlotWalks
 pub mod SlotCounts
 pub mod SlotRows
-pub mod LaidOut
+pub mod Lengths
 pub mod Needs
 pub mod SlotLayouts
 pub mod FewSlots

@@ -26,7 +26,7 @@ AreMet [] [] sizes = Unit {0}
 AreMet (aim ∷ aims) (new ∷ news) (size ∷ sizes) = IsMet aim new size sizes × AreMet aims news sizes
 AreMet _ _ _ = ⊥
 
-pub met_each : (aims news : List Aim) (sizes : List ℕ) → length news ≡ length aims → length sizes ≡ length aims → ((i : ℕ) → i < length aims → IsMet (aim_at aims i) (aim_at news i) (get_or sizes i 0) (drop (suc i) sizes)) → AreMet aims news sizes
+pub met_each : (aims news : List Aim) (sizes : List ℕ) → length news ≡ length aims → length aims ≤ length sizes → ((i : ℕ) → i < length aims → IsMet (aim_at aims i) (aim_at news i) (get_or sizes i 0) (drop (suc i) sizes)) → AreMet aims news sizes
 met_each [] [] sizes a b each = tt
 met_each [] (new ∷ news) sizes a b each = absurd (omega arith)
 met_each (aim ∷ aims) [] sizes a b each = absurd (omega arith)

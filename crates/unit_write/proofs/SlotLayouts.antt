@@ -1,8 +1,8 @@
 -- The lengths of a unit's values under a layout of its slots are those that its new numbers need.
-use Rattle.std.proofs.Common.{◌≡◌, ◌≤◌, ◌<◌, ◌+◌, ◌-◌, ℕ, zero, suc, List, [], ◌∷◌, length, get_or, take, drop, sum, ◌∙◌, sym, ap, refl, subst, arith, inl, inr}
+use Rattle.std.proofs.Common.{◌≡◌, ◌≤◌, ◌<◌, ◌+◌, ◌-◌, ℕ, zero, suc, List, [], ◌∷◌, ◌++◌, length, map, get_or, take, drop, sum, ◌∙◌, sym, ap, refl, subst, arith, inl, inr}
 use Rattle.std.specs.List.{AllZip}
 use Rattle.std.proofs.lemmas.Bool.{cases_lt}
-use Rattle.std.proofs.lemmas.List.{length-append, ext_get_or}
+use Rattle.std.proofs.lemmas.List.{length-append, ext_get_or, get_or_append_left}
 use Rattle.std.proofs.lemmas.List.Sums.{sum_by-cons}
 use Rattle.std.proofs.lemmas.Slice.Zip.{AllZip-long}
 use Rattle.spelled.proofs.Parts.{length_part}
@@ -26,10 +26,11 @@ use Rattle.entry_arena.specs.Operations.{HeldOps, ops_of}
 use Rattle.entry_read.specs.Expressions.{HasOperations}
 use Rattle.entry_read.specs.Slots.{value_aims, aims_before, aims_of, aim_at, meaning_at, expression_bytes, operations_in, slots_before, IsRowOf}
 use Rattle.unit_write.specs.declared.slots.Spot.{Spot}
+use Rattle.unit_write.specs.declared.slots.Spot.TheVariants.{Nothing as NoSpot}
 use Rattle.unit_write.specs.NewExpressions.{begin_of, lens_of, made_of, new_len, refs_of, operations_anew, AreWrittenShortest}
 use Rattle.unit_write.specs.Values.{renewed}
 use Rattle.unit_write.specs.Moved.{NewValues, lens_anew}
-use Rattle.unit_write.specs.Slots.{spot_place, spot_at, IsSpotFor, IsSpotPlaced, aims_anew, LayoutsHold}
+use Rattle.unit_write.specs.Slots.{spot_place, spot_at, list_spot, all_spots, IsSpotFor, IsSpotPlaced, aims_anew, LayoutsHold}
 use Rattle.unit_write.proofs.EndLaws.{len_at}
 use Rattle.unit_write.proofs.LensLaws.{anew_len, anew_at}
 use Rattle.unit_write.proofs.FewLaws.{expr_or_other}
@@ -160,7 +161,7 @@ module _ (shortest : NeededAreShortest) (split : LengthsSplit) where
       ]
 
   pub layouts_hold : LayoutsHold
-  layouts_hold unit table columns numbers held anew op_numbers spots lens start entries ends to has spotted held_many ends_many laid placed named written =
+  layouts_hold unit table columns numbers held anew op_numbers more spots lists lens ranks start entries ends to has spotted held_many ends_many laid placed named written =
       let f : Arena = unit.forest in
       let ops = operations_in f held in
       let news = operations_anew f held op_numbers in
@@ -170,13 +171,17 @@ module _ (shortest : NeededAreShortest) (split : LengthsSplit) where
       let rows : List SlotRow = laid.rows in
       let sizes : List ℕ = laid.sizes in
       let under = laid.lens_are in
-      let count : length rows ≡ length aims = laid.slots.count in
+      let count : length rows ≡ length aims + length more = laid.slots.count ∙ length-append aims more in
       let long : length sizes ≡ length rows = laid.layout.same_length in
       let spots_many : length spots ≡ length aims = AllZip-long (IsSpotFor f unit.head.at) aims spots spotted in
       let others_many : length spots ≡ length others = AllZip-long (IsSpotPlaced start entries ends) others spots named in
       let met : AreMet aims others sizes = met_each aims others sizes (omega (arith, spots_many, others_many)) (omega (arith, count, long)) (λ i lt.
       let inside : i < length rows = omega (arith, lt, count) in
-      row_met f ops entries ends sizes start i (spot_at spots i) (aim_at aims i) (aim_at others i) (row_at rows i) (laid.slots.each sizes lens start entries ends to long under placed i inside) (laid.tight i inside) (zip_at (IsSpotPlaced start entries ends) others spots i named (omega (arith, lt, spots_many, others_many)))) in
+      let aim : aim_at (aims ++ more) i ≡ aim_at aims i = get_or_append_left aims more (Length 0 0) i lt in
+      let spot : spot_at (all_spots spots lists) i ≡ spot_at spots i = get_or_append_left spots (map list_spot lists) NoSpot i (omega (arith, lt, spots_many)) in
+      let row = subst (λ (z : Spot). IsRowOf f ops entries sizes start (spot_place entries ends z) i (aim_at (aims ++ more) i) (row_at rows i)) spot (laid.slots.each sizes lens start entries ends to long under placed i inside) in
+      let own = subst (λ (z : Aim). IsRowOf f ops entries sizes start (spot_place entries ends (spot_at spots i)) i z (row_at rows i)) aim row in
+      row_met f ops entries ends sizes start i (spot_at spots i) (aim_at aims i) (aim_at others i) (row_at rows i) own (laid.tight i inside) (zip_at (IsSpotPlaced start entries ends) others spots i named (omega (arith, lt, spots_many, others_many)))) in
       let many : length (lens_anew f anew) ≡ length f.values = anew_len f anew held_many ends_many in
       ext_get_or 0 (lens_anew f anew) lens (many ∙ sym under.count) (λ k less.
       let lt : k < length f.values = omega (arith, less, many) in

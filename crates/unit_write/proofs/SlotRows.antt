@@ -1,9 +1,10 @@
 -- The slots of a unit by what is counted of its entries and codes 0.
-use Rattle.std.proofs.Common.{◌≡◌, ◌≤◌, ◌<◌, ◌+◌, ◌-◌, ◌^◌, ℕ, zero, suc, List, [], ◌∷◌, length, get_or, take, sum, ◌∙◌, sym, ap, refl, subst, arith, inl, inr}
+use Rattle.std.proofs.Common.{◌≡◌, ◌≤◌, ◌<◌, ◌+◌, ◌-◌, ◌^◌, ℕ, suc, List, [], ◌++◌, length, map, get_or, take, sum, ◌∙◌, sym, ap, refl, subst, arith, inl, inr}
 use Rattle.std.specs.Prelude.{slice_range}
-use Rattle.std.specs.List.{AllZip}
+use Rattle.std.specs.List.{All}
 use Rattle.std.proofs.lemmas.Bool.{cases_lt}
-use Rattle.std.proofs.lemmas.List.{length-map, get_or-map}
+use Rattle.std.proofs.lemmas.List.{length-append, length-map, get_or-map}
+use Rattle.std.proofs.lemmas.List.Elements.{All-from_get_or}
 use Rattle.std.proofs.lemmas.Slice.Zip.{AllZip-long}
 use Rattle.leb_codec.specs.Layout.{SlotForm, uleb, call, SlotRow, row_at}
 use Rattle.slot_layout.specs.declared.slots.Slot.{Slot}
@@ -18,31 +19,27 @@ use Rattle.entry_arena.specs.Arena.{Arena, entry_at}
 use Rattle.entry_arena.specs.Order.{HaveValues}
 use Rattle.entry_arena.specs.Trees.{nothing_from, listed_to}
 use Rattle.entry_arena.specs.Walks.{Item}
-use Rattle.entry_read.specs.Slots.{aims_of, slots_before, aim_at, AreValuesBefore, IsPlaceRow, IsRowOf}
+use Rattle.entry_read.specs.Slots.{aims_of, aims_before, meaning_at, slots_before, aim_at, AreValuesBefore, IsPlaceRow, IsRowOf}
 use Rattle.entry_read.specs.Units.{HeadAndForest, entries_at, declarations_of}
 use Rattle.unit_write.specs.declared.marks.Marks.{Marks}
+use Rattle.unit_write.specs.declared.slots.ListSlot.{ListSlot}
+use Rattle.unit_write.specs.declared.slots.ListSlot.TheVariants.{Length as ListLength, Place as ListPlace}
 use Rattle.unit_write.specs.declared.slots.Spot.{Spot}
 use Rattle.unit_write.specs.declared.slots.Spot.TheVariants.{Entry as TheEntry, End as TheEnd, Nothing as NoSpot}
 use Rattle.unit_write.specs.Lens.{AreLensUnder}
 use Rattle.unit_write.specs.Values.{OneSize}
 use Rattle.unit_write.specs.Placing.{EntrySize, ArePlaced}
 use Rattle.unit_write.specs.Moved.{IsPlacedAt}
-use Rattle.unit_write.specs.Slots.{IsSpotAt, spot_place, spot_at, IsSpotFor, AreSpotsOf, AreSlots}
-use Rattle.unit_write.specs.inside.Marks.{values_before, EndsFollow, AreMarks, HasSpot, HasSpotFor, HaveSpots, entries_before, kind_of, slot_for, AreSlotsMade}
-use Rattle.unit_write.proofs.SlotAims.{slots_up, IsWithin, AreWithin, within_at}
+use Rattle.unit_write.specs.Slots.{IsSpotAt, spot_place, spot_at, IsSpotFor, AreSpotsOf, IsListSlotFor, AreListSlots, list_spot, all_spots, AreSlots}
+use Rattle.unit_write.specs.inside.Marks.{values_before, EndsFollow, AreMarks, HasSpot, HasSpotFor, HaveSpots, entries_before, kind_of, slot_for, AreSlotsMade, list_aim, HasListSpot}
+use Rattle.unit_write.proofs.SlotAims.{slots_up, IsWithin, AreWithin, within_append, within_at}
+use Rattle.unit_write.proofs.ListSlots.{zip_append, zip_same, zip_map, zip_at, listed_made, lists_many, lists_within}
 use Rattle.unit_write.proofs.SlotSizes.{first_is, before_inside, before_rises, weight, are_added}
 use Rattle.unit_write.proofs.SlotPlaces.{Rises, AreShifted, shifted, places_rise, entry_some}
 use Rattle.unit_write.proofs.SlotWalks.{same_items, walk_many}
 
 whole_range : (xs : List ℕ) (n : ℕ) → sum (slice_range xs 0 n) ≡ sum (take n xs)
 whole_range xs n = let same : n - 0 ≡ n = omega arith in ap (λ (k : ℕ). sum (take k xs)) same
-
--- what stands beside an element of the other list
-zip_at : {A B : Type 0} (R : A → B → Type 0) (xs : List A) (ys : List B) (i : ℕ) (d : A) (e : B) → AllZip R xs ys → i < length xs → R (get_or xs i d) (get_or ys i e)
-zip_at R [] ys i d e h lt = absurd (omega arith)
-zip_at R (x ∷ xs) [] i d e h lt = absurd h
-zip_at R (x ∷ xs) (y ∷ ys) zero d e h lt = h.0
-zip_at R (x ∷ xs) (y ∷ ys) (suc i) d e h lt = zip_at R xs ys i d e h.1 (omega arith)
 
 form_is : (form : SlotForm) → form_of (kind_of form) ≡ form
 form_is uleb = refl
@@ -68,11 +65,38 @@ one_for : (f : Arena) (at : ℕ) (aim : Aim) (spot : Spot) → IsSpotFor f at ai
 one_for f at (Place form n) spot h = one_of f spot (at + n) h
 one_for f at (Length fixed count) spot h = tt
 
+-- so has a slot of a list
+list_one : (f : Arena) (at : ℕ) (aim : Aim) (slot : ListSlot) → IsListSlotFor f at aim slot → IsOneFor f aim (list_spot slot)
+list_one f at (Place form n) (ListPlace kind spot) h = one_of f spot (at + n) h.1
+list_one f at (Place form n) (ListLength size slots) h = absurd h
+list_one f at (Length fixed count) slot h = tt
+
+list_own : (f : Arena) (at : ℕ) (aim : Aim) (slot : ListSlot) → IsListSlotFor f at aim slot → IsOneFor f (list_aim slot) (list_spot slot)
+list_own f at (Place form n) (ListPlace kind spot) h = one_of f spot (at + n) h.1
+list_own f at (Length fixed count) (ListPlace kind spot) h = absurd h
+list_own f at aim (ListLength size slots) h = tt
+
 spot_one : (unit : HeadAndForest) (ops : ℕ → List Operation) (spots : List Spot) → AreSpotsOf unit ops spots → (i : ℕ) → i < length (aims_of unit.forest ops) → IsOneFor unit.forest (aim_at (aims_of unit.forest ops) i) (spot_at spots i)
 spot_one unit ops spots h i lt = one_for unit.forest unit.head.at (aim_at (aims_of unit.forest ops) i) (spot_at spots i) (zip_at (IsSpotFor unit.forest unit.head.at) (aims_of unit.forest ops) spots i (Length 0 0) NoSpot h lt)
 
+-- and each of both
+both_one : (unit : HeadAndForest) (ops : ℕ → List Operation) (more : List Aim) (spots : List Spot) (lists : List ListSlot) → AreSpotsOf unit ops spots → AreListSlots unit more lists → (i : ℕ) → i < length (aims_of unit.forest ops ++ more) → IsOneFor unit.forest (aim_at (aims_of unit.forest ops ++ more) i) (spot_at (all_spots spots lists) i)
+both_one unit ops more spots lists are listed i lt =
+    let f : Arena = unit.forest in
+    let at : ℕ = unit.head.at in
+    let aims : List Aim = aims_of f ops in
+    let own = zip_same (IsSpotFor f at) (IsOneFor f) (one_for f at) aims spots are in
+    let behind = zip_map (IsListSlotFor f at) (IsOneFor f) list_spot (list_one f at) more lists listed.each in
+    zip_at (IsOneFor f) (aims ++ more) (all_spots spots lists) i (Length 0 0) NoSpot (zip_append (IsOneFor f) aims spots more (map list_spot lists) own behind) lt
+
 pub spots_many : (unit : HeadAndForest) (ops : ℕ → List Operation) (spots : List Spot) → AreSpotsOf unit ops spots → length spots ≡ length (aims_of unit.forest ops)
 spots_many unit ops spots h = AllZip-long (IsSpotFor unit.forest unit.head.at) (aims_of unit.forest ops) spots h
+
+-- after all values those of lists are made
+pub both_made : (unit : HeadAndForest) (ops : ℕ → List Operation) (marks : Marks) (spots : List Spot) (lists : List ListSlot) (number : ℕ) (old new : List Slot) → AreSpotsOf unit ops spots → number ≡ length unit.forest.values → AreSlotsMade marks spots (aims_before (meaning_at unit.forest) ops number) old → ((names : List Spot) (aims : List Aim) → length names ≡ length aims → AreSlotsMade marks names aims old → AreSlotsMade marks (all_spots names lists) (aims ++ map list_aim lists) new) → (more : List Aim) → AreListSlots unit more lists → AreSlotsMade marks (all_spots spots lists) (aims_of unit.forest ops ++ more) new
+both_made unit ops marks spots lists number old new are all made behind more listed =
+    let own : AreSlotsMade marks spots (aims_of unit.forest ops) old = subst (λ (z : ℕ). AreSlotsMade marks spots (aims_before (meaning_at unit.forest) ops z) old) all made in
+    listed_made unit.forest unit.head.at marks (all_spots spots lists) (aims_of unit.forest ops) more lists new listed.each (behind spots (aims_of unit.forest ops) (spots_many unit ops spots are) own)
 
 -- the values of the entries before a place, where so many stand before it
 are_before : (f : Arena) → HaveValues f.entries (length f.values) → (entries : List ℕ) (place n : ℕ) → n ≤ length f.entries → ((j : ℕ) → j < length f.entries → get_or entries j 0 < place → j < n) → ((j : ℕ) → j < length f.entries → place ≤ get_or entries j 0 → n ≤ j) → AreValuesBefore f entries place (values_before f n)
@@ -155,6 +179,14 @@ module _ (unit : HeadAndForest) (table : Listing) (columns : List Spec) (numbers
     inside = let many : length spots ≡ length (aims_of unit.forest ops) = spots_many unit ops spots are in omega arith;
     each = λ i lt. subst (λ (z : ℕ). HasSpotFor marks (aim_at (aims_of unit.forest ops) i) (spot_at spots z)) (let e : i ≡ 0 + i = omega arith in e) (has_spot_for (aim_at (aims_of unit.forest ops) i) (spot_at spots i) (spot_one unit ops spots are i lt));
   }
+
+  pub have_list_spots : (more : List Aim) (lists : List ListSlot) → AreListSlots unit more lists → All (HasListSpot marks) lists
+  have_list_spots more lists listed =
+      let none : ListSlot = ListLength 0 0 in
+      All-from_get_or (HasListSpot marks) lists none (λ j lt.
+      let many : length lists ≡ length more = lists_many unit more lists listed in
+      let slot : ListSlot = get_or lists j none in
+      has_spot_for (list_aim slot) (list_spot slot) (list_own unit.forest unit.head.at (aim_at more j) slot (zip_at (IsListSlotFor unit.forest unit.head.at) more lists j (Length 0 0) none listed.each (omega (arith, lt, many)))))
 
   -- so many slots stand before it
   to_is : (spot : Spot) → IsOne unit.forest spot → get_or marks.slots_before.items (entries_before counts spot) 0 ≡ slots_before unit.forest ops (values_before unit.forest (entries_before counts spot))
@@ -253,47 +285,59 @@ module _ (unit : HeadAndForest) (table : Listing) (columns : List Spec) (numbers
     is_row (Place form n) spot i one = place_row spot i n form one
     is_row (Length fixed count) spot i one = refl
 
-  -- a slot counts no slots but those of the unit
-  range_inside : (aim : Aim) (spot : Spot) (i : ℕ) → HaveValues unit.forest.entries (length unit.forest.values) → IsOneFor unit.forest aim spot → i < length (aims_of unit.forest ops) → IsWithin (2 ^ 31) (length (aims_of unit.forest ops) - suc i) aim → ((row_of (slot_for marks spot i aim)).from ≤ (row_of (slot_for marks spot i aim)).to) × ((row_of (slot_for marks spot i aim)).to ≤ length (aims_of unit.forest ops))
-  range_inside (Place form n) spot i valued one lt within =
+  -- a slot counts no slots but those that there are
+  range_inside : (aim : Aim) (spot : Spot) (i all : ℕ) → HaveValues unit.forest.entries (length unit.forest.values) → IsOneFor unit.forest aim spot → length (aims_of unit.forest ops) ≤ all → i < all → IsWithin (2 ^ 31) (all - suc i) aim → ((row_of (slot_for marks spot i aim)).from ≤ (row_of (slot_for marks spot i aim)).to) × ((row_of (slot_for marks spot i aim)).to ≤ all)
+  range_inside (Place form n) spot i all valued one own lt within =
       let to : get_or marks.slots_before.items (entries_before counts spot) 0 ≡ slots_before unit.forest ops (values_before unit.forest (entries_before counts spot)) = to_is spot one in
       let few : values_before unit.forest (entries_before counts spot) ≤ length unit.forest.values = before_inside unit.forest valued (entries_before counts spot) (before_few spot one) in
-      let all : slots_before unit.forest ops (values_before unit.forest (entries_before counts spot)) ≤ slots_before unit.forest ops (length unit.forest.values) = slots_up unit.forest ops (values_before unit.forest (entries_before counts spot)) (length unit.forest.values) few in
-      (omega arith, omega (arith, to, all))
-  range_inside (Length fixed count) spot i valued one lt (small, few) = (omega arith, omega (arith, few, lt))
+      let most : slots_before unit.forest ops (values_before unit.forest (entries_before counts spot)) ≤ slots_before unit.forest ops (length unit.forest.values) = slots_up unit.forest ops (values_before unit.forest (entries_before counts spot)) (length unit.forest.values) few in
+      (omega arith, omega (arith, to, most, own))
+  range_inside (Length fixed count) spot i all valued one own lt (small, few) = (omega arith, omega (arith, few, lt))
 
   fixed_small : (aim : Aim) (spot : Spot) (i left : ℕ) → IsOneFor unit.forest aim spot → IsWithin (2 ^ 31) left aim → (row_of (slot_for marks spot i aim)).fixed < 2 ^ 31
   fixed_small (Place form n) spot i left one within = place_small spot one
   fixed_small (Length fixed count) spot i left one (small, few) = small
 
-  module _ (spots : List Spot) (are : AreSpotsOf unit ops spots) (slots : List Slot) (made : AreSlotsMade marks spots (aims_of unit.forest ops) slots) where
-    rows_many : length (rows_of slots) ≡ length (aims_of unit.forest ops)
+  module _ (more : List Aim) (spots : List Spot) (lists : List ListSlot) (are : AreSpotsOf unit ops spots) (listed : AreListSlots unit more lists) (slots : List Slot) (made : AreSlotsMade marks (all_spots spots lists) (aims_of unit.forest ops ++ more) slots) where
+    -- the aims of all slots, and what they name
+    abbrev aims : List Aim
+    aims = aims_of unit.forest ops ++ more
+
+    abbrev named : ℕ → Spot
+    named i = spot_at (all_spots spots lists) i
+
+    one_at : (i : ℕ) → i < length aims → IsOneFor unit.forest (aim_at aims i) (named i)
+    one_at i lt = both_one unit ops more spots lists are listed i lt
+
+    rows_many : length (rows_of slots) ≡ length aims
     rows_many = length-map slots row_of ∙ made.count
 
-    row_is : (i : ℕ) → i < length (aims_of unit.forest ops) → row_at (rows_of slots) i ≡ row_of (slot_for marks (spot_at spots i) i (aim_at (aims_of unit.forest ops) i))
+    row_is : (i : ℕ) → i < length aims → row_at (rows_of slots) i ≡ row_of (slot_for marks (named i) i (aim_at aims i))
     row_is i lt =
         let d : Slot = record { kind = TheUleb; fixed = 0; from = 0; to = 0 } in
         get_or-map row_of slots i d _ (subst (λ (z : ℕ). i < z) (sym made.count) lt) ∙ ap row_of (made.each i d lt)
 
-    pub are_slots : OneSize → HaveValues unit.forest.entries (length unit.forest.values) → AreSlots unit table columns numbers ops spots (rows_of slots)
+    pub are_slots : OneSize → HaveValues unit.forest.entries (length unit.forest.values) → AreSlots unit table columns numbers ops more (all_spots spots lists) (rows_of slots)
     are_slots one_size valued = record {
       count = rows_many;
       each = λ sizes lens start xs ys to long under full i lt.
-          let known : i < length (aims_of unit.forest ops) = subst (λ (z : ℕ). i < z) rows_many lt in
-          subst (λ (z : SlotRow). IsRowOf unit.forest ops xs sizes start (spot_place xs ys (spot_at spots i)) i (aim_at (aims_of unit.forest ops) i) z) (sym (row_is i known)) (is_row one_size valued sizes lens start xs ys to under full (aim_at (aims_of unit.forest ops) i) (spot_at spots i) i (spot_one unit ops spots are i known));
+          let known : i < length aims = subst (λ (z : ℕ). i < z) rows_many lt in
+          subst (λ (z : SlotRow). IsRowOf unit.forest ops xs sizes start (spot_place xs ys (named i)) i (aim_at aims i) z) (sym (row_is i known)) (is_row one_size valued sizes lens start xs ys to under full (aim_at aims i) (named i) i (one_at i known));
     }
 
-    module _ (within : AreWithin (2 ^ 31) (aims_of unit.forest ops)) where
+    module _ (own_within : AreWithin (2 ^ 31) (aims_of unit.forest ops)) where
+      within : AreWithin (2 ^ 31) aims
+      within = within_append (2 ^ 31) (aims_of unit.forest ops) more own_within (lists_within unit more lists listed)
+
       pub ranges_inside : HaveValues unit.forest.entries (length unit.forest.values) → HasRangesInside (rows_of slots)
       ranges_inside valued i lt =
-          let known : i < length (aims_of unit.forest ops) = subst (λ (z : ℕ). i < z) rows_many lt in
-          let aim : Aim = aim_at (aims_of unit.forest ops) i in
-          let spot : Spot = spot_at spots i in
-          let inside = range_inside aim spot i valued (spot_one unit ops spots are i known) known (within_at (2 ^ 31) (aims_of unit.forest ops) i within known) in
-          let here = subst (λ (z : SlotRow). (z.from ≤ z.to) × (z.to ≤ length (aims_of unit.forest ops))) (sym (row_is i known)) inside in
+          let known : i < length aims = subst (λ (z : ℕ). i < z) rows_many lt in
+          let own : length (aims_of unit.forest ops) ≤ length aims = let both = length-append (aims_of unit.forest ops) more in omega (arith, both) in
+          let inside = range_inside (aim_at aims i) (named i) i (length aims) valued (one_at i known) own known (within_at (2 ^ 31) aims i within known) in
+          let here = subst (λ (z : SlotRow). (z.from ≤ z.to) × (z.to ≤ length aims)) (sym (row_is i known)) inside in
           (here.0, subst (λ (z : ℕ). (row_at (rows_of slots) i).to ≤ z) (sym rows_many) here.1)
 
       pub small_fixed : HasSmallFixed (rows_of slots)
       small_fixed i lt =
-          let known : i < length (aims_of unit.forest ops) = subst (λ (z : ℕ). i < z) rows_many lt in
-          subst (λ (z : SlotRow). z.fixed < 2 ^ 31) (sym (row_is i known)) (fixed_small (aim_at (aims_of unit.forest ops) i) (spot_at spots i) i (length (aims_of unit.forest ops) - suc i) (spot_one unit ops spots are i known) (within_at (2 ^ 31) (aims_of unit.forest ops) i within known))
+          let known : i < length aims = subst (λ (z : ℕ). i < z) rows_many lt in
+          subst (λ (z : SlotRow). z.fixed < 2 ^ 31) (sym (row_is i known)) (fixed_small (aim_at aims i) (named i) i (length aims - suc i) (one_at i known) (within_at (2 ^ 31) aims i within known))

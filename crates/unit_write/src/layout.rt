@@ -3,15 +3,17 @@ ghost use Rattle.std.specs.Prelude.{◌≡◌, ◌≤◌, ◌<◌, ◌+◌, ◌*
 ghost use Rattle.std.specs.List.{All};
 ghost use Rattle.dw_base.specs.declared.fault.Reach.TheVariants.{Narrow};
 ghost use Rattle.entry_read.specs.Expressions.{HasOperations};
+ghost use Rattle.expr_ops.specs.Slots.{Aim};
+ghost use Rattle.slot_layout.specs.Rows.{most_slots};
 ghost use Rattle.entry_read.specs.Slots.{operations_in};
 ghost use Rattle.unit_write.specs.Lens.{AreLensFor};
 ghost use Rattle.unit_write.specs.Most.{most_bytes};
 ghost use Rattle.unit_write.specs.Moved.{IsWritable};
-ghost use Rattle.unit_write.specs.Slots.{AreSpotsOf, IsLaidOut};
+ghost use Rattle.unit_write.specs.Slots.{AreSpotsOf, AreListSlots, IsLaidOut, all_spots};
 ghost use Rattle.unit_write.specs.inside.Marks.{AreLensWith};
 
 use crate::measure::{Measured, measure};
-use crate::slots::{Spot, measured_slots};
+use crate::slots::{ListSlot, Spot, measured_slots};
 use abbrev_tables::{Spec, Table};
 use dw_base::NoMemory;
 use entry_arena::Operations;
@@ -23,7 +25,7 @@ use std::alloc::Global;
 // The sum of some sizes.
 fn sum_of(sizes: &[u8]) -> u32
     requires small { All (λ size. size ≤ 5) sizes.now }
-    requires few { length sizes.now ≤ 2 ^ 28 }
+    requires few { length sizes.now ≤ most_slots }
     ensures { result ≡ sum sizes.now }
 {
     let mut sum = 0;
@@ -36,9 +38,9 @@ fn sum_of(sizes: &[u8]) -> u32
 // Adds to each number the sizes of its slots, which are so many and stand one after the other.
 fn add_sizes(lens: &mut Vec<u32>, slots: &[u32], sizes: &[u8])
     requires each { length slots.now ≡ length lens.old.items }
-    requires all { sum slots.now ≡ length sizes.now }
+    requires all { sum slots.now ≤ length sizes.now }
     requires small { All (λ size. size ≤ 5) sizes.now }
-    requires few { length sizes.now ≤ 2 ^ 28 }
+    requires few { length sizes.now ≤ most_slots }
     requires room { All (λ len. len < 2 ^ 31) lens.old.items }
     ensures { AreLensWith lens.old.items slots.now sizes.now lens.new.items }
 {
@@ -50,12 +52,22 @@ fn add_sizes(lens: &mut Vec<u32>, slots: &[u32], sizes: &[u8])
     }
 }
 
-/// How many bytes each value of a unit gets that is an expression, with its length, or a reference within the unit, where the unit is
-/// written anew with the new columns `specs` and codes `numbers` of its table `decls`; none for another value.
+/// How the slots of a unit are laid out.
+#[derive(Drop)]
+pub struct LaidOut {
+    /// How many bytes each value gets that is an expression, with its length, or a reference within the unit; none for another value.
+    pub lens: Vec<u32>,
+    /// Why no slot can be smaller: the ranks of all steps, in the order of the slots, as `slot_layout` says.
+    pub ranks: Vec<u64>,
+}
+
+/// Lays out the slots of a unit that is written anew with the new columns `specs` and codes `numbers` of its table `decls`, and of the
+/// location lists that it owns.
 ///
-/// The slots of the unit, which `slots_of` names, have the least sizes under which each holds its own number, counted from the unit's
-/// first byte (DWARF 5 sections 2.5.1.1 to 2.5.1.7, 7.5.5 and 7.6): these depend on each other, and no other sizes have a smaller sum.
-/// `spots` says for each slot what it names. There are at most 2^28. The only error is want of memory.
+/// The slots, which `slots_of` names, have the least sizes under which each holds its own number, counted from the unit's
+/// first byte (DWARF 5 sections 2.5.1.1 to 2.5.1.7, 2.6.2, 7.5.5 and 7.6): these depend on each other, and no other sizes have a smaller
+/// sum. `spots` says for each slot of the unit what it names, and `lists` what those of the lists tell. There are at most 17 * 2^24
+/// together, as every unit within the narrow limits has. The only error is want of memory.
 pub fn lay_out(
     alloc: Global,
     unit: &Unit<'_>,
@@ -64,20 +76,22 @@ pub fn lay_out(
     specs: &Vec<Spec>,
     numbers: &Vec<u32>,
     spots: &Vec<Spot>,
-) -> Result<Vec<u32>, NoMemory>
+    lists: &[ListSlot],
+) -> Result<LaidOut, NoMemory>
     requires operations { HasOperations Narrow unit.now.forest operations.now }
     requires writable { (lens : List ℕ) → AreLensFor unit.now.forest lens → IsWritable unit.now decls.now specs.now.items numbers.now.items lens }
     requires room { most_bytes unit.now < 2 ^ 31 }
-    requires few { length spots.now.items ≤ 2 ^ 28 }
+    requires few { length spots.now.items + length lists.now ≤ most_slots }
     requires spots { AreSpotsOf unit.now (operations_in unit.now.forest operations.now) spots.now.items }
-    ensures laid_out { IfOk result (λ lens. IsLaidOut unit.now decls.now specs.now.items numbers.now.items (operations_in unit.now.forest operations.now) spots.now.items lens.items) }
-    ensures lens { IfOk result (λ lens. AreLensFor unit.now.forest lens.items) }
+    requires lists { (more : List Aim) × AreListSlots unit.now more lists.now }
+    ensures laid_out { IfOk result (λ laid. (more : List Aim) → AreListSlots unit.now more lists.now → IsLaidOut unit.now decls.now specs.now.items numbers.now.items (operations_in unit.now.forest operations.now) more (all_spots spots.now.items lists.now) laid.lens.items laid.ranks.items) }
+    ensures lens { IfOk result (λ laid. AreLensFor unit.now.forest laid.lens.items) }
 {
     // Laws, which cost nothing: with five bytes for each slot an expression gets at most three times its bytes.
     slots_are_few();
     let measured = measure(alloc, unit, operations)?;
     let slots = measured_slots(
-        alloc, unit, operations, decls, specs, numbers, &measured, spots,
+        alloc, unit, operations, decls, specs, numbers, &measured, spots, lists,
     )?;
     let layout = solve(alloc, &slots)?;
     let Measured {
@@ -85,5 +99,8 @@ pub fn lay_out(
         slots: counts,
     } = measured;
     add_sizes(&mut lens, &counts, &layout.sizes);
-    Ok(lens)
+    Ok(LaidOut {
+        lens,
+        ranks: layout.ranks,
+    })
 }

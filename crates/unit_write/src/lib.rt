@@ -5,6 +5,8 @@ mod expressions;
 mod items;
 mod laws;
 mod layout;
+#[cfg(test)]
+mod layout_tests;
 mod marks;
 mod measure;
 mod parts;
@@ -21,7 +23,7 @@ pub use expressions::{NewExpressions, write_expressions};
 pub use laws::{
     bytes_are_small, layouts_hold, one_placing, one_size, slots_fit, values_have_sizes,
 };
-pub use layout::lay_out;
+pub use layout::{LaidOut, lay_out};
 pub use places::{Places, place_unit};
-pub use slots::{Spot, slots_of};
+pub use slots::{ListSlot, Spot, slots_of};
 pub use write::{NewNumbers, write_unit};

@@ -70,7 +70,7 @@ pub(crate) fn has_room(unit: &Unit<'_>, start: u64) -> bool
 }
 
 // Whether these are new codes of the declarations of a table without columns.
-fn are_codes(table: &Table, numbers: &Vec<u32>) -> bool
+pub(crate) fn are_codes(table: &Table, numbers: &Vec<u32>) -> bool
     ensures bare { IsTrue result → length table.now.specs ≡ 0 }
     ensures numbered { IsTrue result → length numbers.now.items ≡ length table.now.decls }
     ensures used { IsTrue result → All (λ number. number ≢ 0) numbers.now.items }

@@ -1,19 +1,20 @@
 // The slots of a unit.
-ghost use Rattle.std.specs.Prelude.{◌≡◌, ◌≤◌, ◌<◌, ◌+◌, ◌++◌, ◌^◌, ℕ, suc, List, length, true, IfOk, OnOk};
+ghost use Rattle.std.specs.Prelude.{◌≡◌, ◌≤◌, ◌<◌, ◌+◌, ◌*◌, ◌++◌, ◌^◌, ℕ, suc, List, length, map, true, IfOk, OnOk};
+ghost use Rattle.std.specs.List.{All};
 ghost use Rattle.dw_base.specs.declared.fault.Reach.TheVariants.{Narrow};
 ghost use Rattle.expr_ops.specs.Expressions.{Operation};
 ghost use Rattle.expr_ops.specs.Ops.{meant, all_meant};
 ghost use Rattle.expr_ops.specs.Drafts.{is_slot};
 ghost use Rattle.expr_ops.specs.Shortest.{fixed_length};
 ghost use Rattle.expr_ops.specs.Slots.{Aim, slots_among, length_aim, op_aim, expression_aims};
-ghost use Rattle.slot_layout.specs.Rows.{rows_of, HasRangesInside, HasSmallFixed};
+ghost use Rattle.slot_layout.specs.Rows.{rows_of, HasRangesInside, HasSmallFixed, most_slots};
 ghost use Rattle.entry_read.specs.Expressions.{HasOperations};
 ghost use Rattle.entry_read.specs.Slots.{aims_of, aims_before, meaning_at, operations_in};
 ghost use Rattle.unit_write.specs.Lens.{AreLensFor};
 ghost use Rattle.unit_write.specs.Most.{most_bytes};
 ghost use Rattle.unit_write.specs.Moved.{IsWritable};
-ghost use Rattle.unit_write.specs.Slots.{AreSpotsOf, AreSlots};
-ghost use Rattle.unit_write.specs.inside.Marks.{slot_for, HasSpotFor, HaveSpots, AreSlotsMade, AreMeasured};
+ghost use Rattle.unit_write.specs.Slots.{AreSpotsOf, AreListSlots, AreSlots, list_spot, all_spots};
+ghost use Rattle.unit_write.specs.inside.Marks.{slot_for, HasSpotFor, HaveSpots, AreSlotsMade, AreMeasured, list_aim, list_count, HasListSpot};
 
 use crate::laws::one_size;
 use crate::marks::Marks;
@@ -36,6 +37,16 @@ pub enum Spot {
     End(u32),
     /// Nothing: the slot is the length of an expression.
     Nothing,
+}
+
+/// A slot of an expression of a location list that the unit owns.
+#[derive(Clone, Copy)]
+pub enum ListSlot {
+    /// The length of an expression, or of one inside it: how many of its bytes are no slot's, and how many slots it has, which stand
+    /// directly behind.
+    Length(u32, u32),
+    /// A reference: what holds its number, and what it names in the unit.
+    Place(SlotKind, Spot),
 }
 
 // The slot with a number, which is the length of the expression that some operations are.
@@ -129,7 +140,38 @@ fn push_value_slots(
     }
 }
 
-// The slots of a unit whose values were measured.
+// The slot with a number which is one of a list.
+fn list_slot(number: usize, slot: ListSlot, marks: &Marks) -> Slot
+    requires spot { HasListSpot marks.now slot }
+    requires few { suc number + list_count slot < 2 ^ 32 }
+    ensures { result ≡ slot_for marks.now (list_spot slot) number (list_aim slot) }
+{
+    match slot {
+        ListSlot::Length(fixed, count) => Slot {
+            kind: SlotKind::Uleb,
+            fixed: u64::from(fixed),
+            from: number as u32 + 1,
+            to: number as u32 + 1 + count,
+        },
+        ListSlot::Place(kind, spot) => marks.slot(kind, spot),
+    }
+}
+
+// Appends the slots of lists, of which `lists` says what they tell.
+fn push_list_slots(slots: &mut Vec<Slot>, marks: &Marks, lists: &[ListSlot]) -> Result<(), NoMemory>
+    requires spots { All (HasListSpot marks.now) lists.now }
+    requires counts { All (λ slot. list_count slot ≤ length lists.now) lists.now }
+    requires few { length slots.old.items + 2 * length lists.now < 2 ^ 32 }
+    ensures { OnOk result ((spots : List Spot) (aims : List Aim) → length spots ≡ length aims → AreSlotsMade marks.now spots aims slots.old.items → AreSlotsMade marks.now (all_spots spots lists.now) (aims ++ map list_aim lists.now) slots.new.items) }
+{
+    for slot in lists {
+        let made = list_slot(slots.len(), *slot, marks);
+        slots.push(made)?;
+    }
+    Ok(())
+}
+
+// The slots of a unit whose values were measured, and behind them those of lists.
 pub(crate) fn measured_slots(
     alloc: Global,
     unit: &Unit<'_>,
@@ -139,14 +181,16 @@ pub(crate) fn measured_slots(
     numbers: &Vec<u32>,
     measured: &Measured,
     spots: &Vec<Spot>,
+    lists: &[ListSlot],
 ) -> Result<Vec<Slot>, NoMemory>
     requires operations { HasOperations Narrow unit.now.forest operations.now }
     requires writable { (lens : List ℕ) → AreLensFor unit.now.forest lens → IsWritable unit.now decls.now specs.now.items numbers.now.items lens }
     requires room { most_bytes unit.now < 2 ^ 31 }
     requires measured { AreMeasured unit.now.forest (operations_in unit.now.forest operations.now) measured.now }
-    requires few { length spots.now.items ≤ 2 ^ 28 }
+    requires few { length spots.now.items + length lists.now ≤ most_slots }
     requires spots { AreSpotsOf unit.now (operations_in unit.now.forest operations.now) spots.now.items }
-    ensures slots { IfOk result (λ slots. AreSlots unit.now decls.now specs.now.items numbers.now.items (operations_in unit.now.forest operations.now) spots.now.items (rows_of slots.items)) }
+    requires lists { (more : List Aim) × AreListSlots unit.now more lists.now }
+    ensures slots { IfOk result (λ slots. (more : List Aim) → AreListSlots unit.now more lists.now → AreSlots unit.now decls.now specs.now.items numbers.now.items (operations_in unit.now.forest operations.now) more (all_spots spots.now.items lists.now) (rows_of slots.items)) }
     ensures inside { IfOk result (λ slots. HasRangesInside (rows_of slots.items)) }
     ensures small { IfOk result (λ slots. HasSmallFixed (rows_of slots.items)) }
 {
@@ -158,6 +202,7 @@ pub(crate) fn measured_slots(
     for number in 0..unit.forest().value_count() {
         push_value_slots(&mut slots, unit, operations, &marks, spots, number)?;
     }
+    push_list_slots(&mut slots, &marks, lists)?;
     Ok(slots)
 }
 
@@ -167,7 +212,9 @@ pub(crate) fn measured_slots(
 ///
 /// These are its references within itself, the lengths of expressions, and in expressions the calls and the references to base types. A
 /// reference counts the bytes from the unit's first one up to what it names, and a length those of the expression, whatever sizes the
-/// slots get. `spots` says for each slot what it names. There are at most 2^28. The only error is want of memory.
+/// slots get. `spots` says for each slot what it names. Behind them stand the slots of the location lists that the unit owns, of which
+/// `lists` says what they tell. There are at most 17 * 2^24 together, as every unit within the narrow limits has. The only error is want of
+/// memory.
 pub fn slots_of(
     alloc: Global,
     unit: &Unit<'_>,
@@ -176,18 +223,20 @@ pub fn slots_of(
     specs: &Vec<Spec>,
     numbers: &Vec<u32>,
     spots: &Vec<Spot>,
+    lists: &[ListSlot],
 ) -> Result<Vec<Slot>, NoMemory>
     requires operations { HasOperations Narrow unit.now.forest operations.now }
     requires writable { (lens : List ℕ) → AreLensFor unit.now.forest lens → IsWritable unit.now decls.now specs.now.items numbers.now.items lens }
     requires room { most_bytes unit.now < 2 ^ 31 }
-    requires few { length spots.now.items ≤ 2 ^ 28 }
+    requires few { length spots.now.items + length lists.now ≤ most_slots }
     requires spots { AreSpotsOf unit.now (operations_in unit.now.forest operations.now) spots.now.items }
-    ensures slots { IfOk result (λ slots. AreSlots unit.now decls.now specs.now.items numbers.now.items (operations_in unit.now.forest operations.now) spots.now.items (rows_of slots.items)) }
+    requires lists { (more : List Aim) × AreListSlots unit.now more lists.now }
+    ensures slots { IfOk result (λ slots. (more : List Aim) → AreListSlots unit.now more lists.now → AreSlots unit.now decls.now specs.now.items numbers.now.items (operations_in unit.now.forest operations.now) more (all_spots spots.now.items lists.now) (rows_of slots.items)) }
     ensures inside { IfOk result (λ slots. HasRangesInside (rows_of slots.items)) }
     ensures small { IfOk result (λ slots. HasSmallFixed (rows_of slots.items)) }
 {
     let measured = measure(alloc, unit, operations)?;
     measured_slots(
-        alloc, unit, operations, decls, specs, numbers, &measured, spots,
+        alloc, unit, operations, decls, specs, numbers, &measured, spots, lists,
     )
 }

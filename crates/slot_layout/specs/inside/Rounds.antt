@@ -1,11 +1,11 @@
 -- The rounds that find a layout, and what each keeps.
 use Rattle.std.specs.Prelude.{◌≡◌, ◌≤◌, ◌<◌, ◌+◌, ◌^◌, ℕ, List, [], ◌∷◌, ◌++◌, length, take, map, sum, max, slice_index, slice_index_or}
 use Rattle.leb_codec.specs.Layout.{SlotRow, row_at, slot_number, need, size_after, steps_to}
-use Rattle.slot_layout.specs.Rows.{HasRangesInside, HasSmallFixed}
+use Rattle.slot_layout.specs.Rows.{HasRangesInside, HasSmallFixed, most_slots}
 
 -- what a slot list must be
 pub record AreSlots (rows : List SlotRow) : Type 0 where
-  pub few : length rows ≤ 2 ^ 28
+  pub few : length rows ≤ most_slots
   pub inside : HasRangesInside rows
   pub small : HasSmallFixed rows
 
@@ -20,7 +20,7 @@ pub record AreStarts (sizes starts : List ℕ) : Type 0 where
 
 -- so many sizes, each of 1 to 5 bytes
 pub record AreSmall (sizes : List ℕ) : Type 0 where
-  pub few : length sizes ≤ 2 ^ 28
+  pub few : length sizes ≤ most_slots
   pub some : (i : ℕ) → i < length sizes → 1 ≤ slice_index sizes i
   pub each : (i : ℕ) → i < length sizes → slice_index sizes i ≤ 5
 

@@ -8,6 +8,7 @@ use Rattle.abbrev_tables.specs.Tables.{Declared}
 use Rattle.slot_layout.specs.declared.slots.Slot.{Slot}
 use Rattle.slot_layout.specs.declared.slots.SlotKind.{SlotKind}
 use Rattle.slot_layout.specs.declared.slots.SlotKind.TheVariants.{Uleb as TheUleb, Call as TheCall}
+use Rattle.slot_layout.specs.Rows.{form_of}
 use Rattle.expr_ops.specs.Expressions.{Operation}
 use Rattle.expr_ops.specs.Shortest.{fixed_length}
 use Rattle.expr_ops.specs.Slots.{Aim}
@@ -21,10 +22,12 @@ use Rattle.entry_read.specs.Slots.{meaning_at, value_aims, slots_before, aim_at}
 use Rattle.entry_read.specs.Units.{HeadAndForest}
 use Rattle.unit_write.specs.declared.marks.Marks.{Marks}
 use Rattle.unit_write.specs.declared.measure.Measured.{Measured}
+use Rattle.unit_write.specs.declared.slots.ListSlot.{ListSlot}
+use Rattle.unit_write.specs.declared.slots.ListSlot.TheVariants.{Length as ListLength, Place as ListPlace}
 use Rattle.unit_write.specs.declared.slots.Spot.{Spot}
 use Rattle.unit_write.specs.declared.slots.Spot.TheVariants.{Entry as TheEntry, End as TheEnd, Nothing as NoSpot}
 use Rattle.unit_write.specs.Moved.{IsPlacedAt}
-use Rattle.unit_write.specs.Slots.{spot_place, spot_at}
+use Rattle.unit_write.specs.Slots.{spot_place, spot_at, list_spot}
 
 -- VALUES
 
@@ -122,3 +125,19 @@ slot_for marks spot i (Length fixed count) = record { kind = TheUleb; fixed = fi
 pub record AreSlotsMade (marks : Marks) (spots : List Spot) (aims : List Aim) (slots : List Slot) : Type 0 where
   pub count : length slots ≡ length aims
   pub each : (i : ℕ) (d : Slot) → i < length aims → slice_index_or slots i d ≡ slot_for marks (spot_at spots i) i (aim_at aims i)
+
+-- SLOTS OF LISTS
+
+-- what a slot of a list tells; the slot of a place doesn't depend on where the place was, so any number stands for it
+abbrev pub list_aim : ListSlot → Aim
+list_aim (ListPlace kind spot) = Place (form_of kind) 0
+list_aim (ListLength fixed count) = Length fixed count
+
+-- how many slots it counts behind it
+abbrev pub list_count : ListSlot → ℕ
+list_count (ListPlace kind spot) = 0
+list_count (ListLength fixed count) = count
+
+-- where it tells a place, the marks have its spot
+abbrev pub HasListSpot : Marks → ListSlot → Type 0
+HasListSpot marks slot = HasSpotFor marks (list_aim slot) (list_spot slot)

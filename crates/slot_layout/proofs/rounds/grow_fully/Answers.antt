@@ -1,6 +1,6 @@
 use Rattle.std.proofs.Common.{◌≡◌, ◌<◌, ◌+◌, ◌-◌, ◌*◌, ◌^◌, ℕ, suc, [], List, length, get_or, sum, ap, ◌∙◌, sym, subst, arith}
 use Rattle.leb_codec.specs.Layout.{IsLayout, IsLowestLayout, IsLeastLayout, HasNarrowNumbers, AcceptsLayout, HasFirstRanks}
-use Rattle.slot_layout.specs.Rows.{rows_of, IsTight}
+use Rattle.slot_layout.specs.Rows.{rows_of, IsTight, most_slots}
 use Rattle.slot_layout.specs.inside.Rounds.{AreSmall, joined}
 use Rattle.slot_layout.proofs.SumLaws.{sum-small}
 use Rattle.slot_layout.proofs.RoundLaws.{rounds, rounds_length, rounds_small, rounds_lowest, number_below, still_member, still_least, still_tight}
@@ -40,7 +40,7 @@ next c = grown_sizes (rows_of c.args.slots.now) c.loop-rank.rank c.loop-rank.siz
 pub loop-rank-smaller : goal.loop-rank-smaller
 loop-rank-smaller c =
     let small : AreSmall c.grow.new.sizes = rw (next c) (rounds_small c.least_lens.ensures.u (rows_of c.args.slots.now) c.requires.slots (suc c.loop-rank.rank)) in
-    let less : 5 * 2 ^ 28 - sum c.grow.new.sizes < 5 * 2 ^ 28 - sum c.loop-rank.sizes = omega (arith, sum-small c.grow.new.sizes small, c.grow.ensures.more c.loop-rank-test.true) in
+    let less : 5 * most_slots - sum c.grow.new.sizes < 5 * most_slots - sum c.loop-rank.sizes = omega (arith, sum-small c.grow.new.sizes small, c.grow.ensures.more c.loop-rank-test.true) in
     less
 
 pub loop-rank-preserved : goal.loop-rank-preserved

@@ -1,5 +1,5 @@
 use Rattle.std.proofs.Common.{◌≡◌, ◌≤◌, ◌<◌, ◌+◌, ◌-◌, ◌*◌, ◌^◌, ℕ, [], length, get_or, sum}
-use Rattle.slot_layout.specs.Rows.{rows_of}
+use Rattle.slot_layout.specs.Rows.{rows_of, most_slots}
 use Rattle.slot_layout.proofs.RoundLaws.{rounds}
 use Rattle.slot_layout.proofs.RankLaws.{IsRanked}
 use Rattle.slot_layout.proofs.rounds.grow_fully.Given as goal
@@ -14,4 +14,4 @@ invariant-loop-rank l = record {
 }
 
 abbrev pub decreases-loop-rank : goal.decreases-loop-rank
-decreases-loop-rank l = 5 * 2 ^ 28 - sum l.sizes
+decreases-loop-rank l = 5 * most_slots - sum l.sizes

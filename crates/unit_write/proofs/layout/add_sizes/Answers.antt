@@ -1,5 +1,6 @@
 use Rattle.std.proofs.Common.{rules, ◌≡◌, ◌≤◌, ◌<◌, ◌+◌, ◌-◌, ◌^◌, ◌∙◌, ℕ, List, length, set, get_or, sym, subst, arith}
 use Rattle.std.proofs.lemmas.List.{get_or_default}
+use Rattle.slot_layout.specs.Rows.{most_slots}
 use Rattle.unit_write.proofs.SlotLists.{part_few}
 use Rattle.unit_write.proofs.SlotLens.{AreSizesAdded, sizes_sum, more_added}
 use Rattle.unit_write.proofs.layout.add_sizes.Goals as goal
@@ -18,7 +19,7 @@ overflow_add-index_mut c =
     let own = c.sum_of.ensures in
     let part = part_few sizes c.loop-number.slot (c.loop-number.slot + get_or c.args.slots.now k 0 - c.loop-number.slot) in
     let few = sizes_sum sizes c.requires.small in
-    let room : length sizes ≤ 2 ^ 28 = c.requires.few in
+    let room : length sizes ≤ most_slots = c.requires.few in
     omega (arith, read, left, small, own, part, few, room)
 
 pub loop-number-preserved : goal.loop-number-preserved

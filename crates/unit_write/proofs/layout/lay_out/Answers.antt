@@ -1,14 +1,16 @@
-use Rattle.std.proofs.Common.{◌≡◌, ◌≤◌, ◌∙◌, ℕ, List, All, length, sum, sym, ap, subst, arith}
-use Rattle.std.proofs.lemmas.List.{length-map}
+use Rattle.std.proofs.Common.{◌≡◌, ◌≤◌, ◌+◌, ◌∙◌, ℕ, List, All, length, sum, sym, ap, subst, arith}
+use Rattle.std.proofs.lemmas.List.{length-append, length-map}
 use Rattle.std.proofs.lemmas.Slice.Zip.{AllZip-long}
 use Rattle.leb_codec.specs.Layout.{SlotRow}
 use Rattle.slot_layout.specs.Rows.{rows_of, row_of}
+use Rattle.expr_ops.specs.Slots.{Aim}
 use Rattle.entry_arena.specs.Arena.{Arena}
 use Rattle.entry_read.specs.Slots.{aims_of, operations_in}
 use Rattle.unit_write.specs.Slots.{IsSpotFor}
 use Rattle.unit_write.specs.inside.Marks.{AreLensWith}
+use Rattle.unit_write.proofs.ListSlots.{lists_many}
 use Rattle.unit_write.proofs.ShortSpans.{short_of}
-use Rattle.unit_write.proofs.LaidOut.{sizes_small, all_slots, lens_under, lens_laid, fixed_room}
+use Rattle.unit_write.proofs.Lengths.{sizes_small, all_slots, lens_under, lens_laid, fixed_room}
 use Rattle.unit_write.proofs.layout.lay_out.Goals as goal
 
 pub measure-requires-clause-short : goal.measure-requires-clause-short
@@ -17,17 +19,25 @@ measure-requires-clause-short c = short_of c.args.unit.now c.args.decls.now c.ar
 pub solve-requires-clause-few : goal.solve-requires-clause-few
 solve-requires-clause-few c =
     let f : Arena = c.args.unit.now.forest in
-    let aims = aims_of f (operations_in f c.args.operations.now) in
-    let rows : length (rows_of c.in_ok-slots.slots.items) ≡ length aims = c.in_ok-slots.ensures.slots.count in
+    let aims : List Aim = aims_of f (operations_in f c.args.operations.now) in
+    let (more, listed) = c.requires.lists in
+    let rows : length (rows_of c.in_ok-slots.slots.items) ≡ length aims + length more = (c.in_ok-slots.ensures.slots more listed).count ∙ length-append aims more in
     let count : length (rows_of c.in_ok-slots.slots.items) ≡ length c.in_ok-slots.slots.items = length-map c.in_ok-slots.slots.items row_of in
     let spots : length c.args.spots.now.items ≡ length aims = AllZip-long (IsSpotFor f c.args.unit.now.head.at) aims c.args.spots.now.items c.requires.spots in
+    let lists = lists_many c.args.unit.now more c.args.lists.now listed in
     let few = c.requires.few in
-    omega (arith, rows, count, spots, few)
+    omega (arith, rows, count, spots, lists, few)
 
 pub add_sizes-requires-clause-all : goal.add_sizes-requires-clause-all
 add_sizes-requires-clause-all c =
     let f : Arena = c.args.unit.now.forest in
-    ap sum c.deref.ensures.value ∙ all_slots f (operations_in f c.args.operations.now) c.in_ok-measured.measured c.in_ok-measured.ensures.measured ∙ sym c.in_ok-slots.ensures.slots.count ∙ sym c.in_ok-layout.ensures.member.same_length ∙ sym (ap length c.deref-2.ensures.value)
+    let aims : List Aim = aims_of f (operations_in f c.args.operations.now) in
+    let (more, listed) = c.requires.lists in
+    let own = ap sum c.deref.ensures.value ∙ all_slots f (operations_in f c.args.operations.now) c.in_ok-measured.measured c.in_ok-measured.ensures.measured in
+    let rows : length (rows_of c.in_ok-slots.slots.items) ≡ length aims + length more = (c.in_ok-slots.ensures.slots more listed).count ∙ length-append aims more in
+    let long : length c.in_ok-layout.layout.sizes.items ≡ length (rows_of c.in_ok-slots.slots.items) = c.in_ok-layout.ensures.member.same_length in
+    let lent : length c.deref-2.result.now ≡ length c.in_ok-layout.layout.sizes.items = ap length c.deref-2.ensures.value in
+    omega (arith, own, rows, long, lent)
 
 pub add_sizes-requires-clause-small : goal.add_sizes-requires-clause-small
 add_sizes-requires-clause-small c =
@@ -37,13 +47,15 @@ add_sizes-requires-clause-small c =
 pub add_sizes-requires-clause-few : goal.add_sizes-requires-clause-few
 add_sizes-requires-clause-few c =
     let f : Arena = c.args.unit.now.forest in
-    let aims = aims_of f (operations_in f c.args.operations.now) in
-    let rows : length (rows_of c.in_ok-slots.slots.items) ≡ length aims = c.in_ok-slots.ensures.slots.count in
+    let aims : List Aim = aims_of f (operations_in f c.args.operations.now) in
+    let (more, listed) = c.requires.lists in
+    let rows : length (rows_of c.in_ok-slots.slots.items) ≡ length aims + length more = (c.in_ok-slots.ensures.slots more listed).count ∙ length-append aims more in
     let long : length c.in_ok-layout.layout.sizes.items ≡ length (rows_of c.in_ok-slots.slots.items) = c.in_ok-layout.ensures.member.same_length in
     let lent : length c.deref-2.result.now ≡ length c.in_ok-layout.layout.sizes.items = ap length c.deref-2.ensures.value in
     let spots : length c.args.spots.now.items ≡ length aims = AllZip-long (IsSpotFor f c.args.unit.now.head.at) aims c.args.spots.now.items c.requires.spots in
+    let lists = lists_many c.args.unit.now more c.args.lists.now listed in
     let few = c.requires.few in
-    omega (arith, rows, long, lent, spots, few)
+    omega (arith, rows, long, lent, spots, lists, few)
 
 pub add_sizes-requires-clause-room : goal.add_sizes-requires-clause-room
 add_sizes-requires-clause-room c =
@@ -51,17 +63,19 @@ add_sizes-requires-clause-room c =
     fixed_room c.args.unit.now.forest c.args.operations.now c.requires.operations c.slots_are_few.ensures.opcodes c.slots_are_few.ensures.few short c.in_ok-measured.measured c.in_ok-measured.ensures.measured
 
 pub returns-clause-laid_out : goal.returns-clause-laid_out
-returns-clause-laid_out c =
+returns-clause-laid_out c = λ more listed.
     let f : Arena = c.args.unit.now.forest in
     let counts = subst (λ (z : List ℕ). AreLensWith c.in_ok-measured.measured.fixed.items z c.deref-2.result.now c.add_sizes.new.lens.items) c.deref.ensures.value c.add_sizes.ensures in
     let added = subst (λ (z : List ℕ). AreLensWith c.in_ok-measured.measured.fixed.items c.in_ok-measured.measured.slots.items z c.add_sizes.new.lens.items) c.deref-2.ensures.value counts in
     record {
       rows = rows_of c.in_ok-slots.slots.items;
-      slots = c.in_ok-slots.ensures.slots;
+      slots = c.in_ok-slots.ensures.slots more listed;
       sizes = c.in_ok-layout.layout.sizes.items;
       layout = c.in_ok-layout.ensures.member;
       least = c.in_ok-layout.ensures.least;
       tight = c.in_ok-layout.ensures.tight;
+      accepted = c.in_ok-layout.ensures.accepted;
+      first = c.in_ok-layout.ensures.first_ranks;
       lens_are = lens_under f (operations_in f c.args.operations.now) c.in_ok-measured.measured c.in_ok-measured.ensures.measured c.in_ok-layout.layout.sizes.items c.add_sizes.new.lens.items added;
     }
 
