@@ -86,7 +86,7 @@ module _ (file : List ℕ) (world : World) (r : Reading) (tables : List NewTable
       let operations : HasOperations Narrow (unit_in world.units u).forest (operations_at world.operations u) = is.operations.each u (unit_in [] 0) known in
       let written : AreWrittenShortest (unit_in world.units u).forest (operations_at world.operations u) new.expressions.ends.items numbers.op_numbers new.expressions.bytes.items = subst (λ (h : HeadAndForest). AreWrittenShortest h.forest (operations_at world.operations u) new.expressions.ends.items numbers.op_numbers new.expressions.bytes.items) read_there numbers.expressions in
       let counts = spot_numbers file world Narrow r tables places new_places u new is holds known numbers p in
-      let same : lens_anew (unit_in world.units u).forest (new_values new) ≡ p.lens = hold (unit_in world.units u) (table_for world u) (new_table_at tables (slice_index world.table_of u)).columns (new_table_at tables (slice_index world.table_of u)).numbers (operations_at world.operations u) (new_values new) numbers.op_numbers p.spots p.lens (places_at places u).start (places_at places u).entries (places_at places u).ends (places_at places u).end operations p.named numbers_counted ends_known.rise.each p.laid_out p.placed counts written in
+      let same : lens_anew (unit_in world.units u).forest (new_values new) ≡ p.lens = hold (unit_in world.units u) (table_for world u) (new_table_at tables (slice_index world.table_of u)).columns (new_table_at tables (slice_index world.table_of u)).numbers (operations_at world.operations u) (new_values new) numbers.op_numbers p.more p.spots p.lists p.lens p.ranks (places_at places u).start (places_at places u).entries (places_at places u).ends (places_at places u).end operations p.named numbers_counted ends_known.rise.each p.laid_out p.placed counts written in
       subst (λ (lens : List ℕ). IsPlacedAt (unit_in world.units u) (table_for world u) (new_table_at tables (slice_index world.table_of u)).columns (new_table_at tables (slice_index world.table_of u)).numbers lens (places_at places u).start (places_at places u).entries (places_at places u).ends (places_at places u).end) (sym same) p.placed
 
 -- WHAT IS READ OF THE PARTS

@@ -171,7 +171,7 @@ module _ {file : List ℕ} {world : World} {tables : List NewTable} {places : Li
   -- LISTS THAT AREN'T FROZEN
 
   -- an entry names one
-  owner_of : (k : ℕ) → k < length (lists_of r kind) → (¬ IsFrozen r.links kind (old_list k)) → (owner : Option ℕ) → IsOwner r.links kind (old_at all kind k) owner → (u : ℕ) × IsOwner r.links kind (old_at all kind k) (Some u)
+  pub owner_of : (k : ℕ) → k < length (lists_of r kind) → (¬ IsFrozen r.links kind (old_list k)) → (owner : Option ℕ) → IsOwner r.links kind (old_at all kind k) owner → (u : ℕ) × IsOwner r.links kind (old_at all kind k) (Some u)
   owner_of k inside live (Some u) owned = (u, owned)
   owner_of k inside live None none = let (entries, said) = old_said k inside in absurd (live (entries, said, inr (inr (inl none))))
 

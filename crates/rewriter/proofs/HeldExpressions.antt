@@ -87,7 +87,7 @@ module _ (world : World) (is : IsWorldOf world.image Narrow world) (list : HeldL
   expressions_short = list_expressions_few world is Locations held.0 held.1 list.raw.items held.2.raws
 
   -- and its operations name what they may
-  are_linked : All (LinksSomething is.r.links (owner_in world list.owner)) (expressions_of section list.raw.items)
+  pub are_linked : All (LinksSomething is.r.links (owner_in world list.owner)) (expressions_of section list.raw.items)
   are_linked =
       let read = (is.read.lists Locations).expressions held.0 held.1 in
       let owner : read.owner ≡ list.owner = same_owners is.r.links Locations (list_at is.r.location_lists held.0).at read.owner list.owner read.owned held.2.owner in

@@ -5,6 +5,7 @@ pub mod Appends
 pub mod Arranged
 pub mod Assembled
 pub mod Behind
+pub mod Certified
 pub mod ChosenColumns
 pub mod Codes
 pub mod ColumnLaws
@@ -34,6 +35,7 @@ pub mod ListExpressionsAnew
 pub mod ListMeanings
 pub mod ListNames
 pub mod ListPieces
+pub mod ListRecords
 pub mod ListReferences
 pub mod ListTotals
 pub mod ListsAnew
@@ -56,12 +58,15 @@ pub mod NewBodies
 pub mod NewExpressions
 pub mod OffsetSizes
 pub mod OpNumbers
+pub mod OwnedAnew
+pub mod OwnedLists
 pub mod PairCounts
 pub mod PickedLists
 pub mod Placement
 pub mod PlannedLists
+pub mod RecordedLists
 pub mod Renumbers
-pub mod Rewritten
+pub mod FileAnew
 pub mod RootsStay
 pub mod RunsAnew
 pub mod SectionSizes
@@ -70,6 +75,8 @@ pub mod ShortestBytes
 pub mod SizedValues
 pub mod MovedSlots
 pub mod PlacedUnits
+pub mod SlotFronts
+pub mod SlotsOfLists
 pub mod SpotNumbers
 pub mod Stand
 pub mod Standing

@@ -77,7 +77,7 @@ none_put world places u section raws new bytes ends =
       are = λ file r holds linked. subst (λ (z : List ℕ). AllZip (IsNewExpression r.links places u) [] (pieces 0 z new.bytes.items)) (sym ends) tt;
     }
 
-expressions_more : (section : List ℕ) (raws : List RawEntry) (raw : RawEntry) → expressions_of section (raws ++ raw ∷ []) ≡ expressions_of section raws ++ cond (is_item raw) (bytes_in section raw.expr ∷ []) []
+pub expressions_more : (section : List ℕ) (raws : List RawEntry) (raw : RawEntry) → expressions_of section (raws ++ raw ∷ []) ≡ expressions_of section raws ++ cond (is_item raw) (bytes_in section raw.expr ∷ []) []
 expressions_more section raws raw =
     ap (map (λ (x : RawEntry). bytes_in section x.expr)) (filter-append is_item raws (raw ∷ []))
     ∙ map-append (λ (x : RawEntry). bytes_in section x.expr) (filter is_item raws) (filter is_item (raw ∷ []))

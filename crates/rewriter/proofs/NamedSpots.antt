@@ -1,9 +1,9 @@
 -- What the slots of a unit name, as they are found one after the other.
-use Rattle.std.proofs.Common.{◌≡◌, ◌≤◌, ◌<◌, ◌+◌, ◌^◌, ℕ, zero, suc, List, [], ◌∷◌, ◌++◌, length, drop, Bool, true, false, ◌∙◌, sym, ap, refl, subst, arith, inl, inr}
+use Rattle.std.proofs.Common.{◌≡◌, ◌≤◌, ◌<◌, ◌+◌, ◌^◌, ℕ, zero, suc, List, [], ◌∷◌, ◌++◌, length, Bool, true, false, ◌∙◌, sym, ap, refl, subst, arith, inl, inr}
 use Rattle.std.specs.Prelude.{◌⊎◌, Some, Result, Ok, Err, OnOk, nat_eq, if◌then◌else◌}
 use Rattle.std.specs.List.{All, AllZip}
 use Rattle.std.proofs.lemmas.Bool.{cases_eq, ne_eqb}
-use Rattle.std.proofs.lemmas.List.{append_assoc, append-nil}
+use Rattle.std.proofs.lemmas.List.{append-nil}
 use Rattle.std.proofs.lemmas.List.Elements.{All-from_get_or}
 use Rattle.dw_base.specs.declared.fault.NoMemory.{NoMemory}
 use Rattle.dw_base.specs.declared.fault.Reach.TheVariants.{Narrow, Wide}
@@ -13,7 +13,7 @@ use Rattle.expr_ops.specs.Expressions.{Operation, IsExpression}
 use Rattle.expr_ops.specs.Ops.{meant, all_meant}
 use Rattle.expr_ops.specs.Drafts.{is_slot, is_typed, is_generic, op_at}
 use Rattle.expr_ops.specs.Names.{named_by}
-use Rattle.expr_ops.specs.Slots.{Aim, slot_form, op_aim, op_aims, expression_aims}
+use Rattle.expr_ops.specs.Slots.{Aim, slot_form, op_aim, expression_aims}
 use Rattle.expr_ops.specs.Slots.Aim.{Place}
 use Rattle.expr_ops.proofs.NextRefs.{typed_cases}
 use Rattle.expr_ops.proofs.Reaches.{narrow_wide}
@@ -40,6 +40,7 @@ use Rattle.value_links.specs.Reading.{Linkable, Reading, unit_at}
 use Rattle.value_links.specs.World.{World, operations_at, head_and_forest, Holds, IsWorldOf}
 use Rattle.rewriter.specs.inside.Placed.{unit_in, operations_for}
 use Rattle.rewriter.specs.inside.Held.{MeansSomething, EntryMeans, entry_in, name_in, value_in, HaveAllValues, OperationNames, AddsSpots, AreSpotsUpTo}
+use Rattle.rewriter.proofs.SlotFronts.{AreOfFront, AreOfExpression}
 use Rattle.rewriter.proofs.NamedOperations.{operation_named, reference_still}
 use Rattle.rewriter.proofs.Standing.{held_unit}
 
@@ -113,54 +114,11 @@ module _ (file : List ℕ) (world : World) (r : Reading) (u : ℕ) (op : Op) (ho
 -- THE SLOTS OF AN EXPRESSION
 
 -- its length comes first, which names nothing; then those of its first operations are found
-pub record AreSpotsOfFront (unit : HeadAndForest) (ops : List Op) (count : ℕ) (old new : List Spot) : Type 0 where
-  pub spots : List Spot
-  pub behind : new ≡ old ++ spots
-  pub are : (bytes : List ℕ) (more : List Spot) → AllZip (IsSpotFor unit.forest unit.head.at) (op_aims (all_meant bytes (drop count ops))) more → AllZip (IsSpotFor unit.forest unit.head.at) (expression_aims (all_meant bytes ops)) (spots ++ more)
+abbrev pub AreSpotsOfFront : HeadAndForest → List Op → ℕ → List Spot → List Spot → Type 0
+AreSpotsOfFront unit ops count old new = (bytes : List ℕ) → AreOfFront (IsSpotFor unit.forest unit.head.at) bytes ops count old new
 
-module _ (unit : HeadAndForest) where
-  abbrev Are : List Aim → List Spot → Type 0
-  Are aims spots = AllZip (IsSpotFor unit.forest unit.head.at) aims spots
-
-  module _ (ops : List Op) (old : List Spot) where
-    pub front_none : (new : List Spot) → new ≡ old ++ NoSpot ∷ [] → AreSpotsOfFront unit ops 0 old new
-    front_none new pushed = record { spots = NoSpot ∷ []; behind = pushed; are = λ bytes more rest. (tt, rest) }
-
-    -- what is left of the operations begins with the next one
-    next_op : (bytes : List ℕ) (k : ℕ) (op : Op) (more : List Spot) → drop k ops ≡ op ∷ drop (k + 1) ops → Are (op_aims (all_meant bytes (op ∷ drop (k + 1) ops))) more → Are (op_aims (all_meant bytes (drop k ops))) more
-    next_op bytes k op more next = subst (λ (z : List Op). Are (op_aims (all_meant bytes z)) more) (sym next)
-
-    with_slot : (bytes : List ℕ) (op : Op) (spot : Spot) (more : List Spot) (b : Bool) (os : List Operation) → b ≡ true → IsSpotFor unit.forest unit.head.at (op_aim (meant bytes op) os) spot → Are (op_aims os) more → Are (if b then op_aim (meant bytes op) os ∷ op_aims os else op_aims os) (spot ∷ more)
-    with_slot bytes op spot more true os slot here rest = (here, rest)
-    with_slot bytes op spot more false os slot here rest = absurd (cc (slot))
-
-    without_slot : (bytes : List ℕ) (op : Op) (more : List Spot) (b : Bool) (os : List Operation) → b ≡ false → Are (op_aims os) more → Are (if b then op_aim (meant bytes op) os ∷ op_aims os else op_aims os) more
-    without_slot bytes op more true os slot rest = absurd (cc (slot))
-    without_slot bytes op more false os slot rest = rest
-
-    module _ (k : ℕ) (op : Op) (now : List Spot) (next : drop k ops ≡ op ∷ drop (k + 1) ops) (front : AreSpotsOfFront unit ops k old now) where
-      pub front_more : (new : List Spot) (spot : Spot) → is_slot op.code op.a ≡ true → ((bytes : List ℕ) (behind : List Operation) → IsSpotFor unit.forest unit.head.at (op_aim (meant bytes op) behind) spot) → new ≡ now ++ spot ∷ [] → AreSpotsOfFront unit ops (k + 1) old new
-      front_more new spot slot here pushed = record {
-        spots = front.spots ++ spot ∷ [];
-        behind = pushed ∙ ap (λ (z : List Spot). z ++ spot ∷ []) front.behind ∙ append_assoc old front.spots (spot ∷ []);
-        are = λ bytes more rest.
-            subst (Are (expression_aims (all_meant bytes ops))) (sym (append_assoc front.spots (spot ∷ []) more)) (front.are bytes (spot ∷ more) (next_op bytes k op (spot ∷ more) next (with_slot bytes op spot more (is_slot op.code op.a) (all_meant bytes (drop (k + 1) ops)) slot (here bytes (all_meant bytes (drop (k + 1) ops))) rest)));
-      }
-
-      pub front_still : is_slot op.code op.a ≡ false → AreSpotsOfFront unit ops (k + 1) old now
-      front_still slot = record {
-        spots = front.spots;
-        behind = front.behind;
-        are = λ bytes more rest.
-            front.are bytes more (next_op bytes k op more next (without_slot bytes op more (is_slot op.code op.a) (all_meant bytes (drop (k + 1) ops)) slot rest));
-      }
-
-    pub front_all : (k : ℕ) (new : List Spot) → drop k ops ≡ [] → AreSpotsOfFront unit ops k old new → (bytes : List ℕ) → AddsSpots unit (expression_aims (all_meant bytes ops)) old new
-    front_all k new past front bytes = record {
-      spots = front.spots;
-      behind = front.behind;
-      are = subst (Are (expression_aims (all_meant bytes ops))) (append-nil front.spots) (front.are bytes [] (subst (λ (z : List Op). Are (op_aims (all_meant bytes z)) []) (sym past) tt));
-    }
+pub spots_added : (unit : HeadAndForest) (bytes : List ℕ) (ops : List Op) (old new : List Spot) → AreOfExpression (IsSpotFor unit.forest unit.head.at) bytes ops old new → AddsSpots unit (expression_aims (all_meant bytes ops)) old new
+spots_added unit bytes ops old new are = record { spots = are.done; behind = are.behind; are = are.are }
 
 -- VALUE BY VALUE
 

@@ -1,11 +1,15 @@
 -- A unit that is placed: it has few slots, and has the places that it got.
-use Rattle.std.proofs.Common.{◌≡◌, ◌≤◌, ◌<◌, ◌^◌, ℕ, zero, suc, List, [], ◌∷◌, length, slice_index, sym, ap, refl, subst, arith}
+use Rattle.std.proofs.Common.{◌≡◌, ◌≤◌, ◌<◌, ◌+◌, ◌^◌, ℕ, zero, suc, List, [], ◌∷◌, length, slice_index, sym, ap, refl, subst, arith}
 use Rattle.std.specs.Prelude.{map, Result, Ok, Err, IfOk}
 use Rattle.std.proofs.lemmas.List.{length-map}
 use Rattle.std.proofs.lemmas.List.Sums.{get_or-le-sum_by}
 use Rattle.std.proofs.lemmas.Slice.Zip.{AllZip-long}
 use Rattle.dw_base.specs.declared.fault.NoMemory.{NoMemory}
 use Rattle.dw_base.specs.declared.fault.Reach.TheVariants.{Narrow}
+use Rattle.spelled.specs.Spelled.{Appends}
+use Rattle.leb_codec.specs.Records.{OfLayout, SpellsRecord}
+use Rattle.slot_layout.specs.Rows.{most_slots}
+use Rattle.expr_ops.specs.Slots.{Aim}
 use Rattle.fixed_width.specs.InitialLengths.{least_reserved}
 use Rattle.form_codec.specs.declared.value.Value.{Value}
 use Rattle.abbrev_tables.specs.Listings.{Listing}
@@ -16,16 +20,18 @@ use Rattle.entry_read.specs.Slots.{aims_of, operations_in}
 use Rattle.entry_read.specs.Units.{HeadAndForest}
 use Rattle.entry_read.proofs.PlaceLaws.{units_lie}
 use Rattle.unit_write.specs.declared.places.Places.{Places}
+use Rattle.unit_write.specs.declared.slots.ListSlot.{ListSlot}
 use Rattle.unit_write.specs.declared.slots.Spot.{Spot}
 use Rattle.unit_write.specs.Lens.{AreLensFor}
 use Rattle.unit_write.specs.Moved.{IsWritable, IsPlacedAt}
-use Rattle.unit_write.specs.Slots.{IsSpotFor, AreSpotsOf, IsLaidOut, SlotsFit}
+use Rattle.unit_write.specs.Slots.{IsSpotFor, AreSpotsOf, AreListSlots, IsLaidOut, all_spots, SlotsFit}
 use Rattle.value_links.specs.Sections.{debug_info}
 use Rattle.value_links.specs.Reading.{UnitRead, unit_at, no_unit, declarations}
 use Rattle.value_links.specs.World.{World, table_at, operations_at, IsWorldOf}
 use Rattle.value_links.specs.declared.units.NamedTable.{NamedTable}
 use Rattle.rewriter.specs.declared.tables.NewTable.{NewTable}
 use Rattle.rewriter.specs.inside.Tables.{TableAnew, table_anew, new_table_at}
+use Rattle.rewriter.specs.inside.Owned.{AreOwnedIn, AreListAims}
 use Rattle.rewriter.specs.inside.Placed.{unit_in, operations_for, AreWritable}
 use Rattle.rewriter.specs.inside.Held.{HasTable, table_for, IsPlacedFrom}
 use Rattle.rewriter.proofs.Standing.{held_unit, held_count, has_written}
@@ -67,13 +73,13 @@ module _ (world : World) (u : ℕ) (is : IsWorldOf world.image Narrow world) (kn
       let part : length (unit_at is.r.links u).forest.values ≤ _ = get_or-le-sum_by (λ (unit : UnitRead). length unit.forest.values) is.r.links.units u no_unit (omega (arith, count, known)) in
       omega (arith, same, part, is.read.links.units.within.values)
 
-  -- a unit within the narrow limits has at most 2^28 slots
-  pub spots_few : (spots : List Spot) → SlotsFit → AreSpotsOf (unit_in world.units u) (operations_for world u) spots → length spots ≤ 2 ^ 28
-  spots_few spots fit are =
+  -- a unit within the narrow limits has few slots, with those of its lists
+  pub spots_few : (spots : List Spot) (lists : List ListSlot) → SlotsFit → AreSpotsOf (unit_in world.units u) (operations_for world u) spots → length lists ≤ 2 ^ 24 + 2 ^ 26 → length spots + length lists ≤ most_slots
+  spots_few spots lists fit are more =
       let unit = unit_in world.units u in
       let count : length spots ≡ length (aims_of unit.forest (operations_for world u)) = AllZip-long (IsSpotFor unit.forest unit.head.at) (aims_of unit.forest (operations_for world u)) spots are in
       let few = fit unit.forest (operations_at world.operations u) in_order (is.operations.each u (unit_in [] 0) known) in
-      omega (arith, count, few, values_few, unit_short world u is known)
+      omega (arith, count, few, values_few, unit_short world u is known, more)
 
 -- WHAT IS READ OF THE PARTS
 
@@ -96,20 +102,40 @@ module _ (world : World) (tables : List NewTable) (u : ℕ) (unit : HeadAndFores
   spots_there spots are =
       subst (λ (h : HeadAndForest). AreSpotsOf h (operations_in h.forest operations) spots) (sym unit_is) (subst (λ (o : HeldOps). AreSpotsOf (unit_in world.units u) (operations_in (unit_in world.units u).forest o) spots) (sym operations_are) are)
 
+  -- the layout of the unit's slots and of those of the lists that it owns, with the ranks of its steps
+  pub record IsLaid (lens ranks : List ℕ) : Type 0 where
+    pub spots : List Spot
+    pub named : AreSpotsOf (unit_in world.units u) (operations_for world u) spots
+    pub owned : List ℕ
+    pub owns : AreOwnedIn world u owned
+    pub more : List Aim
+    pub told : AreListAims world owned more
+    pub lists : List ListSlot
+    pub listed : AreListSlots (unit_in world.units u) more lists
+    pub laid_out : IsLaidOut unit old.table anew.columns.items anew.numbers.items (operations_in unit.forest operations) more (all_spots spots lists) lens ranks
+
   -- a unit that was placed stands at its places
-  placed_back : (lens : List ℕ) (spots : List Spot) (start : ℕ) (places : Places) → AreSpotsOf (unit_in world.units u) (operations_for world u) spots → IsLaidOut unit old.table anew.columns.items anew.numbers.items (operations_in unit.forest operations) spots lens → places.start ≡ start → places.end < least_reserved → IsPlacedAt unit old.table anew.columns.items anew.numbers.items lens start places.entries.items places.ends.items places.end → IsPlacedFrom world tables u start places
-  placed_back lens spots start places named laid_out begins fits placed = record {
+  placed_back : (lens ranks : List ℕ) (start : ℕ) (before after : List ℕ) (places : Places) → IsLaid lens ranks → Appends SpellsRecord (OfLayout ranks) before after → places.start ≡ start → places.end < least_reserved → IsPlacedAt unit old.table anew.columns.items anew.numbers.items lens start places.entries.items places.ends.items places.end → IsPlacedFrom world tables u start before after places
+  placed_back lens ranks start before after places laid recorded begins fits placed = record {
     begins = begins;
     placed = record {
-      spots = spots;
-      named = named;
+      spots = laid.spots;
+      named = laid.named;
+      owned = laid.owned;
+      owns = laid.owns;
+      more = laid.more;
+      told = laid.told;
+      lists = laid.lists;
+      listed = laid.listed;
       lens = lens;
-      laid_out = back (λ h o t n. IsLaidOut h t n.columns n.numbers (operations_in h.forest o) spots lens) laid_out;
+      ranks = ranks;
+      laid_out = back (λ h o t n. IsLaidOut h t n.columns n.numbers (operations_in h.forest o) laid.more (all_spots laid.spots laid.lists) lens ranks) laid.laid_out;
       placed = back (λ h o t n. IsPlacedAt h t n.columns n.numbers lens places.start places.entries.items places.ends.items places.end) (subst (λ (z : ℕ). IsPlacedAt unit old.table anew.columns.items anew.numbers.items lens z places.entries.items places.ends.items places.end) (sym begins) placed);
     };
     fits = fits;
+    recorded = recorded;
   }
 
-  pub all_placed_back : (lens : List ℕ) (spots : List Spot) (start : ℕ) (r : Result Places NoMemory) → AreSpotsOf (unit_in world.units u) (operations_for world u) spots → IsLaidOut unit old.table anew.columns.items anew.numbers.items (operations_in unit.forest operations) spots lens → IfOk r (λ places. places.start ≡ start) → IfOk r (λ places. places.end < least_reserved) → IfOk r (λ places. IsPlacedAt unit old.table anew.columns.items anew.numbers.items lens start places.entries.items places.ends.items places.end) → IfOk r (IsPlacedFrom world tables u start)
-  all_placed_back lens spots start (Ok places) named laid_out begins fits placed = placed_back lens spots start places named laid_out begins fits placed
-  all_placed_back lens spots start (Err e) named laid_out begins fits placed = tt
+  pub all_placed_back : (lens ranks : List ℕ) (start : ℕ) (before after : List ℕ) (r : Result Places NoMemory) → IsLaid lens ranks → Appends SpellsRecord (OfLayout ranks) before after → IfOk r (λ places. places.start ≡ start) → IfOk r (λ places. places.end < least_reserved) → IfOk r (λ places. IsPlacedAt unit old.table anew.columns.items anew.numbers.items lens start places.entries.items places.ends.items places.end) → IfOk r (IsPlacedFrom world tables u start before after)
+  all_placed_back lens ranks start before after (Ok places) laid recorded begins fits placed = placed_back lens ranks start before after places laid recorded begins fits placed
+  all_placed_back lens ranks start before after (Err e) laid recorded begins fits placed = tt

@@ -29,7 +29,7 @@ use Rattle.list_model.specs.Items.{Bounds, SetsBase, HasBounds, GiveFrom, Give, 
 use Rattle.list_model.specs.Items.Bounds.{between, elsewhere}
 use Rattle.list_model.specs.Laws.{OneSaying, OneWalk}
 use Rattle.list_model.specs.Members.{IsLeastList, IsLeastFrozen}
-use Rattle.list_model.specs.Potentials.{AcceptsList}
+use Rattle.list_model.specs.Potentials.{AcceptsList, AreGreatest}
 use Rattle.list_model.specs.Reading.{AreReadFrom}
 use Rattle.list_least.specs.declared.pick.Pick.{Pick}
 use Rattle.list_least.specs.declared.plan.Plan.{Plan}
@@ -44,9 +44,10 @@ use Rattle.range_lists.specs.Ranges.{IsRead as IsRangeRead}
 use Rattle.value_links.specs.declared.lists.ListRead.{ListRead as HeldList}
 use Rattle.value_links.specs.Reading.{ListRead, Linkable, Reading, of_kind, lists_of, part_at, list_at, context_at}
 use Rattle.value_links.specs.Lists.{IsOwner, IsFrozen, IsListOf, item_count, AreListsOf}
+use Rattle.value_links.specs.Classes.{AreLeastBytes}
 use Rattle.value_links.specs.World.{World, lists_held, IsMeaningOf, HoldsMeaning, HoldsList, Holds, IsWorldOf}
-use Rattle.rewriter.specs.inside.Plans.{with_plan, IsContextIn}
-use Rattle.rewriter.specs.inside.Lists.{IsPlannedFor}
+use Rattle.rewriter.specs.inside.Plans.{with_plan, IsContextIn, IsPlanOf}
+use Rattle.rewriter.specs.inside.Lists.{IsPlannedFor, IsRecordedFor}
 use Rattle.rewriter.proofs.Standing.{held_count}
 use Rattle.rewriter.proofs.AddressTables.{context_same}
 
@@ -232,7 +233,7 @@ module _ (r : Reading) (kind : ListKind) (old : ListRead) (list : HeldList) (hel
       let same : get_or meaning.bounds i elsewhere ≡ bounds_of (item_at items i) = ap (λ (z : List Bounds). get_or z i elsewhere) (sym meaning.are) ∙ get_or-map bounds_of items i (item_at [] 0) elsewhere less in
       subst (λ (z : Bounds). IsItemOf kind z) same (meaning.fit i elsewhere within)
 
-  module _ (saying : OneSaying) (walk : OneWalk) (shortest : ShortestLists) (planned : PlannedLeast) (small : AreBytes r.links.addresses) (owner : ℕ) (owner_is : list.owner ≡ Some owner) (potentials : List ℕ) (plan : Plan) (is : IsPlanned kind r.links.addresses (context_at r.links owner) (map bounds_of items) plan.picks.items plan.size) (accepted : AcceptsList r.links.addresses (context_at r.links owner) (map bounds_of items) potentials plan.size) (few : length plan.picks.items ≤ 2 * length items) where
+  module _ (saying : OneSaying) (walk : OneWalk) (shortest : ShortestLists) (planned : PlannedLeast) (small : AreBytes r.links.addresses) (owner : ℕ) (owner_is : list.owner ≡ Some owner) (potentials : List ℕ) (plan : Plan) (is : IsPlanned kind r.links.addresses (context_at r.links owner) (map bounds_of items) plan.picks.items plan.size) (accepted : AcceptsList r.links.addresses (context_at r.links owner) (map bounds_of items) potentials plan.size) where
     same_owner : meant.1.0 ≡ owner
     same_owner = same_Some meant.1.0 owner (sym meant.1.1 ∙ owner_is)
 
@@ -252,8 +253,8 @@ module _ (r : Reading) (kind : ListKind) (old : ListRead) (list : HeldList) (hel
         let least = planned kind r.links.addresses (context_at r.links owner) (map bounds_of items) potentials plan.size plan.picks.items is.entries some.0 small accepted is is.picked some.1 in
         sym least.1 ∙ shortest.size kind is.entries some.0 some.1
 
-    pub live_planned : (other : NamedList) → IsPlannedFor r kind old (to_write (with_plan list plan other))
-    live_planned other = record {
+    pub live_planned : length plan.picks.items ≤ 2 * length items → (other : NamedList) → IsPlannedFor r kind old (to_write (with_plan list plan other))
+    live_planned few other = record {
       part = held.part;
       at = held.at;
       entries = is.entries;
@@ -275,6 +276,30 @@ module _ (r : Reading) (kind : ListKind) (old : ListRead) (list : HeldList) (hel
       };
     }
 
+    -- all bytes that are least in its class are as many as the plan's
+    sized : (bytes : List ℕ) → AreLeastBytes r.links kind old bytes → length bytes ≡ plan.size
+    sized bytes least =
+        let some = shortest.of_picks kind plan.picks.items is.entries is.picked in
+        let own = planned kind r.links.addresses (context_at r.links owner) (map bounds_of items) potentials plan.size plan.picks.items is.entries some.0 small accepted is is.picked some.1 in
+        let other = least.live meant.0 meant.1.0 meaning.entries meaning.bounds owned meaning.said meaning.gives in
+        let there : IsLeastList kind r.links.addresses (context_at r.links owner) (map bounds_of items) bytes =
+        subst (λ (z : ℕ). IsLeastList kind r.links.addresses (context_at r.links z) (map bounds_of items) bytes) same_owner (subst (λ (z : List Bounds). IsLeastList kind r.links.addresses (context_at r.links meant.1.0) z bytes) (sym meaning.are) other) in
+        let more : length bytes ≤ length some.0 = there.least some.0 own.0.member in
+        let no_more : length some.0 ≤ length bytes = own.0.least bytes there.member in
+        omega (arith, more, no_more, own.1)
+
+    -- the potentials are its record
+    pub live_recorded : AreGreatest r.links.addresses (context_at r.links owner) (map bounds_of items) potentials → IsRecordedFor r kind old potentials
+    live_recorded greatest = record {
+      size = plan.size;
+      accepted = λ u before bounds own said gives.
+          let same = gives_same u before bounds own said gives in (
+            subst (λ (z : ℕ). AcceptsList r.links.addresses (context_at r.links z) bounds potentials plan.size) same.0 (subst (λ (z : List Bounds). AcceptsList r.links.addresses (context_at r.links owner) z potentials plan.size) same.1 accepted),
+            subst (λ (z : ℕ). AreGreatest r.links.addresses (context_at r.links z) bounds potentials) same.0 (subst (λ (z : List Bounds). AreGreatest r.links.addresses (context_at r.links owner) z potentials) same.1 greatest),
+          );
+      sized = sized;
+    }
+
 -- the same, by the bytes of .debug_addr and the context as they are given to the search
 pub planned_by : (r : Reading) (kind : ListKind) (old : ListRead) (list : HeldList) → HoldsList r.links kind old list → (items : List Item) → list.meaning ≡ Live items → OneSaying → OneWalk → ShortestLists → PlannedLeast →
     (addr : List ℕ) → AreBytes addr → addr ≡ r.links.addresses → (context : Context) (owner : ℕ) → list.owner ≡ Some owner → context ≡ context_at r.links owner → (plan : Plan) →
@@ -284,6 +309,21 @@ planned_by r kind old list held items live saying walk shortest planned addr sma
     (subst (λ (z : Context). IsPlanned kind r.links.addresses z (map bounds_of items) plan.picks.items plan.size) context_is (subst (λ (z : List ℕ). IsPlanned kind z context (map bounds_of items) plan.picks.items plan.size) addr_is is))
     (subst (λ (z : Context). AcceptsList r.links.addresses z (map bounds_of items) plan.potentials.items plan.size) context_is (subst (λ (z : List ℕ). AcceptsList z context (map bounds_of items) plan.potentials.items plan.size) addr_is accepted))
     few other
+
+pub recorded_by : (r : Reading) (kind : ListKind) (old : ListRead) (list : HeldList) → HoldsList r.links kind old list → (items : List Item) → list.meaning ≡ Live items → OneSaying → OneWalk → ShortestLists → PlannedLeast →
+    (addr : List ℕ) → AreBytes addr → addr ≡ r.links.addresses → (context : Context) (owner : ℕ) → list.owner ≡ Some owner → context ≡ context_at r.links owner → (plan : Plan) →
+    IsPlanned kind addr context (map bounds_of items) plan.picks.items plan.size → AcceptsList addr context (map bounds_of items) plan.potentials.items plan.size → AreGreatest addr context (map bounds_of items) plan.potentials.items → IsRecordedFor r kind old plan.potentials.items
+recorded_by r kind old list held items live saying walk shortest planned addr small addr_is context owner owner_is context_is plan is accepted greatest =
+    live_recorded r kind old list held items live saying walk shortest planned (subst (λ (z : List ℕ). AreBytes z) addr_is small) owner owner_is plan.potentials.items plan
+    (subst (λ (z : Context). IsPlanned kind r.links.addresses z (map bounds_of items) plan.picks.items plan.size) context_is (subst (λ (z : List ℕ). IsPlanned kind z context (map bounds_of items) plan.picks.items plan.size) addr_is is))
+    (subst (λ (z : Context). AcceptsList r.links.addresses z (map bounds_of items) plan.potentials.items plan.size) context_is (subst (λ (z : List ℕ). AcceptsList z context (map bounds_of items) plan.potentials.items plan.size) addr_is accepted))
+    (subst (λ (z : Context). AreGreatest r.links.addresses z (map bounds_of items) plan.potentials.items) context_is (subst (λ (z : List ℕ). AreGreatest z context (map bounds_of items) plan.potentials.items) addr_is greatest))
+
+-- what is written by a plan is written by another with the same entries and the same size
+pub same_plan : (world : World) (kind : ListKind) (list : HeldList) (plan other : Plan) → (other.picks.items ≡ plan.picks.items) × (other.size ≡ plan.size) → IsPlanOf world kind list plan → IsPlanOf world kind list other
+same_plan world kind list plan other (picks, size) is r old named holds held =
+    let written : List Pick → ℕ → ToWrite = λ (entries : List Pick) (bytes : ℕ). record { part = list.part; at = list.at; picks = entries; size = bytes; expressions = (to_write named).expressions; views = (to_write named).views } in
+    subst (λ (z : ℕ). IsPlannedFor r kind old (written other.picks.items z)) (sym size) (subst (λ (z : List Pick). IsPlannedFor r kind old (written z plan.size)) (sym picks) (is r old named holds held))
 
 -- ---- a list that is frozen
 

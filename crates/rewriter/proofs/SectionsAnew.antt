@@ -1,17 +1,22 @@
 -- What is read of the new sections of a file.
-use Rattle.std.proofs.Common.{◌≡◌, ◌≤◌, ◌<◌, ◌+◌, ◌-◌, ◌^◌, ◌∙◌, ℕ, List, [], ◌∷◌, length, map, drop, get_or, sym, ap, refl, subst, arith, inl, inr}
+use Rattle.std.proofs.Common.{◌≡◌, ◌≤◌, ◌<◌, ◌+◌, ◌-◌, ◌^◌, ◌∙◌, ◌++◌, ℕ, List, [], ◌∷◌, length, map, drop, get_or, sym, ap, refl, subst, arith, inl, inr}
 use Rattle.std.specs.Prelude.{slice_index}
 use Rattle.std.specs.List.{All}
 use Rattle.std.proofs.lemmas.Bool.{cases_lt}
 use Rattle.std.proofs.lemmas.List.{get_or-map, length-map, nil_from_length}
 use Rattle.std.proofs.lemmas.List.Elements.{All-nil, All-cons, All-head, All-tail, All-map, All-get_or, All-from_get_or}
 use Rattle.std.proofs.lemmas.Grind.{same_number_lists}
+use Rattle.spelled.specs.Spelled.{Joined}
 use Rattle.dw_base.specs.declared.fault.Reach.TheVariants.{Narrow}
+use Rattle.dw_base.specs.declared.record.Run.{Run}
+use Rattle.leb_codec.specs.Records.{OfLines, SpellsRecord, magic}
 use Rattle.elf_sections.specs.Sections.{HasNone}
 use Rattle.line_machine.specs.declared.head.Head.{Head}
+use Rattle.line_sums.specs.Accepted.{AreLeastRuns}
 use Rattle.line_write.specs.Meaning.{ProgramMeaning, HaveMeanings}
 use Rattle.line_write.specs.Programs.{Follow as ProgramsFollow, Tile as ProgramsTile}
 use Rattle.line_write.specs.Readings.{AreRead, StandAnew}
+use Rattle.line_write.specs.Records.{HaveRuns}
 use Rattle.line_write.proofs.ReadBack.{bounds}
 use Rattle.companions.specs.declared.set.ArangeSet.{ArangeSet}
 use Rattle.companions.specs.Aranges.{IsOutside, SetsTile, HaveUnits}
@@ -39,14 +44,15 @@ use Rattle.rewriter.specs.declared.tables.NewTable.{NewTable}
 use Rattle.rewriter.specs.declared.new_places.NewPlaces.{NewPlaces}
 use Rattle.rewriter.specs.declared.sections.NewSections.{NewSections}
 use Rattle.rewriter.specs.inside.Tables.{TablesStand, table_anew, AreTablesWritten}
-use Rattle.rewriter.specs.inside.Placed.{PlacesAnew, places_anew, places_at, IsPlacedBy, PlacesFollow, ArePlacesOf, AreWritable}
+use Rattle.rewriter.specs.inside.Placed.{PlacesAnew, places_anew, places_at, IsPlacedBy, PlacesFollow, ArePlacesOf, AreRanksOf, AreWritable}
+use Rattle.rewriter.specs.inside.Recorded.{IsRecorded}
 use Rattle.rewriter.specs.inside.Units.{AreUnitsWritten}
 use Rattle.rewriter.specs.inside.Bodies.{NewBytes, new_bytes}
 use Rattle.rewriter.specs.inside.Sections.{IsFor, AreFor}
 use Rattle.rewriter.specs.inside.Anew.{AreProgramsAnew, new_lists, AreAnew}
 use Rattle.rewriter.specs.inside.NewPlaces.{moved_lists, moved_views_at, AreMovedViews}
 use Rattle.rewriter.specs.inside.Held.{AreListPlaces, AreViewPlaces, AreNewPlaces}
-use Rattle.rewriter.specs.inside.Lists.{AreListsWritten}
+use Rattle.rewriter.specs.inside.Lists.{AreListsRecorded, AreListsWritten}
 use Rattle.rewriter.specs.inside.ListsAnew.{AreListsAnew}
 use Rattle.rewriter.specs.inside.ViewsAnew.{AreViewsAnew}
 use Rattle.rewriter.proofs.DebugSizes.{debug_short}
@@ -140,6 +146,25 @@ parts_of {file} {world} {r} {tables} {places} {new_places} {info} {abbrevs} {lin
     both : (kind : ListKind) → AreListsWritten r places kind (list_bytes ranges locations kind) (moved_lists new_places kind).parts.items (moved_lists new_places kind).lists.items (list_views range_views location_views kind)
     both Ranges = of_ranges
     both Locations = of_locations
+
+-- the records of the steps, which are put together in their order, are those of a certificate
+pub recorded_of : {world : World} {r : Reading} {tables : List NewTable} {places : List Places} {section lines ranges locations units a b c d certificate : List ℕ} → certificate ≡ magic ++ (a ++ (b ++ (c ++ d))) → a ≡ lines → b ≡ ranges → c ≡ locations → d ≡ units → ((runs : List (List Run)) × HaveRuns AreLeastRuns section runs × Joined SpellsRecord (map OfLines runs) lines) → AreListsRecorded r Ranges ranges → AreListsRecorded r Locations locations → AreRanksOf world tables places units → IsRecorded world r tables places section certificate
+recorded_of {world} {r} {tables} {places} {section} {lines} {ranges} {locations} {units} {a} {b} {c} {d} {certificate} whole of_a of_b of_c of_d (runs, has_runs, spelled) of_ranges of_locations of_units = record {
+  lines = lines;
+  ranges = ranges;
+  locations = locations;
+  units = units;
+  whole = whole ∙ ap (λ (z : List ℕ). magic ++ z) parts;
+  runs = runs;
+  has_runs = has_runs;
+  runs_spelled = spelled;
+  has_ranges = of_ranges;
+  has_locations = of_locations;
+  has_ranks = of_units;
+}
+  where
+    parts : a ++ (b ++ (c ++ d)) ≡ lines ++ (ranges ++ (locations ++ units))
+    parts = cc
 
 module _ {file : List ℕ} {world : World} {r : Reading} {tables : List NewTable} {places : List Places} {new_places : NewPlaces} {info abbrevs lines ranges locations aranges : List ℕ} {range_views location_views : List Moved} (parts : AreParts file world r tables places new_places info abbrevs lines ranges locations aranges range_views location_views) where
   units_count : length world.units ≡ length r.links.units
@@ -256,8 +281,8 @@ module _ {file : List ℕ} {world : World} {r : Reading} {tables : List NewTable
     programs_anew = record { read = few.are; few = few.few; count = programs_count; places = program_place; means = programs_mean }
 
     -- The new sections are read, and mean what the old ones mean.
-    pub are_anew : (new : NewSections) → new.info.items ≡ info → new.abbrevs.items ≡ abbrevs → new.lines.items ≡ lines → new.ranges.items ≡ ranges → new.locations.items ≡ locations → new.aranges.items ≡ aranges → (s : Reading) × AreAnew file world r s new
-    are_anew new i a l n o g = (
+    pub are_anew : (new : NewSections) (certificate : List ℕ) → new.info.items ≡ info → new.abbrevs.items ≡ abbrevs → new.lines.items ≡ lines → new.ranges.items ≡ ranges → new.locations.items ≡ locations → new.aranges.items ≡ aranges → IsRecorded world r tables places lines certificate → (s : Reading) × AreAnew file world r s new certificate
+    are_anew new certificate i a l n o g recorded = (
       new_reading,
       record {
         tables = tables;
@@ -279,6 +304,7 @@ module _ {file : List ℕ} {world : World} {r : Reading} {tables : List NewTable
           size = ap (λ (z : List ℕ). length z) g ∙ parts.size;
           bytes = λ k outside. ap (λ (z : List ℕ). slice_index z k) g ∙ parts.others k (subst (λ (z : List ArangeSet). IsOutside z k) (sym parts.holds.sets) outside);
         };
+        recorded = subst (λ (z : List ℕ). IsRecorded world r tables places z certificate) (sym l) recorded;
       },
     )
 

@@ -62,7 +62,7 @@ spot_moves f order places (TheEnd number) old new here moves = elim moves [
 ]
 
 -- what a slot tells that has moved is the place of what it names
-spot_placed : (f : Arena) → IsInOrder f → (places : PlacesAnew) (at : ℕ) (old new : Aim) (spot : Spot) → AimMoves f places at old new → IsSpotFor f at old spot → IsSpotPlaced places.start places.entries places.ends new spot
+pub spot_placed : (f : Arena) → IsInOrder f → (places : PlacesAnew) (at : ℕ) (old new : Aim) (spot : Spot) → AimMoves f places at old new → IsSpotFor f at old spot → IsSpotPlaced places.start places.entries places.ends new spot
 spot_placed f order places at (Place form n) (Place other new) spot moves here = spot_moves f order places spot (at + n) (places.start + new) here moves.1
 spot_placed f order places at (Place form n) (Length fixed count) spot moves here = absurd moves
 spot_placed f order places at (Length fixed count) (Place form n) spot moves here = absurd moves

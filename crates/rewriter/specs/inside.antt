@@ -11,8 +11,10 @@ pub mod Lists
 pub mod ListsAnew
 pub mod NewPlaces
 pub mod Numbers
+pub mod Owned
 pub mod Placed
 pub mod Plans
+pub mod Recorded
 pub mod Rewritten
 pub mod Runs
 pub mod Sections

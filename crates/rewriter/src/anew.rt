@@ -1,9 +1,14 @@
 // What the sections of a file that are written anew are made of.
-ghost use Rattle.std.specs.Prelude.{◌≡◌, ◌≤◌, ◌<◌, ◌-◌, ◌^◌, ◌++◌, ◌∷◌, ℕ, List, [], length, map, slice_index, IfOk, OnOk};
+ghost use Rattle.std.specs.Prelude.{◌≡◌, ◌<◌, ◌-◌, ◌^◌, ℕ, List, length, map, slice_index, IfOk};
 ghost use Rattle.std.specs.List.{All};
+ghost use Rattle.spelled.specs.Spelled.{Joined};
 ghost use Rattle.dw_base.specs.declared.fault.Reach.TheVariants.{Narrow};
+ghost use Rattle.dw_base.specs.declared.record.Run.{Run};
+ghost use Rattle.leb_codec.specs.Records.{OfLines, SpellsRecord};
+ghost use Rattle.line_sums.specs.Accepted.{AreLeastRuns};
 ghost use Rattle.line_write.specs.Least.{LeastLines, OrderedLines};
 ghost use Rattle.line_write.specs.Readings.{StandAnew};
+ghost use Rattle.line_write.specs.Records.{HaveRuns};
 ghost use Rattle.companions.specs.Aranges.{SetsTile, HaveUnits, IsOutside};
 ghost use Rattle.unit_write.specs.declared.places.Places.{Places as AnyPlaces};
 ghost use Rattle.value_links.specs.Sections.{debug_line, debug_aranges};
@@ -17,13 +22,14 @@ use unit_write::Places;
 use value_links::World;
 
 /// The line number programs of a file written anew, in fewer than the 2^32 - 1 bytes that a section of the 32-bit format can't have
-/// (DWARF 5 section 7.4). The only error is want of memory.
+/// (DWARF 5 section 7.4), and a record for each that shows why it is least. The only error is want of memory.
 pub fn write_lines(alloc: Global, world: &World<'_>) -> Result<Lines, NoMemory>
     requires world { IsWorldOf world.now.image Narrow world.now }
     ensures stand { IfOk result (λ lines. StandAnew (debug_line world.now.image) world.now.programs lines.bytes.items lines.starts.items) }
     ensures least { IfOk result (λ lines. LeastLines (debug_line world.now.image) lines.bytes.items) }
     ensures order { IfOk result (λ lines. OrderedLines (debug_line world.now.image) lines.bytes.items) }
     ensures fits { IfOk result (λ lines. length lines.bytes.items < 2 ^ 32 - 1) }
+    ensures records { IfOk result (λ lines. (all : List (List Run)) × HaveRuns AreLeastRuns lines.bytes.items all × Joined SpellsRecord (map OfLines all) lines.records.items) }
 {
     let section = world.section(b".debug_line");
     shrink_lines(alloc, section, world.programs())

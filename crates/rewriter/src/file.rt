@@ -1,5 +1,5 @@
 // A whole file written anew.
-ghost use Rattle.std.specs.Prelude.{◌≡◌, IfOk, IfErr};
+ghost use Rattle.std.specs.Prelude.{IfOk, IfErr};
 ghost use Rattle.dw_base.specs.declared.fault.Reach.TheVariants.{Narrow, Wide};
 ghost use Rattle.line_write.specs.Least.{LeastLines, OrderedLines};
 ghost use Rattle.value_links.specs.Sections.{debug_line};
@@ -7,31 +7,48 @@ ghost use Rattle.value_links.specs.Faults.{IsValid, NamesFault};
 ghost use Rattle.value_links.specs.Same.{Same};
 ghost use Rattle.value_links.specs.World.{IsWorldOf};
 ghost use Rattle.value_links.specs.Placed.{IsPlaced};
+ghost use Rattle.value_links.specs.Certificates.{IsCertificate, IsFirstCertificate};
 ghost use Rattle.value_links.specs.Classes.{HaveLeastCodes, HaveOrderedCodes, HaveLeastColumns, HaveFirstColumns, HaveLeastLists};
 ghost use Rattle.value_links.specs.Layouts.{HaveLeastLayouts};
 ghost use Rattle.value_links.specs.Tidy.{IsTidy};
 ghost use Rattle.rewriter.specs.inside.Rewritten.{IsRewritten};
 
 use crate::assemble::assemble;
-use crate::sections::write_sections;
+use crate::sections::{Anew, write_sections};
 use dw_base::{NoMemory, Reach, Refusal};
 use std::alloc::Global;
 use value_links::{World, valid_files};
 
-// The bytes to be written for the file of a world.
-fn write_anew(alloc: Global, world: World<'_>) -> Result<Vec<u8>, NoMemory>
+/// A file that was written anew, and why nothing shorter is in its classes.
+#[derive(Drop)]
+pub struct Rewritten {
+    /// Its bytes.
+    pub file: Vec<u8>,
+    /// Its certificate: a record file, as docs/CERTIFICATE.md tells.
+    pub cert: Vec<u8>,
+}
+
+// What is to be written for the file of a world.
+fn write_anew(alloc: Global, world: World<'_>) -> Result<Rewritten, NoMemory>
     requires world { IsWorldOf world.image Narrow world }
-    ensures rewritten { IfOk result (λ written. IsRewritten world.entry.image written.items) }
+    ensures rewritten { IfOk result (λ written. IsRewritten world.entry.image written.file.items written.cert.items) }
 {
     // A law: what is read, means something and keeps the limits is valid.
     valid_files();
-    let sections = write_sections(alloc, &world)?;
+    let Anew {
+        sections,
+        certificate,
+    } = write_sections(alloc, &world)?;
     // All else that was read takes several times the memory of the file: it goes before the new file is put together.
     let image = world.into_image();
-    assemble(alloc, &image, sections)
+    let file = assemble(alloc, &image, sections)?;
+    Ok(Rewritten {
+        file,
+        cert: certificate,
+    })
 }
 
-/// The bytes to be written for a file.
+/// The bytes to be written for a file, and their certificate.
 ///
 /// Refused exactly where the file isn't valid, with a fault of the first pass that has one, or for want of memory. The written
 /// file means the same: the same line number rows, units, entries and values, each reference at what it named, and all other
@@ -54,20 +71,26 @@ fn write_anew(alloc: Global, world: World<'_>) -> Result<Vec<u8>, NoMemory>
 /// Each number of a table, each code and each value in its form has its fewest bytes. An expression of an entry or a list keeps its
 /// operations, each reference at the new place of what it named; each number in it has its fewest bytes, and a call is a DW_OP_call2
 /// where its number is below 65,536 (sections 2.5 and 7.7.1). Bytes after a unit's entries are dropped.
-pub fn rewrite(alloc: Global, file: &[u8]) -> Result<Vec<u8>, Refusal>
+///
+/// The certificate has a record for each line number program, each list that isn't frozen and each unit, from which it can be seen that
+/// nothing shorter gives the same rows, items or layout. Of several that would do it is the one with the least numbers of steps, the greatest
+/// potentials and the first ranks.
+pub fn rewrite(alloc: Global, file: &[u8]) -> Result<Rewritten, Refusal>
     ensures valid { IfOk result (λ _. IsValid file.now Narrow) }
-    ensures same { IfOk result (λ written. Same file.now written.items) }
-    ensures still_valid { IfOk result (λ written. IsValid written.items Wide) }
-    ensures least { IfOk result (λ written. LeastLines (debug_line file.now) (debug_line written.items)) }
-    ensures order { IfOk result (λ written. OrderedLines (debug_line file.now) (debug_line written.items)) }
-    ensures lists { IfOk result (λ written. HaveLeastLists file.now written.items) }
-    ensures columns { IfOk result (λ written. HaveLeastColumns file.now written.items) }
-    ensures columns_order { IfOk result (λ written. HaveFirstColumns file.now written.items) }
-    ensures codes { IfOk result (λ written. HaveLeastCodes file.now written.items) }
-    ensures codes_order { IfOk result (λ written. HaveOrderedCodes file.now written.items) }
-    ensures layouts { IfOk result (λ written. HaveLeastLayouts file.now written.items) }
-    ensures tidy { IfOk result (λ written. IsTidy file.now written.items) }
-    ensures placed { IfOk result (λ written. IsPlaced file.now written.items) }
+    ensures same { IfOk result (λ written. Same file.now written.file.items) }
+    ensures still_valid { IfOk result (λ written. IsValid written.file.items Wide) }
+    ensures least { IfOk result (λ written. LeastLines (debug_line file.now) (debug_line written.file.items)) }
+    ensures order { IfOk result (λ written. OrderedLines (debug_line file.now) (debug_line written.file.items)) }
+    ensures lists { IfOk result (λ written. HaveLeastLists file.now written.file.items) }
+    ensures columns { IfOk result (λ written. HaveLeastColumns file.now written.file.items) }
+    ensures columns_order { IfOk result (λ written. HaveFirstColumns file.now written.file.items) }
+    ensures codes { IfOk result (λ written. HaveLeastCodes file.now written.file.items) }
+    ensures codes_order { IfOk result (λ written. HaveOrderedCodes file.now written.file.items) }
+    ensures layouts { IfOk result (λ written. HaveLeastLayouts file.now written.file.items) }
+    ensures tidy { IfOk result (λ written. IsTidy file.now written.file.items) }
+    ensures placed { IfOk result (λ written. IsPlaced file.now written.file.items) }
+    ensures certified { IfOk result (λ written. IsCertificate written.file.items written.cert.items) }
+    ensures certified_first { IfOk result (λ written. IsFirstCertificate written.file.items written.cert.items) }
     ensures refused { IfErr result (λ refusal. NamesFault file.now Narrow refusal) }
 {
     let world = World::read(alloc, file, Reach::Narrow)?;

@@ -5,14 +5,18 @@ mod anew;
 mod assemble;
 #[cfg(test)]
 mod assemble_tests;
+#[cfg(test)]
+mod certificate_tests;
 mod columns;
 mod file;
 mod list_expressions;
+mod list_slots;
 mod lists;
 mod new_places;
 #[cfg(test)]
 mod number_tests;
 mod numbers;
+mod owned;
 #[cfg(test)]
 mod place_tests;
 mod places;
@@ -29,7 +33,7 @@ mod unit_tests;
 mod units;
 mod uses;
 
-pub use file::rewrite;
+pub use file::{Rewritten, rewrite};
 
 #[cfg(test)]
 mod tests;

@@ -75,7 +75,7 @@ fn new_references(
 }
 
 // Reads the operations of an expression of a valid file, in place of those that are there.
-fn read_again(alloc: Global, bytes: &[u8], ops: &mut Vec<Op>) -> Result<(), NoMemory>
+pub(crate) fn read_again(alloc: Global, bytes: &[u8], ops: &mut Vec<Op>) -> Result<(), NoMemory>
     requires valid { IsSomeExpression Narrow bytes.now }
     ensures { OnOk result (IsReadAgain bytes.now ops.new.items) }
 {

@@ -1,19 +1,22 @@
 // The lists of a file written anew.
-ghost use Rattle.std.specs.Prelude.{◌≡◌, ◌<◌, length, IfOk};
+ghost use Rattle.std.specs.Prelude.{◌≡◌, ◌≢◌, ◌<◌, [], length, IfOk};
 ghost use Rattle.std.specs.List.{Contains};
 ghost use Rattle.dw_base.specs.declared.fault.Reach.TheVariants.{Narrow};
+ghost use Rattle.spelled.specs.Spelled.{Appends};
+ghost use Rattle.leb_codec.specs.Records.{OfList, SpellsRecord};
 ghost use Rattle.fixed_width.specs.InitialLengths.{least_reserved};
 ghost use Rattle.list_model.specs.declared.item.Meaning.TheVariants.{Live, Dead};
 ghost use Rattle.value_links.specs.Sections.{debug_addr, debug_lists};
 ghost use Rattle.value_links.specs.Reading.{Reading};
 ghost use Rattle.value_links.specs.World.{World as AnyWorld, IsWorldOf, Holds, lists_held};
 ghost use Rattle.rewriter.specs.inside.Held.{AllHavePlaces};
-ghost use Rattle.rewriter.specs.inside.Plans.{AreMapsFor, IsPlanOf, ArePlannedTo, AreViewsUpTo};
+ghost use Rattle.rewriter.specs.inside.Plans.{AreMapsFor, IsPlanOf, ArePotentialsOf, ArePlannedTo, AreRecordedTo, AreViewsUpTo};
 ghost use Rattle.rewriter.specs.inside.Runs.{views_held, AreRunsWith};
-ghost use Rattle.rewriter.specs.inside.Lists.{AreListsWritten};
+ghost use Rattle.rewriter.specs.inside.Lists.{AreListsWritten, AreListsRecorded};
 
 use crate::list_expressions::new_expressions;
 use crate::table_maps::TableMaps;
+use certificates::{Proof, put_record};
 use dw_base::NoMemory;
 use list_least::{Plan, least_in, shortest_lists};
 use list_model::{Item, ListKind, Meaning, entries_say};
@@ -38,7 +41,8 @@ fn live_plan(
     requires maps { AreMapsFor world.now addr.now maps.now }
     requires list { Contains (lists_held world.now kind) list.now }
     requires items { list.now.meaning ≡ Live items.now }
-    ensures { IfOk result (IsPlanOf world.now kind list.now) }
+    ensures plan { IfOk result (IsPlanOf world.now kind list.now) }
+    ensures potentials { IfOk result (λ plan. ArePotentialsOf world.now kind list.now plan.potentials.items) }
 {
     // Laws: the shortest bytes of a plan are least in the class of the list, and entries mean one thing.
     shortest_lists();
@@ -78,7 +82,8 @@ fn plan_of(
     requires addr { addr.now ≡ debug_addr world.now.image }
     requires maps { AreMapsFor world.now addr.now maps.now }
     requires list { Contains (lists_held world.now kind) list.now }
-    ensures { IfOk result (IsPlanOf world.now kind list.now) }
+    ensures plan { IfOk result (IsPlanOf world.now kind list.now) }
+    ensures potentials { IfOk result (λ plan. list.now.meaning ≢ Dead → ArePotentialsOf world.now kind list.now plan.potentials.items) }
 {
     match &list.meaning {
         Meaning::Live(items) => live_plan(alloc, world, maps, addr, kind, list, items.as_slice()),
@@ -119,9 +124,37 @@ fn runs_with(alloc: Global, views: &[ViewRead], list: u64) -> Result<Vec<ViewRun
     Ok(runs)
 }
 
+// Appends the record of a list that isn't frozen, whose potentials are taken from its plan: nothing else asks for them.
+fn record_plan(
+    alloc: Global,
+    records: &mut Vec<u8>,
+    list: &ListRead,
+    plan: Plan,
+) -> Result<Plan, NoMemory>
+    ensures recorded { IfOk result (λ rest. list.now.meaning ≢ Dead → Appends SpellsRecord (OfList plan.potentials.items) records.old.items records.new.items) }
+    ensures frozen { IfOk result (λ rest. list.now.meaning ≡ Dead → records.new.items ≡ records.old.items) }
+    ensures picks { IfOk result (λ rest. (rest.picks.items ≡ plan.picks.items) × (rest.size ≡ plan.size)) }
+{
+    let Plan {
+        picks,
+        potentials,
+        size,
+    } = plan;
+    if let Meaning::Live(_) = &list.meaning {
+        put_record(records, &Proof::List(potentials))?;
+    }
+    Ok(Plan {
+        picks,
+        potentials: Vec::new(alloc),
+        size,
+    })
+}
+
 // The lists of a kind that something names, each with its plan, the new expressions of its items, and the view pairs that go with it.
+// Appends the records of those that aren't frozen.
 fn planned_lists(
     alloc: Global,
+    records: &mut Vec<u8>,
     world: &World<'_>,
     maps: &TableMaps,
     places: &Vec<Places>,
@@ -130,8 +163,10 @@ fn planned_lists(
     requires world { IsWorldOf world.now.image Narrow world.now }
     requires maps { AreMapsFor world.now (debug_addr world.now.image) maps.now }
     requires placed { AllHavePlaces world.now places.now.items }
+    requires none { records.old.items ≡ [] }
     ensures planned { IfOk result (λ lists. ArePlannedTo world.now places.now.items kind (length (lists_held world.now kind)) lists.items) }
     ensures viewed { IfOk result (λ lists. AreViewsUpTo (lists_held world.now kind) (views_held world.now kind) lists.items (length (views_held world.now kind))) }
+    ensures recorded { IfOk result (λ lists. AreRecordedTo world.now kind (length (lists_held world.now kind)) records.new.items) }
 {
     let addr = world.section(b".debug_addr");
     let section = section_of(world, kind);
@@ -139,7 +174,8 @@ fn planned_lists(
     let mut next = 0;
     let mut lists: Vec<NamedList> = Vec::new(alloc);
     for list in world.lists(kind) {
-        let plan = plan_of(alloc, world, maps, addr, kind, list)?;
+        let planned = plan_of(alloc, world, maps, addr, kind, list)?;
+        let plan = record_plan(alloc, records, list, planned)?;
         let expressions = new_expressions(alloc, world, places, kind, list, section)?;
         let runs = runs_with(alloc, &views[next..], list.at)?;
         next += runs.len();
@@ -164,6 +200,15 @@ fn section_of<'a>(world: &'a World<'_>, kind: ListKind) -> &'a [u8]
     }
 }
 
+/// The lists of a kind written anew.
+#[derive(Drop)]
+pub struct WrittenLists {
+    /// Their section.
+    pub image: ListImage,
+    /// The records that show why each list that isn't frozen is the shortest, one after the other in the order of the lists.
+    pub records: Vec<u8>,
+}
+
 /// The body of .debug_rnglists or .debug_loclists with the lists that something names written anew (DWARF 5 sections 2.6.2, 2.17.3,
 /// 7.7.3, 7.25, 7.28 and 7.29), each in its contribution and in the fewest bytes, with its expressions, in which each reference counts
 /// to the new place of what it names. Before it stand its view pairs. `places` are those of the units. The only error is want of memory.
@@ -173,15 +218,18 @@ pub fn write_kind(
     maps: &TableMaps,
     places: &Vec<Places>,
     kind: ListKind,
-) -> Result<ListImage, NoMemory>
+) -> Result<WrittenLists, NoMemory>
     requires world { IsWorldOf world.now.image Narrow world.now }
     requires maps { AreMapsFor world.now (debug_addr world.now.image) maps.now }
     requires placed { AllHavePlaces world.now places.now.items }
-    ensures written { IfOk result (λ image. (r : Reading) → Holds world.now.image world.now r → AreListsWritten r places.now.items kind image.bytes.items image.parts.items image.lists.items image.views.items) }
-    ensures fits { IfOk result (λ image. length image.bytes.items < least_reserved) }
+    ensures written { IfOk result (λ new. (r : Reading) → Holds world.now.image world.now r → AreListsWritten r places.now.items kind new.image.bytes.items new.image.parts.items new.image.lists.items new.image.views.items) }
+    ensures recorded { IfOk result (λ new. (r : Reading) → Holds world.now.image world.now r → AreListsRecorded r kind new.records.items) }
+    ensures fits { IfOk result (λ new. length new.image.bytes.items < least_reserved) }
 {
-    let lists = planned_lists(alloc, world, maps, places, kind)?;
+    let mut records = Vec::new(alloc);
+    let lists = planned_lists(alloc, &mut records, world, maps, places, kind)?;
     let section = section_of(world, kind);
     let parts = world.contributions(kind);
-    write_lists(alloc, kind, section, parts, &lists)
+    let image = write_lists(alloc, kind, section, parts, &lists)?;
+    Ok(WrittenLists { image, records })
 }

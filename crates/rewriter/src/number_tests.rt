@@ -14,7 +14,7 @@ fn numbers_of(alloc: Global, unit: u32) -> Result<NewNumbers, NoMemory> {
         return Err(NoMemory);
     }
     let tables = tables_of(alloc, &world)?;
-    let places = place_units(alloc, &world, &tables.tables)?;
+    let places = place_units(alloc, &world, &tables.tables)?.places;
     let new_places = new_places_of(alloc, &world)?;
     new_numbers(alloc, &world, &tables.tables, &places, &new_places, unit)
 }

@@ -8,7 +8,8 @@ use std::test::Fail;
 // The sections of the file written anew.
 fn sections_of(alloc: Global) -> Result<NewSections, NoMemory> {
     let world = world_of(alloc, &FILE)?;
-    write_sections(alloc, &world)
+    let new = write_sections(alloc, &world)?;
+    Ok(new.sections)
 }
 
 #[test]

@@ -1,5 +1,6 @@
 // The sections of a file that are written anew.
-ghost use Rattle.std.specs.Prelude.{◌≡◌, ◌<◌, ℕ, List, IfOk};
+ghost use Rattle.std.specs.Prelude.{◌≡◌, ◌++◌, IfOk};
+ghost use Rattle.leb_codec.specs.Records.{magic};
 ghost use Rattle.dw_base.specs.declared.fault.Reach.TheVariants.{Narrow};
 ghost use Rattle.line_write.specs.Least.{LeastLines, OrderedLines};
 ghost use Rattle.value_links.specs.Sections.{debug_line};
@@ -10,12 +11,13 @@ ghost use Rattle.rewriter.specs.inside.Sections.{AreFor};
 ghost use Rattle.rewriter.specs.inside.Anew.{AreAnew};
 
 use crate::anew::{write_aranges, write_lines};
-use crate::lists::write_kind;
+use crate::lists::{WrittenLists, write_kind};
 use crate::new_places::{ListPlaces, NewPlaces, moved_views};
-use crate::places::place_units;
+use crate::places::{PlacedUnits, place_units};
 use crate::table_maps::TableMaps;
 use crate::tables::write_tables;
 use crate::units::write_units;
+use certificates::MAGIC;
 use dw_base::NoMemory;
 use list_model::ListKind;
 use loc_lists::locations_written;
@@ -41,15 +43,44 @@ pub struct NewSections {
     pub aranges: Vec<u8>,
 }
 
+/// The sections of a file that are written anew, and its certificate.
+#[derive(Drop)]
+pub struct Anew {
+    /// The sections.
+    pub sections: NewSections,
+    /// The record file that shows why their parts are least.
+    pub certificate: Vec<u8>,
+}
+
+// A record file of these records: of line number programs, of range lists, of location lists and of units.
+fn certificate_of(
+    alloc: Global,
+    lines: &[u8],
+    ranges: &[u8],
+    locations: &[u8],
+    units: &[u8],
+) -> Result<Vec<u8>, NoMemory>
+    ensures { IfOk result (λ certificate. certificate.items ≡ magic ++ (lines.now ++ (ranges.now ++ (locations.now ++ units.now)))) }
+{
+    let mut certificate = Vec::new(alloc);
+    certificate.extend_from_slice(&MAGIC)?;
+    certificate.extend_from_slice(lines)?;
+    certificate.extend_from_slice(ranges)?;
+    certificate.extend_from_slice(locations)?;
+    certificate.extend_from_slice(units)?;
+    Ok(certificate)
+}
+
 /// Writes the debug sections of a file anew: its line number programs and abbreviation tables, then its lists by the new places of its
-/// units, then its units, and the sets of address ranges that name these. Each section has fewer than the 2^32 - 1 bytes that one of the 32-bit format can't have
-/// (DWARF 5 section 7.4). The only error is want of memory.
-pub fn write_sections(alloc: Global, world: &World<'_>) -> Result<NewSections, NoMemory>
+/// units, then its units, and the sets of address ranges that name these; and the certificate that shows why nothing shorter is in their
+/// classes. Each section has fewer than the 2^32 - 1 bytes that one of the 32-bit format can't have (DWARF 5 section 7.4). The only error
+/// is want of memory.
+pub fn write_sections(alloc: Global, world: &World<'_>) -> Result<Anew, NoMemory>
     requires world { IsWorldOf world.now.image Narrow world.now }
-    ensures anew { IfOk result (λ new. (r : Reading) → IsReading world.now.image r → Holds world.now.image world.now r → (s : Reading) × AreAnew world.now.image world.now r s new) }
-    ensures sections { IfOk result (λ new. AreFor world.now.image new) }
-    ensures least { IfOk result (λ new. LeastLines (debug_line world.now.image) new.lines.items) }
-    ensures order { IfOk result (λ new. OrderedLines (debug_line world.now.image) new.lines.items) }
+    ensures anew { IfOk result (λ new. (r : Reading) → IsReading world.now.image r → Holds world.now.image world.now r → (s : Reading) × AreAnew world.now.image world.now r s new.sections new.certificate.items) }
+    ensures sections { IfOk result (λ new. AreFor world.now.image new.sections) }
+    ensures least { IfOk result (λ new. LeastLines (debug_line world.now.image) new.sections.lines.items) }
+    ensures order { IfOk result (λ new. OrderedLines (debug_line world.now.image) new.sections.lines.items) }
 {
     // Laws, which cost nothing: what was read of a unit can be written, and lists that are written are read.
     values_have_sizes();
@@ -57,10 +88,26 @@ pub fn write_sections(alloc: Global, world: &World<'_>) -> Result<NewSections, N
     locations_written();
     let lines = write_lines(alloc, world)?;
     let tables = write_tables(alloc, world)?;
-    let places = place_units(alloc, world, &tables.tables)?;
+    let PlacedUnits {
+        places,
+        records: unit_records,
+    } = place_units(alloc, world, &tables.tables)?;
     let maps = TableMaps::new(alloc, world, world.section(b".debug_addr"))?;
-    let ranges = write_kind(alloc, world, &maps, &places, ListKind::Ranges)?;
-    let locations = write_kind(alloc, world, &maps, &places, ListKind::Locations)?;
+    let WrittenLists {
+        image: ranges,
+        records: range_records,
+    } = write_kind(alloc, world, &maps, &places, ListKind::Ranges)?;
+    let WrittenLists {
+        image: locations,
+        records: location_records,
+    } = write_kind(alloc, world, &maps, &places, ListKind::Locations)?;
+    let certificate = certificate_of(
+        alloc,
+        &lines.records,
+        &range_records,
+        &location_records,
+        &unit_records,
+    )?;
     let new_places = NewPlaces {
         programs: lines.starts,
         ranges: ListPlaces {
@@ -75,12 +122,16 @@ pub fn write_sections(alloc: Global, world: &World<'_>) -> Result<NewSections, N
     };
     let info = write_units(alloc, world, &tables, &places, &new_places)?;
     let aranges = write_aranges(alloc, world, &places)?;
-    Ok(NewSections {
+    let sections = NewSections {
         info,
         abbrevs: tables.bytes,
         lines: lines.bytes,
         ranges: ranges.bytes,
         locations: locations.bytes,
         aranges,
+    };
+    Ok(Anew {
+        sections,
+        certificate,
     })
 }

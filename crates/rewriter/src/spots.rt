@@ -44,7 +44,7 @@ fn spot_of(world: &World<'_>, unit: u32, id: u32, name: u64, old: u64) -> Spot
 }
 
 // What the slot of an operation names, in an expression of the unit with a number.
-fn op_spot(world: &World<'_>, unit: u32, op: &Op) -> Spot
+pub(crate) fn op_spot(world: &World<'_>, unit: u32, op: &Op) -> Spot
     requires world { (reach : Reach) × IsWorldOf world.now.image reach world.now }
     requires unit { unit < length world.now.units }
     requires slot { is_slot op.now.code op.now.a ≡ true }

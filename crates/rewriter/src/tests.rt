@@ -47,7 +47,7 @@ fn files_are_rewritten(rt: HostRuntime) -> Result<(), Fail> {
             Ok(written) => written,
             Err(_) => return Err("refused")?,
         };
-        assert_eq!(rt; written.as_slice(), NEW.as_slice());
+        assert_eq!(rt; written.file.as_slice(), NEW.as_slice());
     }
     Ok(())
 }
@@ -263,7 +263,7 @@ fn parts_are_rewritten(rt: HostRuntime) -> Result<(), Fail> {
             Ok(written) => written,
             Err(_) => return Err("refused")?,
         };
-        assert_eq!(rt; written.as_slice(), new);
+        assert_eq!(rt; written.file.as_slice(), new);
     }
     Ok(())
 }

@@ -10,7 +10,7 @@ use std::test::Fail;
 fn units_of(alloc: Global) -> Result<Vec<u8>, NoMemory> {
     let world = world_of(alloc, &FILE)?;
     let tables = tables_of(alloc, &world)?;
-    let places = place_units(alloc, &world, &tables.tables)?;
+    let places = place_units(alloc, &world, &tables.tables)?.places;
     let new_places = new_places_of(alloc, &world)?;
     write_units(alloc, &world, &tables, &places, &new_places)
 }

@@ -17,6 +17,7 @@ pub mod Same
 pub mod World
 pub mod Uses
 pub mod Placed
+pub mod Certificates
 pub mod Classes
 pub mod Layouts
 pub mod Tidy

@@ -15,6 +15,7 @@ use Rattle.rewriter.specs.declared.new_places.NewPlaces.{NewPlaces}
 use Rattle.rewriter.specs.declared.sections.NewSections.{NewSections}
 use Rattle.rewriter.specs.inside.Tables.{AreTablesWritten}
 use Rattle.rewriter.specs.inside.Placed.{places_at, IsPlacedBy}
+use Rattle.rewriter.specs.inside.Recorded.{IsRecorded}
 use Rattle.rewriter.specs.inside.Units.{AreUnitsWritten}
 use Rattle.rewriter.specs.inside.ListsAnew.{AreListsAnew}
 use Rattle.rewriter.specs.inside.ViewsAnew.{AreViewsAnew}
@@ -40,8 +41,8 @@ abbrev pub new_lists : NewSections → ListKind → List ℕ
 new_lists new Ranges = new.ranges.items
 new_lists new Locations = new.locations.items
 
--- What is read of the new sections of a file, of which so much was read, where its units stand at their new places.
-pub record AreAnew (file : List ℕ) (world : World) (r s : Reading) (new : NewSections) : Type 0 where
+-- What is read of the new sections of a file, of which so much was read, where its units stand at their new places; and its certificate.
+pub record AreAnew (file : List ℕ) (world : World) (r s : Reading) (new : NewSections) (certificate : List ℕ) : Type 0 where
   pub tables : List NewTable
   pub places : List Places
   pub new_places : NewPlaces
@@ -56,3 +57,4 @@ pub record AreAnew (file : List ℕ) (world : World) (r s : Reading) (new : NewS
   pub units : AreUnitsWritten world r.links tables places new_places new.info.items new.abbrevs.items s.links.units
   pub placed : (u : ℕ) → u < length world.units → IsPlacedBy world tables u (places_at places u)
   pub sets : AreSetsAnew (debug_aranges file) r s new.aranges.items
+  pub recorded : IsRecorded world r tables places new.lines.items certificate

@@ -1,6 +1,8 @@
 -- What parts of the rewriter of units know of a file that is held, and of what they have made of it.
 use Rattle.std.specs.Prelude.{◌≡◌, ◌≢◌, ◌≤◌, ◌<◌, ◌+◌, ◌^◌, ◌++◌, ℕ, List, length, slice_index, slice_index_or, take, Some}
 use Rattle.std.specs.List.{All, AllZip}
+use Rattle.spelled.specs.Spelled.{Appends}
+use Rattle.leb_codec.specs.Records.{OfLayout, SpellsRecord}
 use Rattle.form_codec.specs.declared.value.Value.{Value}
 use Rattle.form_codec.specs.declared.value.Value.TheVariants as value
 use Rattle.form_codec.specs.Forms.Meaning.{InUnit}
@@ -56,11 +58,12 @@ pub record HasTable (world : World) (tables : List NewTable) (u : ℕ) : Type 0 
   pub old : slice_index world.table_of u < length world.tables
   pub new : slice_index world.table_of u < length tables
 
--- the unit with a number stands at these places, from this one on
-pub record IsPlacedFrom (world : World) (tables : List NewTable) (u start : ℕ) (places : Places) : Type 0 where
+-- The unit with a number stands at these places, from this one on. Its record stands behind others.
+pub record IsPlacedFrom (world : World) (tables : List NewTable) (u start : ℕ) (old new : List ℕ) (places : Places) : Type 0 where
   pub begins : places.start ≡ start
   pub placed : IsPlacedBy world tables u (places_anew places)
   pub fits : places.end < least_reserved
+  pub recorded : Appends SpellsRecord (OfLayout placed.ranks) old new
 
 -- each entry and each code 0 of a unit has a place, which isn't before the unit
 pub record HavePlaces (f : Arena) (places : PlacesAnew) : Type 0 where

@@ -1,11 +1,14 @@
 -- The lists of a kind of a file written anew.
 use Rattle.std.specs.Prelude.{◌≡◌, ◌≤◌, ◌<◌, ◌+◌, ◌*◌, ℕ, List, length, map, Option, Some}
 use Rattle.std.specs.List.{AllZip}
+use Rattle.spelled.specs.Spelled.{Joined}
+use Rattle.leb_codec.specs.Records.{OfList, SpellsRecord}
 use Rattle.unit_write.specs.declared.places.Places.{Places}
 use Rattle.list_model.specs.declared.contribution.Contribution.{Contribution}
 use Rattle.list_model.specs.declared.entry.ListKind.{ListKind}
 use Rattle.list_model.specs.Entries.{Entry, AreSaid}
 use Rattle.list_model.specs.Items.{Bounds, Give}
+use Rattle.list_model.specs.Potentials.{AcceptsList, AreGreatest}
 use Rattle.list_least.specs.Plans.{entries_bytes, ArePicks}
 use Rattle.list_least.specs.Shortest.{ShortestList}
 use Rattle.list_write.specs.declared.image.Moved.{Moved}
@@ -14,6 +17,7 @@ use Rattle.list_write.specs.Written.{list_at as written_at}
 use Rattle.value_links.specs.Reading.{ListRead, Linkable, Reading, of_kind, lists_of, list_at, view_at, context_at}
 use Rattle.value_links.specs.Lists.{IsOwner, IsFrozen, owner_unit, expressions_at}
 use Rattle.value_links.specs.Classes.{AreLeastBytes}
+use Rattle.value_links.specs.Layouts.{AreNumbersOf}
 use Rattle.rewriter.specs.inside.Numbers.{IsNewExpression}
 use Rattle.rewriter.specs.inside.Runs.{views_among, run_for}
 
@@ -34,6 +38,21 @@ pub record IsPlannedFor (r : Reading) (kind : ListKind) (list : ListRead) (writt
   pub few : length entries ≤ 2 * length list.raws
   pub same : (old : List Entry) → AreSaid kind list.raws old → MeanTheSame r kind list old entries
   pub least : (bytes : List ℕ) → ShortestList kind entries bytes → AreLeastBytes r.links kind list bytes
+
+-- The potentials of a list that isn't frozen are accepted for what its entries give in the context of its owner, and for its size, and each is
+-- the greatest that is. The size is that of the shortest bytes of its class.
+pub record IsRecordedFor (r : Reading) (kind : ListKind) (list : ListRead) (potentials : List ℕ) : Type 0 where
+  pub size : ℕ
+  pub accepted : (u : ℕ) (old : List Entry) (bounds : List Bounds) → IsOwner r.links kind list.at (Some u) → AreSaid kind list.raws old → Give r.links.addresses (context_at r.links u) old bounds → AcceptsList r.links.addresses (context_at r.links u) bounds potentials size × AreGreatest r.links.addresses (context_at r.links u) bounds potentials
+  pub sized : (bytes : List ℕ) → AreLeastBytes r.links kind list bytes → length bytes ≡ size
+
+-- The records have the potentials of the lists of a kind that aren't frozen, one after the other.
+pub record AreListsRecorded (r : Reading) (kind : ListKind) (records : List ℕ) : Type 0 where
+  pub numbers : List ℕ
+  pub live : AreNumbersOf (λ (k : ℕ). ¬ IsFrozen r.links kind (list_at (lists_of r kind) k)) (length (lists_of r kind)) numbers
+  pub potentials : List (List ℕ)
+  pub recorded : AllZip (λ (k : ℕ) (each : List ℕ). IsRecordedFor r kind (list_at (lists_of r kind) k) each) numbers potentials
+  pub spelled : Joined SpellsRecord (map OfList potentials) records
 
 -- The expressions of a list's items are to be written with their operations, each reference at the new place of what it names.
 pub record AreNewExpressions (r : Linkable) (places : List Places) (kind : ListKind) (list : ListRead) (made : List (List ℕ)) : Type 0 where

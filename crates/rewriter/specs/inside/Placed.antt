@@ -1,16 +1,21 @@
 -- Where the units of a file, their entries and the codes 0 that end chains stand in the new .debug_info.
 use Rattle.std.specs.Prelude.{◌≡◌, ◌<◌, ℕ, List, [], ◌∷◌, length, slice_index, slice_index_or, map}
+use Rattle.spelled.specs.Spelled.{Joined}
+use Rattle.leb_codec.specs.Records.{OfLayout, SpellsRecord}
 use Rattle.fixed_width.specs.InitialLengths.{least_reserved}
 use Rattle.expr_ops.specs.Expressions.{Operation}
+use Rattle.expr_ops.specs.Slots.{Aim}
 use Rattle.entry_read.specs.Slots.{operations_in}
 use Rattle.entry_read.specs.Units.{HeadAndForest}
 use Rattle.unit_write.specs.declared.places.Places.{Places}
 use Rattle.unit_write.specs.Lens.{AreLensFor}
 use Rattle.unit_write.specs.Moved.{IsWritable, IsPlacedAt}
+use Rattle.unit_write.specs.declared.slots.ListSlot.{ListSlot}
 use Rattle.unit_write.specs.declared.slots.Spot.{Spot}
-use Rattle.unit_write.specs.Slots.{AreSpotsOf, IsLaidOut}
+use Rattle.unit_write.specs.Slots.{AreSpotsOf, AreListSlots, IsLaidOut, all_spots}
 use Rattle.value_links.specs.World.{World, table_at, operations_at}
 use Rattle.rewriter.specs.declared.tables.NewTable.{NewTable}
+use Rattle.rewriter.specs.inside.Owned.{AreOwnedIn, AreListAims}
 use Rattle.rewriter.specs.inside.Tables.{new_table_at}
 
 -- the places of a unit: where it begins, its entries, its codes 0, and where it ends
@@ -34,12 +39,20 @@ unit_in units u = slice_index_or units u (record { head = record { at = 0; len =
 abbrev pub operations_for : World → ℕ → ℕ → List Operation
 operations_for world u = operations_in (unit_in world.units u).forest (operations_at world.operations u)
 
--- The unit stands at these places, by the new columns and numbers of its table and the least layout of its slots.
+-- The unit stands at these places, by the new columns and numbers of its table and the least layout of its slots and of those of the
+-- location lists that it owns. The ranks show why the layout is the least.
 pub record IsPlacedBy (world : World) (tables : List NewTable) (u : ℕ) (places : PlacesAnew) : Type 0 where
   pub spots : List Spot
   pub named : AreSpotsOf (unit_in world.units u) (operations_for world u) spots
+  pub owned : List ℕ
+  pub owns : AreOwnedIn world u owned
+  pub more : List Aim
+  pub told : AreListAims world owned more
+  pub lists : List ListSlot
+  pub listed : AreListSlots (unit_in world.units u) more lists
   pub lens : List ℕ
-  pub laid_out : IsLaidOut (unit_in world.units u) (table_at world.tables (slice_index world.table_of u)).table (new_table_at tables (slice_index world.table_of u)).columns (new_table_at tables (slice_index world.table_of u)).numbers (operations_for world u) spots lens
+  pub ranks : List ℕ
+  pub laid_out : IsLaidOut (unit_in world.units u) (table_at world.tables (slice_index world.table_of u)).table (new_table_at tables (slice_index world.table_of u)).columns (new_table_at tables (slice_index world.table_of u)).numbers (operations_for world u) more (all_spots spots lists) lens ranks
   pub placed : IsPlacedAt (unit_in world.units u) (table_at world.tables (slice_index world.table_of u)).table (new_table_at tables (slice_index world.table_of u)).columns (new_table_at tables (slice_index world.table_of u)).numbers lens places.start places.entries places.ends places.end
 
 -- units stand one after the other, from a place up to another
@@ -58,3 +71,10 @@ pub record ArePlacesOf (world : World) (tables : List NewTable) (places : List P
 abbrev pub AreWritable : World → List NewTable → Type 0
 AreWritable world tables =
     (u : ℕ) (lens : List ℕ) → u < length world.units → AreLensFor (unit_in world.units u).forest lens → IsWritable (unit_in world.units u) (table_at world.tables (slice_index world.table_of u)).table (new_table_at tables (slice_index world.table_of u)).columns (new_table_at tables (slice_index world.table_of u)).numbers lens
+
+-- the records of units have these ranks, one after the other
+pub record AreRanksOf (world : World) (tables : List NewTable) (places : List Places) (records : List ℕ) : Type 0 where
+  pub all : List (List ℕ)
+  pub count : length all ≡ length world.units
+  pub each : (u : ℕ) → u < length world.units → (placed : IsPlacedBy world tables u (places_at places u)) × (placed.ranks ≡ slice_index_or all u [])
+  pub spelled : Joined SpellsRecord (map OfLayout all) records

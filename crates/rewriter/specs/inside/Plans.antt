@@ -1,8 +1,11 @@
 -- The plans of the lists of a file, their new expressions, and the maps of the address tables that the plans need.
-use Rattle.std.specs.Prelude.{◌≡◌, ◌≤◌, ◌<◌, ◌+◌, ◌*◌, ℕ, List, length, map, take, slice_index_or, Some, None}
-use Rattle.std.specs.List.{All, Contains}
+use Rattle.std.specs.Prelude.{◌≡◌, ◌≢◌, ◌≤◌, ◌<◌, ◌+◌, ◌*◌, ℕ, List, length, map, take, slice_index_or, Some, None}
+use Rattle.std.specs.List.{All, AllZip, Contains}
+use Rattle.spelled.specs.Spelled.{Joined}
+use Rattle.leb_codec.specs.Records.{OfList, SpellsRecord}
 use Rattle.list_model.specs.declared.context.Context.{Context}
 use Rattle.list_model.specs.declared.entry.ListKind.{ListKind}
+use Rattle.list_model.specs.declared.item.Meaning.TheVariants.{Dead}
 use Rattle.list_model.specs.declared.tables.AddrTable.{AddrTable}
 use Rattle.list_least.specs.declared.plan.Plan.{Plan}
 use Rattle.list_least.specs.Maps.{pair_at, IsMapOf}
@@ -13,11 +16,12 @@ use Rattle.unit_write.specs.declared.places.Places.{Places}
 use Rattle.value_links.specs.declared.lists.ListRead.{ListRead as HeldList}
 use Rattle.value_links.specs.declared.views.ViewRead.{ViewRead as HeldViews}
 use Rattle.value_links.specs.Reading.{ListRead, Reading, no_context}
+use Rattle.value_links.specs.Layouts.{AreNumbersOf}
 use Rattle.value_links.specs.ListFaults.{expression_bytes}
 use Rattle.value_links.specs.World.{World, lists_held, Holds, HoldsList}
 use Rattle.rewriter.specs.declared.table_maps.TableMap.{TableMap}
 use Rattle.rewriter.specs.declared.table_maps.TableMaps.{TableMaps}
-use Rattle.rewriter.specs.inside.Lists.{IsPlannedFor, AreNewExpressions}
+use Rattle.rewriter.specs.inside.Lists.{IsPlannedFor, IsRecordedFor, AreNewExpressions}
 use Rattle.rewriter.specs.inside.Runs.{run_held}
 
 -- TABLES
@@ -77,6 +81,18 @@ with_plan list plan other = record { part = list.part; at = list.at; plan = plan
 abbrev pub IsPlanOf : World → ListKind → HeldList → Plan → Type 0
 IsPlanOf world kind list plan =
     (r : Reading) (old : ListRead) (other : NamedList) → Holds world.image world r → HoldsList r.links kind old list → IsPlannedFor r kind old (to_write (with_plan list plan other))
+
+-- The potentials are those of a list that is held and isn't frozen, whatever reading holds it.
+abbrev pub ArePotentialsOf : World → ListKind → HeldList → List ℕ → Type 0
+ArePotentialsOf world kind list potentials = (r : Reading) (old : ListRead) → Holds world.image world r → HoldsList r.links kind old list → IsRecordedFor r kind old potentials
+
+-- The records have the potentials of those among the first so many lists that are held by their items.
+pub record AreRecordedTo (world : World) (kind : ListKind) (count : ℕ) (records : List ℕ) : Type 0 where
+  pub numbers : List ℕ
+  pub live : AreNumbersOf (λ (k : ℕ). (d : HeldList) → (slice_index_or (lists_held world kind) k d).meaning ≢ Dead) count numbers
+  pub potentials : List (List ℕ)
+  pub recorded : AllZip (λ (k : ℕ) (each : List ℕ). (d : HeldList) → ArePotentialsOf world kind (slice_index_or (lists_held world kind) k d) each) numbers potentials
+  pub spelled : Joined SpellsRecord (map OfList potentials) records
 
 -- Its items are to have these expressions, which stand one after the other and have at most three times the bytes of the old ones.
 pub record AreExpressionsFor (world : World) (places : List Places) (kind : ListKind) (list : HeldList) (new : NewExpressions) : Type 0 where

@@ -6,14 +6,16 @@ use Rattle.value_links.specs.Sections.{debug_line}
 use Rattle.value_links.specs.Faults.{IsValid}
 use Rattle.value_links.specs.Same.{Same}
 use Rattle.value_links.specs.Placed.{IsPlaced}
+use Rattle.value_links.specs.Certificates.{IsCertificate, IsFirstCertificate}
 use Rattle.value_links.specs.Classes.{HaveLeastCodes, HaveOrderedCodes, HaveLeastColumns, HaveFirstColumns, HaveLeastLists}
 use Rattle.value_links.specs.Layouts.{HaveLeastLayouts}
 use Rattle.value_links.specs.Tidy.{IsTidy}
 
 -- The written file means the same and is valid within the wide limits. Its line number programs, its lists, the forms of its columns,
 -- the codes of its entries and the slots of its units take the fewest bytes, and of several such choices each is the one that comes first
--- by a stated rule. Its tables and units hold nothing else, and its parts stand where they are to stand.
-pub record IsRewritten (file written : List ℕ) : Type 0 where
+-- by a stated rule. Its tables and units hold nothing else, and its parts stand where they are to stand. The certificate shows why it is
+-- least.
+pub record IsRewritten (file written certificate : List ℕ) : Type 0 where
   pub same : Same file written
   pub still_valid : IsValid written Wide
   pub least : LeastLines (debug_line file) (debug_line written)
@@ -26,3 +28,5 @@ pub record IsRewritten (file written : List ℕ) : Type 0 where
   pub layouts : HaveLeastLayouts file written
   pub tidy : IsTidy file written
   pub placed : IsPlaced file written
+  pub certified : IsCertificate written certificate
+  pub certified_first : IsFirstCertificate written certificate

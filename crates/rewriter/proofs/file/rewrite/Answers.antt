@@ -32,3 +32,9 @@ returns-clause-layouts c = (rw c.in_ok-world.ensures.world.holds.image at c.in_o
 
 pub returns-clause-tidy : goal.returns-clause-tidy
 returns-clause-tidy c = (rw c.in_ok-world.ensures.world.holds.image at c.in_ok-write_anew.ensures.rewritten).tidy
+
+pub returns-clause-certified : goal.returns-clause-certified
+returns-clause-certified c = (rw c.in_ok-world.ensures.world.holds.image at c.in_ok-write_anew.ensures.rewritten).certified
+
+pub returns-clause-certified_first : goal.returns-clause-certified_first
+returns-clause-certified_first c = (rw c.in_ok-world.ensures.world.holds.image at c.in_ok-write_anew.ensures.rewritten).certified_first

@@ -4,7 +4,11 @@ use Rattle.std.proofs.lemmas.Grind.{common_steps}
 use Rattle.dw_base.specs.declared.fault.Reach.TheVariants.{Narrow}
 use Rattle.entry_arena.specs.Operations.{HeldOps}
 use Rattle.entry_read.specs.Units.{HeadAndForest}
+use Rattle.slot_layout.specs.Rows.{most_slots}
+use Rattle.unit_write.specs.declared.slots.ListSlot.{ListSlot}
+use Rattle.unit_write.specs.Slots.{AreListSlots}
 use Rattle.unit_write.specs.Most.{most_bytes}
+use Rattle.rewriter.specs.inside.Placed.{unit_in}
 use Rattle.rewriter.proofs.UnitRoom.{units_are_few}
 use Rattle.rewriter.proofs.Links.{own_is}
 use Rattle.rewriter.proofs.Final.{named_is, new_table_is}
@@ -24,14 +28,20 @@ overflow_cast-number c =
     let known : c.args.number < length c.args.world.now.units = c.requires.known in
     record { fits = omega (arith, few, known) }
 
+pub overflow_cast-number-2 : goal.overflow_cast-number-2
+overflow_cast-number-2 c =
+    let few : length c.args.world.now.units < 2 ^ 32 = units_are_few c.args.world.now Narrow c.requires.world in
+    let known : c.args.number < length c.args.world.now.units = c.requires.known in
+    record { fits = omega (arith, few, known) }
+
 pub index-requires : goal.index-requires
 index-requires c =
     let has = has_tables c.args.world.now c.args.tables.now.items c.args.number c.requires.world c.requires.writable c.requires.known in
     let inside : c.args.number < length c.table_numbers.result.now.items = subst (λ (z : List ℕ). c.args.number < length z) (sym c.table_numbers.ensures) has.numbered in
     grind (arith, common_steps, inside)
 
-pub index-old-requires : goal.index-old-requires
-index-old-requires c =
+pub index-requires-2 : goal.index-requires-2
+index-requires-2 c =
     let has = has_tables c.args.world.now c.args.tables.now.items c.args.number c.requires.world c.requires.writable c.requires.known in
     let at = number_read c.args.world.now c.args.number c.table_numbers.result.now.items c.index.result.now has.numbered c.table_numbers.ensures c.index.ensures in
     let inside : slice_index c.args.world.now.table_of c.args.number < length c.args.world.now.tables = has.old in
@@ -56,9 +66,9 @@ lay_out-requires-clause-writable c =
     let own = own_is c.args.world.now c.args.number c.units.result.now.items c.index-unit.result.now c.requires.known c.units.ensures c.index-unit.ensures in
     let operations = operations_read c.args.world.now c.args.number c.operations.result.now.items c.index-operations.result.now (operations_count c.args.world.now (Narrow, c.requires.world) c.args.number c.requires.known) c.operations.ensures c.index-operations.ensures in
     let has = has_tables c.args.world.now c.args.tables.now.items c.args.number c.requires.world c.requires.writable c.requires.known in
-    let old = named_is c.args.world.now c.args.number c.tables.result.now.items c.table_numbers.result.now.items c.index.result.now c.index-old.result.now has.numbered has.old c.tables.ensures c.table_numbers.ensures c.index.ensures c.index-old.ensures in
+    let old = named_is c.args.world.now c.args.number c.tables.result.now.items c.table_numbers.result.now.items c.index.result.now c.index-2.result.now has.numbered has.old c.tables.ensures c.table_numbers.ensures c.index.ensures c.index-2.ensures in
     let new = new_table_is c.args.world.now c.args.tables.now.items c.args.number c.table_numbers.result.now.items c.index.result.now c.index-new.result.now has c.table_numbers.ensures c.index.ensures c.index-new.ensures in
-    writable_however c.args.world.now c.args.tables.now.items c.args.number c.index-unit.result.now c.index-operations.result.now c.index-old.result.now c.index-new.result.now own operations old new c.requires.writable c.requires.known
+    writable_however c.args.world.now c.args.tables.now.items c.args.number c.index-unit.result.now c.index-operations.result.now c.index-2.result.now c.index-new.result.now own operations old new c.requires.writable c.requires.known
 
 pub lay_out-requires-clause-room : goal.lay_out-requires-clause-room
 lay_out-requires-clause-room c =
@@ -68,25 +78,32 @@ lay_out-requires-clause-room c =
 
 pub lay_out-requires-clause-few : goal.lay_out-requires-clause-few
 lay_out-requires-clause-few c =
-    spots_few c.args.world.now c.args.number c.requires.world c.requires.known c.in_ok-spots.spots.items c.slots_fit.ensures c.in_ok-spots.ensures
+    let few = spots_few c.args.world.now c.args.number c.requires.world c.requires.known c.in_ok-spots.spots.items c.in_ok-lists.lists.items c.slots_fit.ensures c.in_ok-spots.ensures c.in_ok-lists.ensures.few in
+    subst (λ (z : List ListSlot). length c.in_ok-spots.spots.items + length z ≤ most_slots) (sym c.deref.ensures.value) few
+
+pub lay_out-requires-clause-lists : goal.lay_out-requires-clause-lists
+lay_out-requires-clause-lists c =
+    let own = own_is c.args.world.now c.args.number c.units.result.now.items c.index-unit.result.now c.requires.known c.units.ensures c.index-unit.ensures in
+    let (more, told, are) = c.in_ok-lists.ensures.slots in
+    (more, subst (λ (z : List ListSlot). AreListSlots c.index-unit.result.now more z) (sym c.deref.ensures.value) (subst (λ (h : HeadAndForest). AreListSlots h more c.in_ok-lists.lists.items) (sym own) are))
 
 pub lay_out-requires-clause-spots : goal.lay_out-requires-clause-spots
 lay_out-requires-clause-spots c =
     let own = own_is c.args.world.now c.args.number c.units.result.now.items c.index-unit.result.now c.requires.known c.units.ensures c.index-unit.ensures in
     let operations = operations_read c.args.world.now c.args.number c.operations.result.now.items c.index-operations.result.now (operations_count c.args.world.now (Narrow, c.requires.world) c.args.number c.requires.known) c.operations.ensures c.index-operations.ensures in
     let has = has_tables c.args.world.now c.args.tables.now.items c.args.number c.requires.world c.requires.writable c.requires.known in
-    let old = named_is c.args.world.now c.args.number c.tables.result.now.items c.table_numbers.result.now.items c.index.result.now c.index-old.result.now has.numbered has.old c.tables.ensures c.table_numbers.ensures c.index.ensures c.index-old.ensures in
+    let old = named_is c.args.world.now c.args.number c.tables.result.now.items c.table_numbers.result.now.items c.index.result.now c.index-2.result.now has.numbered has.old c.tables.ensures c.table_numbers.ensures c.index.ensures c.index-2.ensures in
     let new = new_table_is c.args.world.now c.args.tables.now.items c.args.number c.table_numbers.result.now.items c.index.result.now c.index-new.result.now has c.table_numbers.ensures c.index.ensures c.index-new.ensures in
-    spots_there c.args.world.now c.args.tables.now.items c.args.number c.index-unit.result.now c.index-operations.result.now c.index-old.result.now c.index-new.result.now own operations old new c.in_ok-spots.spots.items c.in_ok-spots.ensures
+    spots_there c.args.world.now c.args.tables.now.items c.args.number c.index-unit.result.now c.index-operations.result.now c.index-2.result.now c.index-new.result.now own operations old new c.in_ok-spots.spots.items c.in_ok-spots.ensures
 
 pub place_unit-requires-clause-writable : goal.place_unit-requires-clause-writable
 place_unit-requires-clause-writable c =
     let own = own_is c.args.world.now c.args.number c.units.result.now.items c.index-unit.result.now c.requires.known c.units.ensures c.index-unit.ensures in
     let operations = operations_read c.args.world.now c.args.number c.operations.result.now.items c.index-operations.result.now (operations_count c.args.world.now (Narrow, c.requires.world) c.args.number c.requires.known) c.operations.ensures c.index-operations.ensures in
     let has = has_tables c.args.world.now c.args.tables.now.items c.args.number c.requires.world c.requires.writable c.requires.known in
-    let old = named_is c.args.world.now c.args.number c.tables.result.now.items c.table_numbers.result.now.items c.index.result.now c.index-old.result.now has.numbered has.old c.tables.ensures c.table_numbers.ensures c.index.ensures c.index-old.ensures in
+    let old = named_is c.args.world.now c.args.number c.tables.result.now.items c.table_numbers.result.now.items c.index.result.now c.index-2.result.now has.numbered has.old c.tables.ensures c.table_numbers.ensures c.index.ensures c.index-2.ensures in
     let new = new_table_is c.args.world.now c.args.tables.now.items c.args.number c.table_numbers.result.now.items c.index.result.now c.index-new.result.now has c.table_numbers.ensures c.index.ensures c.index-new.ensures in
-    writable_however c.args.world.now c.args.tables.now.items c.args.number c.index-unit.result.now c.index-operations.result.now c.index-old.result.now c.index-new.result.now own operations old new c.requires.writable c.requires.known c.in_ok-lens.lens.items c.in_ok-lens.ensures.lens
+    writable_however c.args.world.now c.args.tables.now.items c.args.number c.index-unit.result.now c.index-operations.result.now c.index-2.result.now c.index-new.result.now own operations old new c.requires.writable c.requires.known c.in_ok-laid.laid.lens.items c.in_ok-laid.ensures.lens
 
 pub place_unit-requires-clause-room : goal.place_unit-requires-clause-room
 place_unit-requires-clause-room c =
@@ -99,9 +116,23 @@ returns-clause-placed c =
     let own = own_is c.args.world.now c.args.number c.units.result.now.items c.index-unit.result.now c.requires.known c.units.ensures c.index-unit.ensures in
     let operations = operations_read c.args.world.now c.args.number c.operations.result.now.items c.index-operations.result.now (operations_count c.args.world.now (Narrow, c.requires.world) c.args.number c.requires.known) c.operations.ensures c.index-operations.ensures in
     let has = has_tables c.args.world.now c.args.tables.now.items c.args.number c.requires.world c.requires.writable c.requires.known in
-    let old = named_is c.args.world.now c.args.number c.tables.result.now.items c.table_numbers.result.now.items c.index.result.now c.index-old.result.now has.numbered has.old c.tables.ensures c.table_numbers.ensures c.index.ensures c.index-old.ensures in
+    let old = named_is c.args.world.now c.args.number c.tables.result.now.items c.table_numbers.result.now.items c.index.result.now c.index-2.result.now has.numbered has.old c.tables.ensures c.table_numbers.ensures c.index.ensures c.index-2.ensures in
     let new = new_table_is c.args.world.now c.args.tables.now.items c.args.number c.table_numbers.result.now.items c.index.result.now c.index-new.result.now has c.table_numbers.ensures c.index.ensures c.index-new.ensures in
-    all_placed_back c.args.world.now c.args.tables.now.items c.args.number c.index-unit.result.now c.index-operations.result.now c.index-old.result.now c.index-new.result.now own operations old new c.in_ok-lens.lens.items c.in_ok-spots.spots.items c.args.start c.place_unit.result c.in_ok-spots.ensures c.in_ok-lens.ensures.laid_out c.place_unit.ensures.start c.place_unit.ensures.fits c.place_unit.ensures.placed
+    let (more, told, are) = c.in_ok-lists.ensures.slots in
+    let listed = subst (AreListSlots (unit_in c.args.world.now.units c.args.number) more) (sym c.deref.ensures.value) are in
+    all_placed_back c.args.world.now c.args.tables.now.items c.args.number c.index-unit.result.now c.index-operations.result.now c.index-2.result.now c.index-new.result.now own operations old new c.in_ok-laid.laid.lens.items c.in_ok-laid.laid.ranks.items c.args.start c.args.records.now.items c.put_record.new.out.items c.place_unit.result
+    (record {
+      spots = c.in_ok-spots.spots.items;
+      named = c.in_ok-spots.ensures;
+      owned = c.args.owned.now;
+      owns = c.requires.owned;
+      more = more;
+      told = told;
+      lists = c.deref.result.now;
+      listed = listed;
+      laid_out = c.in_ok-laid.ensures.laid_out more (subst (λ (h : HeadAndForest). AreListSlots h more c.deref.result.now) (sym own) listed);
+    })
+    c.in_ok-put_record.ensures c.place_unit.ensures.start c.place_unit.ensures.fits c.place_unit.ensures.placed
 
 pub returns-clause-most : goal.returns-clause-most
 returns-clause-most c =

@@ -1,7 +1,7 @@
 use Rattle.std.proofs.Common.{◌∙◌, length, sym, ap, refl, arith}
 use Rattle.rewriter.proofs.Arranged.{all_placed}
 use Rattle.rewriter.proofs.ListsRead.{list_places, views_held_count, view_places}
-use Rattle.rewriter.proofs.SectionsAnew.{parts_of, are_anew, are_for, writable, places_are_new, places_fit}
+use Rattle.rewriter.proofs.SectionsAnew.{parts_of, recorded_of, are_anew, are_for, writable, places_are_new, places_fit}
 use Rattle.rewriter.proofs.sections.write_sections.Goals as goal
 
 pub place_units-requires-clause-writable : goal.place_units-requires-clause-writable
@@ -10,11 +10,11 @@ place_units-requires-clause-writable c =
 
 pub write_kind-requires-clause-placed : goal.write_kind-requires-clause-placed
 write_kind-requires-clause-placed c =
-    all_placed c.args.world.now c.in_ok-tables.tables.tables.items c.in_ok-places.places.items c.in_ok-places.ensures.placed.0 c.in_ok-places.ensures.placed.1
+    all_placed c.args.world.now c.in_ok-tables.tables.tables.items c.in_ok-places.field-0.places.items c.in_ok-places.ensures.placed.0 c.in_ok-places.ensures.placed.1
 
 pub write_kind-requires-2-clause-placed : goal.write_kind-requires-2-clause-placed
 write_kind-requires-2-clause-placed c =
-    all_placed c.args.world.now c.in_ok-tables.tables.tables.items c.in_ok-places.places.items c.in_ok-places.ensures.placed.0 c.in_ok-places.ensures.placed.1
+    all_placed c.args.world.now c.in_ok-tables.tables.tables.items c.in_ok-places.field-0.places.items c.in_ok-places.ensures.placed.0 c.in_ok-places.ensures.placed.1
 
 pub moved_views-requires : goal.moved_views-requires
 moved_views-requires c =
@@ -39,13 +39,14 @@ write_units-requires-clause-new_places c =
 
 pub write_aranges-requires-clause-fit : goal.write_aranges-requires-clause-fit
 write_aranges-requires-clause-fit c =
-    places_fit c.args.world.now c.in_ok-tables.tables.tables.items c.in_ok-places.places.items c.in_ok-places.ensures.placed.0 c.in_ok-places.ensures.placed.1
+    places_fit c.args.world.now c.in_ok-tables.tables.tables.items c.in_ok-places.field-0.places.items c.in_ok-places.ensures.placed.0 c.in_ok-places.ensures.placed.1
 
 pub returns-clause-anew : goal.returns-clause-anew
 returns-clause-anew c =
     λ r read holds.
     let parts = parts_of holds c.in_ok-lines.ensures.stand (c.in_ok-ranges.ensures.written r holds) (c.in_ok-locations.ensures.written r holds) (rw c.views.ensures at c.in_ok-moved_views.ensures) c.in_ok-tables.ensures.written c.in_ok-places.ensures.placed.1.count c.in_ok-places.ensures.placed.1.each (c.in_ok-info.ensures.written c.args.world.now.image r holds) c.in_ok-aranges.ensures.tiled c.in_ok-aranges.ensures.others c.in_ok-aranges.ensures.size in
-    are_anew parts read c.ranges_written.ensures c.locations_written.ensures _ refl refl refl refl refl refl
+    let recorded = recorded_of c.in_ok-certificate.ensures c.deref.ensures.value c.deref-2.ensures.value c.deref-3.ensures.value c.deref-4.ensures.value c.in_ok-lines.ensures.records (c.in_ok-ranges.ensures.recorded r holds) (c.in_ok-locations.ensures.recorded r holds) c.in_ok-places.ensures.records in
+    are_anew parts read c.ranges_written.ensures c.locations_written.ensures _ _ refl refl refl refl refl refl recorded
 
 pub returns-clause-sections : goal.returns-clause-sections
 returns-clause-sections c =

@@ -1,11 +1,13 @@
 -- A file that has its new sections is read, means what the old one means, is valid, has the codes, the forms of columns and the
--- references within units that take the least bytes, and holds nothing else.
+-- references within units that take the least bytes, and holds nothing else. Its certificate shows why its parts are least.
 use Rattle.std.proofs.Common.{◌≡◌, ◌≤◌, ◌<◌, ◌+◌, ◌^◌, ◌∙◌, ℕ, List, [], length, sym, ap, subst, arith}
 use Rattle.std.specs.Prelude.{map, slice_index}
 use Rattle.dw_base.specs.declared.fault.Reach.TheVariants.{Narrow, Wide}
 use Rattle.abbrev_tables.specs.LeastColumns.{IsLeastColumn, IsFirstColumn}
+use Rattle.line_sums.specs.Accepted.{AreLeastRuns}
 use Rattle.line_write.specs.Least.{LeastLines, OrderedLines}
 use Rattle.line_write.specs.Meaning.{HaveMeanings}
+use Rattle.line_write.specs.Records.{HaveRuns}
 use Rattle.companions.specs.declared.set.ArangeSet.{ArangeSet}
 use Rattle.companions.specs.Aranges.{SetsTile}
 use Rattle.list_model.specs.declared.entry.ListKind.{ListKind}
@@ -25,22 +27,25 @@ use Rattle.rewriter.specs.declared.sections.NewSections.{NewSections}
 use Rattle.rewriter.specs.inside.Bodies.{NewBytes}
 use Rattle.rewriter.specs.inside.Sections.{HasSections}
 use Rattle.value_links.specs.Classes.{OfBoth, HasLeastCodes, HasOrderedCodes, HaveLeastCodes, HaveOrderedCodes, HaveColumns, HaveLeastColumns, HaveFirstColumns, HaveLeastLists}
+use Rattle.value_links.specs.Certificates.{IsCertificate, IsFirstCertificate}
 use Rattle.value_links.specs.Layouts.{HaveLeastLayouts}
 use Rattle.rewriter.specs.inside.Anew.{new_lists, AreAnew}
 use Rattle.rewriter.specs.inside.Follows.{AreReadAnew}
 use Rattle.value_links.specs.Tidy.{AreTidy, IsTidy}
 use Rattle.rewriter.specs.inside.Rewritten.{IsRewritten}
+use Rattle.rewriter.proofs.Certified.{have_accepted_runs, record_file}
 use Rattle.rewriter.proofs.Codes.{least_codes, ordered_codes}
 use Rattle.rewriter.proofs.ContextsStay.{contexts_stay, addresses_stay}
 use Rattle.rewriter.proofs.Following.{links_follow}
 use Rattle.rewriter.proofs.ListMeanings.{lists_stay, parts_follow, tidy_lists}
+use Rattle.rewriter.proofs.ListRecords.{potentials_accepted, potentials_greatest}
 use Rattle.rewriter.proofs.ListsWithin.{lists_within}
 use Rattle.rewriter.proofs.RootsStay.{roots_stay}
 use Rattle.rewriter.proofs.ViewsRead.{views_stay, tidy_views}
 use Rattle.rewriter.proofs.WideExpressions.{expressions_are_wide}
 use Rattle.rewriter.proofs.Tidied.{are_tidy}
 use Rattle.rewriter.proofs.LeastColumns.{least_columns, first_columns}
-use Rattle.rewriter.proofs.LeastLayouts.{least_layouts}
+use Rattle.rewriter.proofs.LeastLayouts.{least_layouts, ranks_there, first_ranks_there}
 use Rattle.rewriter.proofs.ValidImages.{image_in_order}
 
 -- the new sections of a file, one by one
@@ -64,7 +69,7 @@ module _ (file written : List ℕ) (new : NewSections) (has : HasSections file n
   aranges_are : debug_aranges written ≡ new.aranges.items
   aranges_are = has.sections 5 none (omega arith)
 
-module _ (file written : List ℕ) (world : World) (r s : Reading) (new : NewSections) (read : IsReading file r) (holds : Holds file world r) (anew : AreAnew file world r s new) (has : HasSections file new written) where
+module _ (file written : List ℕ) (world : World) (r s : Reading) (new : NewSections) (certificate : List ℕ) (read : IsReading file r) (holds : Holds file world r) (anew : AreAnew file world r s new certificate) (has : HasSections file new written) where
   all_anew : AreReadAnew file world anew.tables anew.places anew.new_places new.info.items new.abbrevs.items r s
   all_anew = record {
     read = read;
@@ -154,7 +159,7 @@ module _ (file written : List ℕ) (world : World) (r s : Reading) (new : NewSec
 
   -- the references within each unit are in the least sizes
   pub layouts_anew : HaveLeastLayouts file written
-  layouts_anew = (r, s, read, reads_anew, least_layouts r s read holds anew.units anew.placed)
+  layouts_anew = (r, s, read, reads_anew, least_layouts all_anew anew.placed)
 
   -- each list is in the shortest bytes of its class
   pub lists_anew : HaveLeastLists file written
@@ -167,24 +172,49 @@ module _ (file written : List ℕ) (world : World) (r s : Reading) (new : NewSec
       let tidy : AreTidy new.abbrevs.items r s = are_tidy all_anew (λ kind. tidy_lists all_anew kind (anew.filled kind)) (tidy_views all_anew) in
       (r, s, read, reads_anew, subst (λ (z : List ℕ). AreTidy z r s) (sym (abbrevs_are file written new has)) tidy)
 
+  -- the runs of the new programs are those of the file
+  runs_anew : HaveRuns AreLeastRuns (debug_line written) anew.recorded.runs
+  runs_anew = subst (λ (z : List ℕ). HaveRuns AreLeastRuns z anew.recorded.runs) (sym (lines_are file written new has)) anew.recorded.has_runs
+
+  -- each record of the certificate is accepted
+  pub certified_anew : IsCertificate written certificate
+  certified_anew =
+      let of_lines = have_accepted_runs (debug_line written) anew.recorded.runs runs_anew in
+      let of_ranges = potentials_accepted all_anew Ranges anew.recorded.ranges anew.recorded.has_ranges in
+      let of_locations = potentials_accepted all_anew Locations anew.recorded.locations anew.recorded.has_locations in
+      let of_units = ranks_there all_anew anew.recorded.units anew.recorded.has_ranks in
+      let all = record_file anew.recorded (debug_line written) s of_lines of_ranges of_locations of_units in
+      (s, all.0, reads_anew, all.1, all.2)
+
+  -- and is the first of those that are
+  pub first_anew : IsFirstCertificate written certificate
+  first_anew =
+      let of_ranges = potentials_greatest all_anew Ranges anew.recorded.ranges anew.recorded.has_ranges in
+      let of_locations = potentials_greatest all_anew Locations anew.recorded.locations anew.recorded.has_locations in
+      let of_units = first_ranks_there all_anew anew.recorded.units anew.recorded.has_ranks in
+      let all = record_file anew.recorded (debug_line written) s runs_anew of_ranges of_locations of_units in
+      (s, all.0, reads_anew, all.1, all.2)
+
 -- the sections of a valid file are written anew, and the file is assembled of them
-pub rewritten : (file image : List ℕ) (world : World) (new : NewSections) (written : List ℕ) → MeaningFilesAreValid → (known : IsWorldOf file Narrow world) → entry_total known.r.range_lists + entry_total known.r.location_lists ≤ 2 ^ 24 → list_total expression_bytes known.r.range_lists + list_total expression_bytes known.r.location_lists ≤ 2 ^ 27 → image ≡ file → ((r : Reading) → IsReading file r → Holds file world r → (s : Reading) × AreAnew file world r s new) → LeastLines (debug_line file) new.lines.items → OrderedLines (debug_line file) new.lines.items → HasSections image new written → IsRewritten file written
-rewritten file image world new written law known few short is anew least order has_image =
+pub rewritten : (file image : List ℕ) (world : World) (new : NewSections) (written certificate : List ℕ) → MeaningFilesAreValid → (known : IsWorldOf file Narrow world) → entry_total known.r.range_lists + entry_total known.r.location_lists ≤ 2 ^ 24 → list_total expression_bytes known.r.range_lists + list_total expression_bytes known.r.location_lists ≤ 2 ^ 27 → image ≡ file → ((r : Reading) → IsReading file r → Holds file world r → (s : Reading) × AreAnew file world r s new certificate) → LeastLines (debug_line file) new.lines.items → OrderedLines (debug_line file) new.lines.items → HasSections image new written → IsRewritten file written certificate
+rewritten file image world new written certificate law known few short is anew least order has_image =
     let (s, all) = anew known.r known.read known.holds in
     let has : HasSections file new written = subst (λ (z : List ℕ). HasSections z new written) is has_image in
     record {
-      same = same_anew file written world known.r s new known.read known.holds all has known.debug known.means;
-      still_valid = valid_anew file written world known.r s new known.read known.holds all has law known.debug known.means few short known.few_views;
+      same = same_anew file written world known.r s new certificate known.read known.holds all has known.debug known.means;
+      still_valid = valid_anew file written world known.r s new certificate known.read known.holds all has law known.debug known.means few short known.few_views;
       least = subst (λ (z : List ℕ). LeastLines (debug_line file) z) (sym (lines_are file written new has)) least;
       order = subst (λ (z : List ℕ). OrderedLines (debug_line file) z) (sym (lines_are file written new has)) order;
-      lists = lists_anew file written world known.r s new known.read known.holds all has;
-      tidy = tidy_anew file written world known.r s new known.read known.holds all has;
-      columns = columns_anew file written world known.r s new known.read known.holds all has;
-      columns_order = columns_in_order file written world known.r s new known.read known.holds all has;
-      codes = codes_anew file written world known.r s new known.read known.holds all has;
-      codes_order = codes_in_order file written world known.r s new known.read known.holds all has;
-      layouts = layouts_anew file written world known.r s new known.read known.holds all has;
+      lists = lists_anew file written world known.r s new certificate known.read known.holds all has;
+      tidy = tidy_anew file written world known.r s new certificate known.read known.holds all has;
+      columns = columns_anew file written world known.r s new certificate known.read known.holds all has;
+      columns_order = columns_in_order file written world known.r s new certificate known.read known.holds all has;
+      codes = codes_anew file written world known.r s new certificate known.read known.holds all has;
+      codes_order = codes_in_order file written world known.r s new certificate known.read known.holds all has;
+      layouts = layouts_anew file written world known.r s new certificate known.read known.holds all has;
       placed = has.placed;
+      certified = certified_anew file written world known.r s new certificate known.read known.holds all has;
+      certified_first = first_anew file written world known.r s new certificate known.read known.holds all has;
     }
 
 -- the image of the world of a valid file is in order

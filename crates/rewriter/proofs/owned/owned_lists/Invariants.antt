@@ -1,0 +1,6 @@
+use Rattle.rewriter.specs.inside.Owned.{AreAllOwned}
+use Rattle.rewriter.proofs.owned.owned_lists.Given as goal
+
+-- among the lists before
+abbrev pub invariant-loop-number : goal.invariant-loop-number
+invariant-loop-number l = AreAllOwned l.world l.number l.all.items
