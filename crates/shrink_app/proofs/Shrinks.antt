@@ -1,10 +1,11 @@
 -- From what was read to the whole file, in the clauses of the work.
-use Rattle.std.proofs.Common.{◌≡◌, ◌≤◌, ◌<◌, ◌+◌, ◌^◌, ℕ, List, length, take, ◌∙◌, refl, ap, subst, inl, arith, Option, Some, None, Result, Ok, Err}
-use Rattle.std.specs.Prelude.{OnOk, IsSome, option_map}
+use Rattle.std.proofs.Common.{◌≡◌, ◌≤◌, ◌<◌, ◌+◌, ◌^◌, ℕ, List, length, take, ◌∙◌, refl, ap, sym, subst, inl, inr, arith, Option, Some, None, Result, Ok, Err}
+use Rattle.std.specs.Prelude.{◌⊎◌, OnOk, IsSome, option_map}
 use Rattle.std.specs.Option.{ForSome}
 use Rattle.std.proofs.lemmas.Bool.{false≢true}
 use Rattle.dw_base.specs.declared.fault.Kind.TheVariants.{Limit}
 use Rattle.dw_base.specs.declared.fault.Reach.TheVariants.{Narrow}
+use Rattle.dw_base.specs.Host.{Rose}
 use Rattle.dw_base.specs.declared.fault.Refusal.{Refusal}
 use Rattle.dw_base.specs.declared.fault.Refusal.TheVariants.{Refused, NoMemory}
 use Rattle.value_links.specs.Faults.{NamesFault}
@@ -13,8 +14,8 @@ use Rattle.shrink_app.specs.inside.Ending.{ending_of}
 use Rattle.shrink_app.specs.File.{Faulty, IsValid}
 use Rattle.shrink_app.specs.declared.ending.Ending.{Ending}
 use Rattle.shrink_app.specs.declared.ending.Ending.TheVariants as ending
-use Rattle.shrink_app.specs.Run.{Writes, input_limit}
-use Rattle.shrink_app.specs.inside.Run.{EndsByFault, RefusesLong}
+use Rattle.shrink_app.specs.Run.{Writes, Certifies, IsUntouched, input_limit}
+use Rattle.shrink_app.specs.inside.Run.{OnlyWriteFault, HasWriteCause, EndsByFault, RefusesLong}
 use Rattle.shrink_app.proofs.Fronts.{short_front, long_front}
 
 -- what is so in any case
@@ -59,3 +60,36 @@ front_written P old middle new input output front written read holds kept put = 
 -- a valid file that was read isn't one that has a fault
 pub no_fault : (told : Option (List ℕ)) (front file : List ℕ) → ForSome told (λ whole. front ≡ whole) → IsValid front → told ≡ Some file → ¬ IsValid file → ⊥
 no_fault told front file read valid e faulty = faulty (subst IsValid (read file e) valid)
+
+-- what is so of what was written for the output and the certificate is so of the files
+pub both_written : {T E : Type 0} (P : List ℕ → List ℕ → Type 0) (old middle new : List ℕ → Option (List ℕ)) (output certificate written bytes : List ℕ) (r : Result T E) → P written bytes → ((f : List ℕ) → middle f ≡ old f) → OnOk r (new output ≡ option_map (λ _. written) (middle output)) → OnOk r (new certificate ≡ option_map (λ _. bytes) (middle certificate)) → OnOk r (Certifies P old new output certificate)
+both_written P old middle new output certificate written bytes (Ok x) holds kept put certified = λ some there.
+    let first : new output ≡ Some written = put ∙ ap (option_map (λ _. written)) (kept output) ∙ told_output (old output) written some in
+    let second : new certificate ≡ Some bytes = certified ∙ ap (option_map (λ _. bytes)) (kept certificate) ∙ told_output (old certificate) bytes there in
+    (written, bytes, first, second, holds)
+both_written P old middle new output certificate written bytes (Err e) holds kept put certified = tt
+
+-- one that is all that is promised is each part of it
+pub writes_part : (P Q : List ℕ → List ℕ → Type 0) (old new : List ℕ → Option (List ℕ)) (input output : List ℕ) → ((file written : List ℕ) → P file written → Q file written) → Writes P old new input output → Writes Q old new input output
+writes_part P Q old new input output part writes = λ file told some.
+    let w = writes file told some in (w.0, w.1, part file w.0 w.2)
+
+-- a file that isn't touched after a read wasn't touched at all, and else the output was written
+pub untouched_or_written : (P : List ℕ → List ℕ → Type 0) (old middle new : List ℕ → Option (List ℕ)) (before between now : List ℕ → ℕ) (input output certificate front written : List ℕ) → ForSome (old input) (λ file. front ≡ file) → P front written → ((f : List ℕ) → middle f ≡ old f) → ((f : List ℕ) → between f ≡ before f) → (IsSome (middle certificate) → IsUntouched middle new between now certificate ⊎ (new output ≡ option_map (λ _. written) (middle output))) → IsSome (old certificate) → IsUntouched old new before now certificate ⊎ Writes P old new input output
+untouched_or_written P old middle new before between now input output certificate front written read holds kept still either some =
+    elim (either (subst IsSome (sym (kept certificate)) some)) [
+      | inl same ↦ inl (same.0 ∙ kept certificate, same.1 ∙ still certificate)
+      | inr put ↦ inr (front_written P old middle new input output front written read holds (kept output) put)
+    ]
+
+-- the cause of a write fault after a read is that of the whole work
+pub caused : {T : Type 0} (old middle new : List ℕ → ℕ) (output certificate : List ℕ) (r : Result T Ending) → ((f : List ℕ) → middle f ≡ old f) → OnlyWriteFault (Rose (middle output) (new output) ⊎ Rose (middle certificate) (new certificate)) middle new r → HasWriteCause (Rose (old output) (new output) ⊎ Rose (old certificate) (new certificate)) old new r
+caused old middle new output certificate (Ok x) kept h = λ f. h f ∙ kept f
+caused old middle new output certificate (Err (ending.Refused fault)) kept h = absurd h
+caused old middle new output certificate (Err ending.ReadFault) kept h = absurd h
+caused old middle new output certificate (Err ending.WriteFault) kept h =
+    elim h [
+      | inl rose ↦ inl (subst (λ (n : ℕ). Rose n (new output)) (kept output) rose)
+      | inr rose ↦ inr (subst (λ (n : ℕ). Rose n (new certificate)) (kept certificate) rose)
+    ]
+caused old middle new output certificate (Err ending.NoMemory) kept h = λ f. h f ∙ kept f

@@ -3,6 +3,11 @@ use Rattle.std.specs.Prelude.{ℕ, List}
 use Rattle.dw_base.specs.declared.fault.Kind.{Kind}
 use Rattle.dw_base.specs.declared.fault.Reach.TheVariants.{Narrow, Wide}
 use Rattle.line_write.specs.Least.{LeastLines, OrderedLines}
+use Rattle.value_links.specs.Same.{Same}
+use Rattle.value_links.specs.Placed.{IsPlaced}
+use Rattle.value_links.specs.Classes.{HaveLeastCodes, HaveOrderedCodes, HaveLeastColumns, HaveFirstColumns, HaveLeastLists}
+use Rattle.value_links.specs.Layouts.{HaveLeastLayouts}
+use Rattle.value_links.specs.Tidy.{IsTidy}
 use Rattle.value_links.specs.Sections.{debug_line}
 use Rattle.value_links.specs.Faults.{Faulty as FaultyWithin, IsValid as IsValidWithin}
 
@@ -26,3 +31,18 @@ HasLeastLines file written = LeastLines (debug_line file) (debug_line written)
 -- them
 abbrev pub HasOrderedLines : List ℕ → List ℕ → Type 0
 HasOrderedLines file written = OrderedLines (debug_line file) (debug_line written)
+
+-- the written file is all that is promised of it
+pub record IsWhole (file written : List ℕ) : Type 0 where
+  pub same : Same file written
+  pub still_valid : StaysValid file written
+  pub least : HasLeastLines file written
+  pub order : HasOrderedLines file written
+  pub lists : HaveLeastLists file written
+  pub columns : HaveLeastColumns file written
+  pub columns_order : HaveFirstColumns file written
+  pub codes : HaveLeastCodes file written
+  pub codes_order : HaveOrderedCodes file written
+  pub layouts : HaveLeastLayouts file written
+  pub tidy : IsTidy file written
+  pub placed : IsPlaced file written

@@ -1,4 +1,4 @@
--- What is written under the name of the output.
+-- What is written under the names of the output and of the certificate.
 use Rattle.std.specs.Prelude.{◌≡◌, ℕ, List, Option, Some, IsSome}
 use Rattle.dw_base.specs.declared.fault.Reach.TheVariants.{Narrow}
 use Rattle.elf_sections.specs.Faults.{file_limit}
@@ -7,6 +7,15 @@ use Rattle.elf_sections.specs.Faults.{file_limit}
 abbrev pub Writes : (List ℕ → List ℕ → Type 0) → (List ℕ → Option (List ℕ)) → (List ℕ → Option (List ℕ)) → List ℕ → List ℕ → Type 0
 Writes P old new input output =
     (file : List ℕ) → old input ≡ Some file → IsSome (old output) → (written : List ℕ) × (new output ≡ Some written) × P file written
+
+-- where both files are told, the output and the certificate hold bytes of which P holds
+abbrev pub Certifies : (List ℕ → List ℕ → Type 0) → (List ℕ → Option (List ℕ)) → (List ℕ → Option (List ℕ)) → List ℕ → List ℕ → Type 0
+Certifies P old new output certificate =
+    IsSome (old output) → IsSome (old certificate) → (written : List ℕ) × (bytes : List ℕ) × (new output ≡ Some written) × (new certificate ≡ Some bytes) × P written bytes
+
+-- a file holds what it held, and no more of its writes have failed
+abbrev pub IsUntouched : (List ℕ → Option (List ℕ)) → (List ℕ → Option (List ℕ)) → (List ℕ → ℕ) → (List ℕ → ℕ) → List ℕ → Type 0
+IsUntouched old new before now f = (new f ≡ old f) × (now f ≡ before f)
 
 -- the most bytes of an input
 abbrev pub input_limit : ℕ

@@ -2,7 +2,10 @@
 use crate::line_tests::{LEAST_TWO_ROWS, TWO_ROWS};
 use crate::real_host::RealHost;
 use crate::run::run;
-use crate::test_files::{answer_to, elf_file, is_unwritten, is_written, shrunk, words_of};
+use crate::test_files::{
+    BEFORE, CERTIFICATE_BEFORE, MAGIC, answer_to, elf_file, is_certified, is_unwritten, is_written,
+    shrunk, words_of,
+};
 use dw_base::{Host, NamedFile, QuietHost};
 use std::test::Fail;
 
@@ -23,7 +26,8 @@ fn files_that_are_written(rt: HostRuntime) -> Result<(), Fail> {
         let answer = shrunk(alloc, old)?;
         is_written(&rt, alloc, &answer, new)?;
     }
-    Ok(())
+    // Without a line number program, a list and a unit there are no records.
+    is_certified(&rt, alloc, &shrunk(alloc, &[])?, &[])
 }
 
 #[test]
@@ -35,7 +39,7 @@ fn files_that_are_no_elf_files(rt: HostRuntime) -> Result<(), Fail> {
         *byte = 2;
     }
     for input in [other, Vec::new(alloc)] {
-        let answer = answer_to(alloc, &["shrink", "a", "b"], Some(input), &[])?;
+        let answer = answer_to(alloc, &["shrink", "a", "b", "c"], Some(input), &[])?;
         is_unwritten(&rt, &answer, 3, "refused NotElf64 at 0\n");
     }
     Ok(())
@@ -58,17 +62,30 @@ fn sections_that_are_refused(rt: HostRuntime) -> Result<(), Fail> {
 }
 
 #[test]
-fn one_name_for_input_and_output(rt: HostRuntime) -> Result<(), Fail> {
+fn wrong_words(rt: HostRuntime) -> Result<(), Fail> {
     let alloc = rt.alloc();
-    let input = elf_file(alloc, &[])?;
-    let answer = answer_to(alloc, &["shrink", "b", "b"], Some(input), &[])?;
-    is_unwritten(&rt, &answer, 2, "words\n");
+    // no words; one name and two names; four names; two names that are the same; and another verb
+    let table: [&[&str]; 8] = [
+        &[],
+        &["shrink", "a"],
+        &["shrink", "a", "b"],
+        &["shrink", "a", "b", "c", "d"],
+        &["shrink", "b", "b", "c"],
+        &["shrink", "a", "b", "b"],
+        &["shrink", "c", "b", "c"],
+        &["shrunk", "a", "b", "c"],
+    ];
+    for words in table {
+        let input = elf_file(alloc, &[])?;
+        let answer = answer_to(alloc, words, Some(input), &[])?;
+        is_unwritten(&rt, &answer, 2, "words\n");
+    }
     Ok(())
 }
 
 #[test]
 fn an_input_that_is_missing(rt: HostRuntime) -> Result<(), Fail> {
-    let answer = answer_to(rt.alloc(), &["shrink", "a", "b"], None, &[])?;
+    let answer = answer_to(rt.alloc(), &["shrink", "a", "b", "c"], None, &[])?;
     is_unwritten(&rt, &answer, 4, "");
     Ok(())
 }
@@ -76,12 +93,24 @@ fn an_input_that_is_missing(rt: HostRuntime) -> Result<(), Fail> {
 #[test]
 fn calls_that_fail(rt: HostRuntime) -> Result<(), Fail> {
     let alloc = rt.alloc();
-    // the calls 0 and 1 read the input, and the next begins the output
-    let table = [(0u64, 4), (2, 5)];
-    for (failing, status) in table {
+    let whole = elf_file(alloc, &[])?;
+    // The calls 0 and 1 read the input; the next two begin the output and write it, and the next two the certificate. A call that
+    // fails changes nothing here.
+    let table: [(u64, u8, &[u8], &[u8]); 5] = [
+        (0, 4, &BEFORE, &CERTIFICATE_BEFORE),
+        (2, 5, &BEFORE, &CERTIFICATE_BEFORE),
+        (3, 5, &[], &CERTIFICATE_BEFORE),
+        (4, 5, &whole, &CERTIFICATE_BEFORE),
+        (5, 5, &whole, &[]),
+    ];
+    for (failing, status, output, certificate) in table {
         let input = elf_file(alloc, &[])?;
-        let answer = answer_to(alloc, &["shrink", "a", "b"], Some(input), &[failing])?;
-        is_unwritten(&rt, &answer, status, "");
+        let words = ["shrink", "a", "b", "c"];
+        let answer = answer_to(alloc, &words, Some(input), &[failing])?;
+        assert_eq!(rt; answer.status, status, "{failing}");
+        assert_eq!(rt; answer.said.as_slice(), b"".as_slice());
+        assert_eq!(rt; answer.output.as_slice(), output);
+        assert_eq!(rt; answer.certificate.as_slice(), certificate);
     }
     Ok(())
 }
@@ -95,10 +124,11 @@ fn quiet_files(rt: HostRuntime) -> Result<(), Fail> {
         bytes: elf_file(alloc, &[])?,
     })?;
     let mut host = QuietHost::new(alloc, files);
-    let words = words_of(alloc, &["shrink", "a", "b"])?;
+    let words = words_of(alloc, &["shrink", "a", "b", "c"])?;
     let output = elf_file(alloc, &[])?;
     assert_eq!(rt; run(alloc, &words, &mut host), 0);
     assert_eq!(rt; host.file("b").ok_or("no b")?.as_slice(), output.as_slice());
+    assert_eq!(rt; host.file("c").ok_or("no c")?.as_slice(), MAGIC.as_slice());
     Ok(())
 }
 

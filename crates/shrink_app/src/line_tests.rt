@@ -1,5 +1,5 @@
 // Line number programs, by hand.
-use crate::test_files::{is_unwritten, is_written, shrunk};
+use crate::test_files::{is_certified, is_unwritten, is_written, shrunk};
 use std::alloc::{AllocError, Global};
 use std::test::Fail;
 
@@ -68,7 +68,9 @@ fn least_programs(rt: HostRuntime) -> Result<(), Fail> {
         let answer = shrunk(alloc, &[(".debug_line", section)])?;
         is_written(&rt, alloc, &answer, &[(".debug_line", least)])?;
     }
-    Ok(())
+    // Of the one without rows: a run of all 65,280 pairs, with the number 0.
+    let answer = shrunk(alloc, &[(".debug_line", &NO_ROWS)])?;
+    is_certified(&rt, alloc, &answer, &[1, 0x80, 0xfe, 3, 0])
 }
 
 // A program of 1,048,576 rows, each at address 0 and 1,000 lines after the one before. Under every pair a row costs 4 bytes.

@@ -1,5 +1,5 @@
 // The program's work: what its words ask for, with its status.
-ghost use Rattle.std.specs.Prelude.{◌≡◌, ◌≢◌, ◌≤◌, ◌<◌, ◌⊎◌, ◌++◌, ℕ, List, IfSome, IfNone, IsSomeAnd, IsNone, MatchOption, Some, option_map, codes, length};
+ghost use Rattle.std.specs.Prelude.{◌≡◌, ◌≢◌, ◌≤◌, ◌<◌, ◌⊎◌, ◌++◌, ℕ, List, IfSome, IfNone, IsSome, IsSomeAnd, IsNone, MatchOption, Some, option_map, codes, length};
 ghost use Rattle.std.specs.Option.{ForSome};
 ghost use Rattle.dw_base.specs.declared.fault.Kind.TheVariants.{Limit};
 ghost use Rattle.dw_base.specs.Host.{Rose, AddsPart};
@@ -8,9 +8,10 @@ ghost use Rattle.value_links.specs.Placed.{IsPlaced};
 ghost use Rattle.value_links.specs.Classes.{HaveLeastCodes, HaveOrderedCodes, HaveLeastColumns, HaveFirstColumns, HaveLeastLists};
 ghost use Rattle.value_links.specs.Layouts.{HaveLeastLayouts};
 ghost use Rattle.value_links.specs.Tidy.{IsTidy};
-ghost use Rattle.shrink_app.specs.File.{IsValid, StaysValid, HasLeastLines, HasOrderedLines};
+ghost use Rattle.value_links.specs.Certificates.{IsCertificate, IsFirstCertificate};
+ghost use Rattle.shrink_app.specs.File.{IsValid, StaysValid, HasLeastLines, HasOrderedLines, IsWhole};
 ghost use Rattle.shrink_app.specs.Words.{asked};
-ghost use Rattle.shrink_app.specs.Run.{Writes, input_limit};
+ghost use Rattle.shrink_app.specs.Run.{Writes, Certifies, IsUntouched, input_limit};
 ghost use Rattle.shrink_app.specs.Said.{refusal_text, SaysFault, SaysPart};
 
 use crate::ending::Ending;
@@ -20,16 +21,18 @@ use crate::words::names_of;
 use dw_base::Host;
 use std::alloc::Global;
 
-/// Does what the words ask for, `shrink IN OUT`, and answers the program's status:
+/// Does what the words ask for, `shrink IN OUT CERT` with three different names, and answers the program's status:
 ///
-/// - 0: OUT was written. It means the same as IN and is least in the classes that docs/CLASSES.md tells.
+/// - 0: OUT was written. It means the same as IN and is least in the classes that docs/CLASSES.md tells. CERT was written too: the
+///   certificate that shows so, as docs/CERTIFICATE.md tells.
 /// - 2: the words are others. `words` is said, and nothing else is done.
 /// - 3: IN isn't valid, and a fault of it is said: `refused KIND at PLACE`, where the place counts from the file's first byte.
 /// - 4: a call failed that reads IN.
-/// - 5: a call failed that writes OUT, or one that says a message.
+/// - 5: a call failed that writes OUT or CERT, or one that says a message.
 /// - 6: memory was wanting.
 ///
-/// No file but OUT differs afterwards, and under 2, 3 and 4 none does. docs/PROMISES.md goes through the clauses.
+/// No file but OUT and CERT differs afterwards, and under 2, 3 and 4 none does. CERT is begun once OUT is whole; where writing it
+/// fails OUT stays. docs/PROMISES.md goes through the clauses.
 pub fn run<H: Host>(alloc: Global, words: &Vec<String>, host: &mut H) -> u8
     ensures known { (result ≤ 6) × (result ≢ 1) }
 
@@ -43,55 +46,62 @@ pub fn run<H: Host>(alloc: Global, words: &Vec<String>, host: &mut H) -> u8
     ensures wrong_writes { IfNone (asked words.now.items) ((f : List ℕ) → H.write_faults host.new f ≡ H.write_faults host.old f) }
 
     // A refusal names a fault of the input.
-    ensures refused { result ≡ 3 → IsSomeAnd (asked words.now.items) (λ n. SaysFault (H.bytes host.old n.0) (H.said host.old) (H.said host.new)) }
+    ensures refused { result ≡ 3 → IsSomeAnd (asked words.now.items) (λ n. SaysFault (H.bytes host.old n.input) (H.said host.old) (H.said host.new)) }
 
     // An input that is longer than its limit is refused for that, whatever its first bytes are.
-    ensures long { result ≡ 3 → IsSomeAnd (asked words.now.items) (λ n. ForSome (H.bytes host.old n.0) (λ file. input_limit < length file → H.said host.new ≡ option_map (λ b. b ++ refusal_text Limit 0) (H.said host.old))) }
+    ensures long { result ≡ 3 → IsSomeAnd (asked words.now.items) (λ n. ForSome (H.bytes host.old n.input) (λ file. input_limit < length file → H.said host.new ≡ option_map (λ b. b ++ refusal_text Limit 0) (H.said host.old))) }
 
     // A read fault comes where the input's count rose, and wherever it rose.
-    ensures read_fault { result ≡ 4 → IsSomeAnd (asked words.now.items) (λ n. Rose (H.read_faults host.old n.0) (H.read_faults host.new n.0)) }
-    ensures read_rose { IfSome (asked words.now.items) (λ n. H.read_faults host.old n.0 < H.read_faults host.new n.0 → result ≡ 4) }
+    ensures read_fault { result ≡ 4 → IsSomeAnd (asked words.now.items) (λ n. Rose (H.read_faults host.old n.input) (H.read_faults host.new n.input)) }
+    ensures read_rose { IfSome (asked words.now.items) (λ n. H.read_faults host.old n.input < H.read_faults host.new n.input → result ≡ 4) }
 
-    // A write fault comes where the output's count rose, or that of messages where there was one to say.
-    ensures write_fault { result ≡ 5 → MatchOption (asked words.now.items) (Rose (H.say_faults host.old) (H.say_faults host.new)) (λ n. Rose (H.write_faults host.old n.1) (H.write_faults host.new n.1) ⊎ (Rose (H.say_faults host.old) (H.say_faults host.new) × ForSome (H.bytes host.old n.0) (λ file. ¬ IsValid file))) }
-    ensures write_rose { IfSome (asked words.now.items) (λ n. H.write_faults host.old n.1 < H.write_faults host.new n.1 → result ≡ 5) }
+    // A write fault comes where the count of the output or of the certificate rose, or that of messages where there was one to say.
+    ensures write_fault { result ≡ 5 → MatchOption (asked words.now.items) (Rose (H.say_faults host.old) (H.say_faults host.new)) (λ n. (Rose (H.write_faults host.old n.output) (H.write_faults host.new n.output) ⊎ Rose (H.write_faults host.old n.certificate) (H.write_faults host.new n.certificate)) ⊎ (Rose (H.say_faults host.old) (H.say_faults host.new) × ForSome (H.bytes host.old n.input) (λ file. ¬ IsValid file))) }
+    ensures write_rose { IfSome (asked words.now.items) (λ n. (H.write_faults host.old n.output < H.write_faults host.new n.output) ⊎ (H.write_faults host.old n.certificate < H.write_faults host.new n.certificate) → result ≡ 5) }
     ensures say_rose { H.say_faults host.old < H.say_faults host.new → result ≡ 5 }
 
     // Which files may differ: none after wrong words, a refusal and a read fault, nor where the input has a fault, since
-    // its faults are looked for before the first write; and never another than the output.
+    // its faults are looked for before the first write; and never another than the output and the certificate.
     ensures kept { (result ≡ 2) ⊎ ((result ≡ 3) ⊎ (result ≡ 4)) → (f : List ℕ) → H.bytes host.new f ≡ H.bytes host.old f }
-    ensures faulty_kept { IfSome (asked words.now.items) (λ n. (file : List ℕ) → H.bytes host.old n.0 ≡ Some file → ¬ IsValid file → (f : List ℕ) → H.bytes host.new f ≡ H.bytes host.old f) }
-    ensures faulty_unwritten { IfSome (asked words.now.items) (λ n. (file : List ℕ) → H.bytes host.old n.0 ≡ Some file → ¬ IsValid file → (f : List ℕ) → H.write_faults host.new f ≡ H.write_faults host.old f) }
-    ensures others { MatchOption (asked words.now.items) ((f : List ℕ) → H.bytes host.new f ≡ H.bytes host.old f) (λ n. (f : List ℕ) → f ≢ n.1 → H.bytes host.new f ≡ H.bytes host.old f) }
+    ensures faulty_kept { IfSome (asked words.now.items) (λ n. (file : List ℕ) → H.bytes host.old n.input ≡ Some file → ¬ IsValid file → (f : List ℕ) → H.bytes host.new f ≡ H.bytes host.old f) }
+    ensures faulty_unwritten { IfSome (asked words.now.items) (λ n. (file : List ℕ) → H.bytes host.old n.input ≡ Some file → ¬ IsValid file → (f : List ℕ) → H.write_faults host.new f ≡ H.write_faults host.old f) }
+    ensures others { MatchOption (asked words.now.items) ((f : List ℕ) → H.bytes host.new f ≡ H.bytes host.old f) (λ n. (f : List ℕ) → f ≢ n.output → f ≢ n.certificate → H.bytes host.new f ≡ H.bytes host.old f) }
 
     // The work was done.
-    ensures done { result ≡ 0 → IsSomeAnd (asked words.now.items) (λ n. ForSome (H.bytes host.old n.0) IsValid) }
-    ensures same { result ≡ 0 → IsSomeAnd (asked words.now.items) (λ n. Writes Same (H.bytes host.old) (H.bytes host.new) n.0 n.1) }
-    ensures still_valid { result ≡ 0 → IsSomeAnd (asked words.now.items) (λ n. Writes StaysValid (H.bytes host.old) (H.bytes host.new) n.0 n.1) }
-    ensures least { result ≡ 0 → IsSomeAnd (asked words.now.items) (λ n. Writes HasLeastLines (H.bytes host.old) (H.bytes host.new) n.0 n.1) }
-    ensures order { result ≡ 0 → IsSomeAnd (asked words.now.items) (λ n. Writes HasOrderedLines (H.bytes host.old) (H.bytes host.new) n.0 n.1) }
-    ensures lists { result ≡ 0 → IsSomeAnd (asked words.now.items) (λ n. Writes HaveLeastLists (H.bytes host.old) (H.bytes host.new) n.0 n.1) }
-    ensures columns { result ≡ 0 → IsSomeAnd (asked words.now.items) (λ n. Writes HaveLeastColumns (H.bytes host.old) (H.bytes host.new) n.0 n.1) }
-    ensures columns_order { result ≡ 0 → IsSomeAnd (asked words.now.items) (λ n. Writes HaveFirstColumns (H.bytes host.old) (H.bytes host.new) n.0 n.1) }
-    ensures codes { result ≡ 0 → IsSomeAnd (asked words.now.items) (λ n. Writes HaveLeastCodes (H.bytes host.old) (H.bytes host.new) n.0 n.1) }
-    ensures codes_order { result ≡ 0 → IsSomeAnd (asked words.now.items) (λ n. Writes HaveOrderedCodes (H.bytes host.old) (H.bytes host.new) n.0 n.1) }
-    ensures layouts { result ≡ 0 → IsSomeAnd (asked words.now.items) (λ n. Writes HaveLeastLayouts (H.bytes host.old) (H.bytes host.new) n.0 n.1) }
-    ensures tidy { result ≡ 0 → IsSomeAnd (asked words.now.items) (λ n. Writes IsTidy (H.bytes host.old) (H.bytes host.new) n.0 n.1) }
-    ensures placed { result ≡ 0 → IsSomeAnd (asked words.now.items) (λ n. Writes IsPlaced (H.bytes host.old) (H.bytes host.new) n.0 n.1) }
+    ensures done { result ≡ 0 → IsSomeAnd (asked words.now.items) (λ n. ForSome (H.bytes host.old n.input) IsValid) }
+    ensures same { result ≡ 0 → IsSomeAnd (asked words.now.items) (λ n. Writes Same (H.bytes host.old) (H.bytes host.new) n.input n.output) }
+    ensures still_valid { result ≡ 0 → IsSomeAnd (asked words.now.items) (λ n. Writes StaysValid (H.bytes host.old) (H.bytes host.new) n.input n.output) }
+    ensures least { result ≡ 0 → IsSomeAnd (asked words.now.items) (λ n. Writes HasLeastLines (H.bytes host.old) (H.bytes host.new) n.input n.output) }
+    ensures order { result ≡ 0 → IsSomeAnd (asked words.now.items) (λ n. Writes HasOrderedLines (H.bytes host.old) (H.bytes host.new) n.input n.output) }
+    ensures lists { result ≡ 0 → IsSomeAnd (asked words.now.items) (λ n. Writes HaveLeastLists (H.bytes host.old) (H.bytes host.new) n.input n.output) }
+    ensures columns { result ≡ 0 → IsSomeAnd (asked words.now.items) (λ n. Writes HaveLeastColumns (H.bytes host.old) (H.bytes host.new) n.input n.output) }
+    ensures columns_order { result ≡ 0 → IsSomeAnd (asked words.now.items) (λ n. Writes HaveFirstColumns (H.bytes host.old) (H.bytes host.new) n.input n.output) }
+    ensures codes { result ≡ 0 → IsSomeAnd (asked words.now.items) (λ n. Writes HaveLeastCodes (H.bytes host.old) (H.bytes host.new) n.input n.output) }
+    ensures codes_order { result ≡ 0 → IsSomeAnd (asked words.now.items) (λ n. Writes HaveOrderedCodes (H.bytes host.old) (H.bytes host.new) n.input n.output) }
+    ensures layouts { result ≡ 0 → IsSomeAnd (asked words.now.items) (λ n. Writes HaveLeastLayouts (H.bytes host.old) (H.bytes host.new) n.input n.output) }
+    ensures tidy { result ≡ 0 → IsSomeAnd (asked words.now.items) (λ n. Writes IsTidy (H.bytes host.old) (H.bytes host.new) n.input n.output) }
+    ensures placed { result ≡ 0 → IsSomeAnd (asked words.now.items) (λ n. Writes IsPlaced (H.bytes host.old) (H.bytes host.new) n.input n.output) }
+    ensures certified { result ≡ 0 → IsSomeAnd (asked words.now.items) (λ n. Certifies IsCertificate (H.bytes host.old) (H.bytes host.new) n.output n.certificate) }
+    ensures certified_first { result ≡ 0 → IsSomeAnd (asked words.now.items) (λ n. Certifies IsFirstCertificate (H.bytes host.old) (H.bytes host.new) n.output n.certificate) }
+
+    // The certificate isn't begun before the output is whole, which then stays. A host that doesn't tell a file may count a
+    // failed write of another one for it too.
+    ensures certificate_later { IfSome (asked words.now.items) (λ n. IsSome (H.bytes host.old n.output) → H.write_faults host.old n.output < H.write_faults host.new n.output → H.bytes host.new n.certificate ≡ H.bytes host.old n.certificate) }
+    ensures output_whole { IfSome (asked words.now.items) (λ n. IsSome (H.bytes host.old n.certificate) → IsUntouched (H.bytes host.old) (H.bytes host.new) (H.write_faults host.old) (H.write_faults host.new) n.certificate ⊎ Writes IsWhole (H.bytes host.old) (H.bytes host.new) n.input n.output) }
 
     // What was said where nothing else tells: nothing after the work and a read fault, and in place of another answer
     // some front of what that answer says.
     ensures quiet { (result ≡ 0) ⊎ (result ≡ 4) → H.said host.new ≡ H.said host.old }
-    ensures stopped { (result ≡ 5) ⊎ (result ≡ 6) → MatchOption (asked words.now.items) (AddsPart (H.said host.old) (codes "words\n") (H.said host.new)) (λ n. SaysPart (H.bytes host.old n.0) (H.said host.old) (H.said host.new)) }
+    ensures stopped { (result ≡ 5) ⊎ (result ≡ 6) → MatchOption (asked words.now.items) (AddsPart (H.said host.old) (codes "words\n") (H.said host.new)) (λ n. SaysPart (H.bytes host.old n.input) (H.said host.old) (H.said host.new)) }
 
     // Where no count rose, a valid input is done and another is refused, but for want of memory.
-    ensures complete { IfSome (asked words.now.items) (λ n. (file : List ℕ) → H.bytes host.old n.0 ≡ Some file → IsValid file → ¬ Rose (H.read_faults host.old n.0) (H.read_faults host.new n.0) → ¬ Rose (H.write_faults host.old n.1) (H.write_faults host.new n.1) → (result ≡ 0) ⊎ (result ≡ 6)) }
-    ensures refuses { IfSome (asked words.now.items) (λ n. (file : List ℕ) → H.bytes host.old n.0 ≡ Some file → ¬ IsValid file → ¬ Rose (H.read_faults host.old n.0) (H.read_faults host.new n.0) → (result ≡ 3) ⊎ ((result ≡ 5) ⊎ (result ≡ 6))) }
+    ensures complete { IfSome (asked words.now.items) (λ n. (file : List ℕ) → H.bytes host.old n.input ≡ Some file → IsValid file → ¬ Rose (H.read_faults host.old n.input) (H.read_faults host.new n.input) → ¬ Rose (H.write_faults host.old n.output) (H.write_faults host.new n.output) → ¬ Rose (H.write_faults host.old n.certificate) (H.write_faults host.new n.certificate) → (result ≡ 0) ⊎ (result ≡ 6)) }
+    ensures refuses { IfSome (asked words.now.items) (λ n. (file : List ℕ) → H.bytes host.old n.input ≡ Some file → ¬ IsValid file → ¬ Rose (H.read_faults host.old n.input) (H.read_faults host.new n.input) → (result ≡ 3) ⊎ ((result ≡ 5) ⊎ (result ≡ 6))) }
 {
     let Some(names) = names_of(words) else {
         return say(host, b"words\n", 2);
     };
-    match shrink(alloc, names.input, names.output, host) {
+    match shrink(alloc, names.input, names.output, names.certificate, host) {
         Ok(()) => 0,
         Err(Ending::Refused(fault)) => match text_of(alloc, fault) {
             Ok(text) => say(host, text.as_bytes(), 3),

@@ -1,7 +1,7 @@
 // Two compiled files, in the manner of gcc and of clang. What their sections become was worked out by hand, byte for byte. A reference
 // within a unit becomes DW_FORM_ref_udata (DWARF 5 section 7.5.5), with one byte where its number is below 128.
 use crate::line_tests::{LEAST_SAMPLE, NO_ROWS, SAMPLE};
-use crate::test_files::{Answer, is_unwritten, is_written, shrunk};
+use crate::test_files::{Answer, is_certified, is_unwritten, is_written, shrunk};
 use std::alloc::Global;
 use std::test::Fail;
 
@@ -108,6 +108,9 @@ fn view_pairs_stand_before_their_list(rt: HostRuntime) -> Result<(), Fail> {
     ];
     let answer = gcc_answer(rt.alloc(), &GCC_INFO, &GCC_LOCATIONS)?;
     is_written(&rt, rt.alloc(), &answer, &new)?;
+    // behind the record of the line number program: the potentials 16 and 13 of the list, and no rank of the unit
+    let last = [2, 2, 0x10, 0x0d, 3, 0];
+    assert_eq!(rt; answer.certificate.as_slice().ends_with(&last), true);
     let behind = gcc_info(12, 26);
     let answer = gcc_answer(rt.alloc(), &behind, &GCC_PAIRS_BEHIND)?;
     is_written(&rt, rt.alloc(), &answer, &new)
@@ -173,7 +176,10 @@ fn lists_in_the_manner_of_clang(rt: HostRuntime) -> Result<(), Fail> {
         (".debug_addr", &CLANG_ADDRESSES),
     ];
     let answer = shrunk(rt.alloc(), &old)?;
-    is_written(&rt, rt.alloc(), &answer, &new)
+    is_written(&rt, rt.alloc(), &answer, &new)?;
+    // the program without rows, the range list, the location list and the unit
+    let records = [1, 0x80, 0xfe, 3, 0, 2, 2, 9, 6, 2, 2, 9, 6, 3, 0];
+    is_certified(&rt, rt.alloc(), &answer, &records)
 }
 
 // The first location has DW_OP_lit0 and DW_OP_convert to the base type, which stands at 0x48, in place of DW_OP_reg5.

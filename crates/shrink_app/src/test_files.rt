@@ -73,7 +73,13 @@ pub fn words_of(alloc: Global, words: &[&str]) -> Result<Vec<String>, AllocError
 /// The bytes that the output has before the program runs.
 pub const BEFORE: [u8; 2] = [1, 2];
 
-/// The answer of the program: its status, what it says, and the file `b`, which has two bytes before.
+/// The byte that the certificate has before.
+pub const CERTIFICATE_BEFORE: [u8; 1] = [3];
+
+/// The first bytes of each certificate.
+pub const MAGIC: [u8; 8] = [0x44, 0x57, 0x4d, 0x49, 0x4e, 0x30, 0x31, 0x0a];
+
+/// The answer of the program: its status, what it says, and the files `b` and `c`, which have two bytes and one before.
 #[derive(Drop)]
 pub struct Answer {
     /// The status.
@@ -82,6 +88,14 @@ pub struct Answer {
     pub said: Vec<u8>,
     /// The bytes of the file `b`.
     pub output: Vec<u8>,
+    /// The bytes of the file `c`.
+    pub certificate: Vec<u8>,
+}
+
+// A file with a name.
+fn named(alloc: Global, name: &str, bytes: Vec<u8>) -> Result<NamedFile, AllocError> {
+    let name = String::from_str(alloc, name)?;
+    Ok(NamedFile { name, bytes })
 }
 
 /// The answer to words, where the file `a` has the bytes of `input`, and is missing where there are none. The calls of the host
@@ -94,29 +108,27 @@ pub fn answer_to(
 ) -> Result<Answer, Fail> {
     let mut files = Vec::new(alloc);
     if let Some(bytes) = input {
-        let name = String::from_str(alloc, "a")?;
-        files.push(NamedFile { name, bytes })?;
+        files.push(named(alloc, "a", bytes)?)?;
     }
-    files.push(NamedFile {
-        name: String::from_str(alloc, "b")?,
-        bytes: BEFORE.to_vec(alloc)?,
-    })?;
+    files.push(named(alloc, "b", BEFORE.to_vec(alloc)?)?)?;
+    files.push(named(alloc, "c", CERTIFICATE_BEFORE.to_vec(alloc)?)?)?;
     let mut host = MemHost::new(alloc, files, failing.to_vec(alloc)?);
     let status = run(alloc, &words_of(alloc, words)?, &mut host);
     Ok(Answer {
         status,
         said: host.said().as_slice().to_vec(alloc)?,
         output: host.file("b").ok_or("no b")?.as_slice().to_vec(alloc)?,
+        certificate: host.file("c").ok_or("no c")?.as_slice().to_vec(alloc)?,
     })
 }
 
-/// The answer to `shrink a b`, where `a` is a file with these sections.
+/// The answer to `shrink a b c`, where `a` is a file with these sections.
 pub fn shrunk(alloc: Global, sections: &[(&str, &[u8])]) -> Result<Answer, Fail> {
     let input = elf_file(alloc, sections)?;
-    answer_to(alloc, &["shrink", "a", "b"], Some(input), &[])
+    answer_to(alloc, &["shrink", "a", "b", "c"], Some(input), &[])
 }
 
-/// Stops where the program didn't write a file with these sections.
+/// Stops where the program didn't write a file with these sections and a certificate.
 pub fn is_written(
     rt: &impl Abort,
     alloc: Global,
@@ -127,12 +139,30 @@ pub fn is_written(
     assert_eq!(rt; answer.status, 0);
     assert_eq!(rt; answer.said.as_slice(), b"".as_slice());
     assert_eq!(rt; answer.output.as_slice(), wanted.as_slice());
+    assert_eq!(rt; answer.certificate.as_slice().starts_with(&MAGIC), true);
     Ok(())
 }
 
-/// Stops where the program didn't answer with this status and these words, or wrote the output.
+/// Stops where the certificate doesn't have these records.
+pub fn is_certified(
+    rt: &impl Abort,
+    alloc: Global,
+    answer: &Answer,
+    records: &[u8],
+) -> Result<(), Fail> {
+    let mut wanted = MAGIC.to_vec(alloc)?;
+    wanted.extend_from_slice(records)?;
+    assert_eq!(rt; answer.certificate.as_slice(), wanted.as_slice());
+    Ok(())
+}
+
+/// Stops where the program didn't answer with this status and these words, or wrote a file.
 pub fn is_unwritten(rt: &impl Abort, answer: &Answer, status: u8, said: &str) {
     assert_eq!(rt; answer.status, status, "{said}");
     assert_eq!(rt; answer.said.as_slice(), said.as_bytes());
     assert_eq!(rt; answer.output.as_slice(), BEFORE.as_slice());
+    assert_eq!(rt;
+        answer.certificate.as_slice(),
+        CERTIFICATE_BEFORE.as_slice()
+    );
 }

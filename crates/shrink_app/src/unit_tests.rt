@@ -1,7 +1,7 @@
 // Units with their abbreviation tables and the address ranges that name them, by hand. A reference within its unit is written in
 // DW_FORM_ref_udata (DWARF 5 sections 7.5.5 and 7.6). How many bytes it has depends on its number, and the numbers depend on the bytes
 // of all references before what they name: those are written that are the fewest in all.
-use crate::test_files::{Answer, is_unwritten, is_written, shrunk};
+use crate::test_files::{Answer, is_certified, is_unwritten, is_written, shrunk};
 use std::alloc::{AllocError, Global};
 use std::process::Abort;
 use std::test::Fail;
@@ -217,7 +217,10 @@ fn references_in_the_fewest_bytes(rt: HostRuntime) -> Result<(), Fail> {
         let new = unit(alloc, new_head, size)?;
         has_written(&rt, alloc, &answer, &new, new_abbrevs, &[])?;
     }
-    Ok(())
+    let old = unit(alloc, &FOUR_BYTES, 111)?;
+    let answer = answer_for(alloc, &old, &table_with(0x13), &[])?;
+    // of a unit without a slot above its smallest size: no rank
+    is_certified(&rt, alloc, &answer, &[3, 0])
 }
 
 // Units of 132, 132 and 144 bytes become ones of 129, 129 and 142, the first also where three bytes of padding follow its tree.
@@ -240,6 +243,8 @@ fn units_follow_one_another(rt: HostRuntime) -> Result<(), Fail> {
         )?;
         let answer = answer_for(alloc, &old, &table_with(0x13), &sets(alloc, second)?)?;
         has_written(&rt, alloc, &answer, &new, &table_with(0x15), &new_sets)?;
+        // no rank, no rank, and the rank 0 of the step to two bytes
+        is_certified(&rt, alloc, &answer, &[3, 0, 3, 0, 3, 1, 0])?;
     }
     Ok(())
 }

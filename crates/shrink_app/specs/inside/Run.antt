@@ -16,13 +16,13 @@ OnlyReadFault before now (Err ReadFault) = Rose before now
 OnlyReadFault before now (Err WriteFault) = ⊥
 OnlyReadFault before now (Err NoMemory) = now ≡ before
 
--- the same of a write fault
-abbrev pub OnlyWriteFault : {T : Type 0} → ℕ → ℕ → Result T Ending → Type 0
-OnlyWriteFault before now (Ok x) = now ≡ before
-OnlyWriteFault before now (Err (Refused fault)) = ⊥
-OnlyWriteFault before now (Err ReadFault) = ⊥
-OnlyWriteFault before now (Err WriteFault) = Rose before now
-OnlyWriteFault before now (Err NoMemory) = now ≡ before
+-- A write fault comes for this cause, and else no count of writes rises. No other end but want of memory comes.
+abbrev pub OnlyWriteFault : {T : Type 0} → Type 0 → (List ℕ → ℕ) → (List ℕ → ℕ) → Result T Ending → Type 0
+OnlyWriteFault cause before now (Ok x) = (f : List ℕ) → now f ≡ before f
+OnlyWriteFault cause before now (Err (Refused fault)) = ⊥
+OnlyWriteFault cause before now (Err ReadFault) = ⊥
+OnlyWriteFault cause before now (Err WriteFault) = cause
+OnlyWriteFault cause before now (Err NoMemory) = (f : List ℕ) → now f ≡ before f
 
 -- what was read goes on with n bytes of the file, of which none is left where n is 0
 abbrev pub IsReadOn : List ℕ → List ℕ → List ℕ → ℕ → Type 0
@@ -37,13 +37,13 @@ HasReadCause before now (Err ReadFault) = Rose before now
 HasReadCause before now (Err WriteFault) = now ≡ before
 HasReadCause before now (Err NoMemory) = now ≡ before
 
--- the same of a write fault
-abbrev pub HasWriteCause : {T : Type 0} → ℕ → ℕ → Result T Ending → Type 0
-HasWriteCause before now (Ok x) = now ≡ before
-HasWriteCause before now (Err (Refused fault)) = now ≡ before
-HasWriteCause before now (Err ReadFault) = now ≡ before
-HasWriteCause before now (Err WriteFault) = Rose before now
-HasWriteCause before now (Err NoMemory) = now ≡ before
+-- a write fault is the end for this cause alone, and else no count of writes rises
+abbrev pub HasWriteCause : {T : Type 0} → Type 0 → (List ℕ → ℕ) → (List ℕ → ℕ) → Result T Ending → Type 0
+HasWriteCause cause before now (Ok x) = (f : List ℕ) → now f ≡ before f
+HasWriteCause cause before now (Err (Refused fault)) = (f : List ℕ) → now f ≡ before f
+HasWriteCause cause before now (Err ReadFault) = (f : List ℕ) → now f ≡ before f
+HasWriteCause cause before now (Err WriteFault) = cause
+HasWriteCause cause before now (Err NoMemory) = (f : List ℕ) → now f ≡ before f
 
 -- a refusal and a read fault leave every file as it was
 abbrev pub LeavesFiles : {T : Type 0} → (List ℕ → Option (List ℕ)) → (List ℕ → Option (List ℕ)) → Result T Ending → Type 0

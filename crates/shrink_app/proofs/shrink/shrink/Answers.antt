@@ -1,12 +1,8 @@
-use Rattle.std.proofs.Common.{sym, Err}
 use Rattle.std.proofs.lemmas.Result.{err_from_is_err_and, on_ok_weaker}
-use Rattle.value_links.specs.Same.{Same}
-use Rattle.value_links.specs.Placed.{IsPlaced}
-use Rattle.value_links.specs.Classes.{HaveLeastCodes, HaveOrderedCodes, HaveLeastColumns, HaveFirstColumns, HaveLeastLists}
-use Rattle.value_links.specs.Layouts.{HaveLeastLayouts}
-use Rattle.value_links.specs.Tidy.{IsTidy}
-use Rattle.shrink_app.specs.File.{StaysValid, HasLeastLines, HasOrderedLines}
-use Rattle.shrink_app.proofs.Shrinks.{refusal_named, within_limit, valid_read, front_written, no_fault}
+use Rattle.value_links.specs.Certificates.{IsCertificate, IsFirstCertificate}
+use Rattle.shrink_app.specs.File.{IsWhole}
+use Rattle.shrink_app.proofs.Shrinks.{refusal_named, within_limit, valid_read, front_written, both_written, untouched_or_written, caused, no_fault}
+use Rattle.shrink_app.proofs.shrink.shrink.Given.{Over}
 use Rattle.shrink_app.proofs.shrink.shrink.Goals as goal
 
 pub returns-in_err-written-clause-refused : goal.returns-in_err-written-clause-refused
@@ -19,84 +15,43 @@ pub returns-in_err-written-clause-long : goal.returns-in_err-written-clause-long
 returns-in_err-written-clause-long g c = within_limit _ _ c.in_ok-file.ensures.long
 
 pub returns-clause-long : goal.returns-clause-long
-returns-clause-long g c = within_limit _ c.write_file.result c.in_ok-file.ensures.long
+returns-clause-long g c = within_limit _ c.write_files.result c.in_ok-file.ensures.long
 
 pub returns-clause-valid : goal.returns-clause-valid
 returns-clause-valid g c =
     let valid = rw c.deref.ensures.value at c.in_ok-written.ensures.valid in
-    valid_read _ _ c.write_file.result c.in_ok-file.ensures.read valid
+    valid_read _ _ c.write_files.result c.in_ok-file.ensures.read valid
 
-pub returns-clause-same : goal.returns-clause-same
-returns-clause-same g c =
-    let holds = rw (c.deref.ensures.value, sym c.deref-2.ensures.value) at c.in_ok-written.ensures.same in
-    let bytes = g.H.Host.bytes in
-    on_ok_weaker c.write_file.result (λ put. front_written Same (bytes c.args.host.now) (bytes c.read_input.new.host) (bytes c.write_file.new.host) c.args.input.now c.args.output.now c.in_ok-file.file.items c.deref-2.result.now c.in_ok-file.ensures.read holds (c.read_input.ensures.files c.args.output.now) put) c.write_file.ensures.written
+whole : (g : Over) (c : goal.After-drop-file-2 g) → IsWhole c.in_ok-file.file.items c.in_ok-written.written.file.items
+whole g c =
+    let written = rw c.deref.ensures.value at c.in_ok-written.ensures in
+    record { same = written.same; still_valid = written.still_valid; least = written.least; order = written.order; lists = written.lists; columns = written.columns; columns_order = written.columns_order; codes = written.codes; codes_order = written.codes_order; layouts = written.layouts; tidy = written.tidy; placed = written.placed }
 
-pub returns-clause-still_valid : goal.returns-clause-still_valid
-returns-clause-still_valid g c =
-    let holds = rw (sym c.deref-2.ensures.value) at c.in_ok-written.ensures.still_valid in
+pub returns-clause-written : goal.returns-clause-written
+returns-clause-written g c =
     let bytes = g.H.Host.bytes in
-    on_ok_weaker c.write_file.result (λ put. front_written StaysValid (bytes c.args.host.now) (bytes c.read_input.new.host) (bytes c.write_file.new.host) c.args.input.now c.args.output.now c.in_ok-file.file.items c.deref-2.result.now c.in_ok-file.ensures.read holds (c.read_input.ensures.files c.args.output.now) put) c.write_file.ensures.written
+    on_ok_weaker c.write_files.result (λ put. front_written IsWhole (bytes c.args.host.now) (bytes c.read_input.new.host) (bytes c.write_files.new.host) c.args.input.now c.args.output.now c.in_ok-file.file.items c.in_ok-written.written.file.items c.in_ok-file.ensures.read (whole g c) (c.read_input.ensures.files c.args.output.now) put) c.write_files.ensures.output
 
-pub returns-clause-least : goal.returns-clause-least
-returns-clause-least g c =
-    let holds = rw (c.deref.ensures.value, sym c.deref-2.ensures.value) at c.in_ok-written.ensures.least in
+pub returns-clause-certified : goal.returns-clause-certified
+returns-clause-certified g c =
     let bytes = g.H.Host.bytes in
-    on_ok_weaker c.write_file.result (λ put. front_written HasLeastLines (bytes c.args.host.now) (bytes c.read_input.new.host) (bytes c.write_file.new.host) c.args.input.now c.args.output.now c.in_ok-file.file.items c.deref-2.result.now c.in_ok-file.ensures.read holds (c.read_input.ensures.files c.args.output.now) put) c.write_file.ensures.written
+    both_written IsCertificate (bytes c.args.host.now) (bytes c.read_input.new.host) (bytes c.write_files.new.host) c.args.output.now c.args.certificate.now c.in_ok-written.written.file.items c.in_ok-written.written.cert.items c.write_files.result c.in_ok-written.ensures.certified c.read_input.ensures.files c.write_files.ensures.output c.write_files.ensures.certificate
 
-pub returns-clause-order : goal.returns-clause-order
-returns-clause-order g c =
-    let holds = rw (c.deref.ensures.value, sym c.deref-2.ensures.value) at c.in_ok-written.ensures.order in
+pub returns-clause-certified_first : goal.returns-clause-certified_first
+returns-clause-certified_first g c =
     let bytes = g.H.Host.bytes in
-    on_ok_weaker c.write_file.result (λ put. front_written HasOrderedLines (bytes c.args.host.now) (bytes c.read_input.new.host) (bytes c.write_file.new.host) c.args.input.now c.args.output.now c.in_ok-file.file.items c.deref-2.result.now c.in_ok-file.ensures.read holds (c.read_input.ensures.files c.args.output.now) put) c.write_file.ensures.written
+    both_written IsFirstCertificate (bytes c.args.host.now) (bytes c.read_input.new.host) (bytes c.write_files.new.host) c.args.output.now c.args.certificate.now c.in_ok-written.written.file.items c.in_ok-written.written.cert.items c.write_files.result c.in_ok-written.ensures.certified_first c.read_input.ensures.files c.write_files.ensures.output c.write_files.ensures.certificate
 
-pub returns-clause-lists : goal.returns-clause-lists
-returns-clause-lists g c =
-    let holds = rw (c.deref.ensures.value, sym c.deref-2.ensures.value) at c.in_ok-written.ensures.lists in
+pub returns-clause-whole : goal.returns-clause-whole
+returns-clause-whole g c =
     let bytes = g.H.Host.bytes in
-    on_ok_weaker c.write_file.result (λ put. front_written HaveLeastLists (bytes c.args.host.now) (bytes c.read_input.new.host) (bytes c.write_file.new.host) c.args.input.now c.args.output.now c.in_ok-file.file.items c.deref-2.result.now c.in_ok-file.ensures.read holds (c.read_input.ensures.files c.args.output.now) put) c.write_file.ensures.written
+    let faults = g.H.Host.write_faults in
+    untouched_or_written IsWhole (bytes c.args.host.now) (bytes c.read_input.new.host) (bytes c.write_files.new.host) (faults c.args.host.now) (faults c.read_input.new.host) (faults c.write_files.new.host) c.args.input.now c.args.output.now c.args.certificate.now c.in_ok-file.file.items c.in_ok-written.written.file.items c.in_ok-file.ensures.read (whole g c) c.read_input.ensures.files c.read_input.ensures.writes c.write_files.ensures.whole
 
-pub returns-clause-columns : goal.returns-clause-columns
-returns-clause-columns g c =
-    let holds = rw (c.deref.ensures.value, sym c.deref-2.ensures.value) at c.in_ok-written.ensures.columns in
-    let bytes = g.H.Host.bytes in
-    on_ok_weaker c.write_file.result (λ put. front_written HaveLeastColumns (bytes c.args.host.now) (bytes c.read_input.new.host) (bytes c.write_file.new.host) c.args.input.now c.args.output.now c.in_ok-file.file.items c.deref-2.result.now c.in_ok-file.ensures.read holds (c.read_input.ensures.files c.args.output.now) put) c.write_file.ensures.written
-
-pub returns-clause-columns_order : goal.returns-clause-columns_order
-returns-clause-columns_order g c =
-    let holds = rw (c.deref.ensures.value, sym c.deref-2.ensures.value) at c.in_ok-written.ensures.columns_order in
-    let bytes = g.H.Host.bytes in
-    on_ok_weaker c.write_file.result (λ put. front_written HaveFirstColumns (bytes c.args.host.now) (bytes c.read_input.new.host) (bytes c.write_file.new.host) c.args.input.now c.args.output.now c.in_ok-file.file.items c.deref-2.result.now c.in_ok-file.ensures.read holds (c.read_input.ensures.files c.args.output.now) put) c.write_file.ensures.written
-
-pub returns-clause-codes : goal.returns-clause-codes
-returns-clause-codes g c =
-    let holds = rw (c.deref.ensures.value, sym c.deref-2.ensures.value) at c.in_ok-written.ensures.codes in
-    let bytes = g.H.Host.bytes in
-    on_ok_weaker c.write_file.result (λ put. front_written HaveLeastCodes (bytes c.args.host.now) (bytes c.read_input.new.host) (bytes c.write_file.new.host) c.args.input.now c.args.output.now c.in_ok-file.file.items c.deref-2.result.now c.in_ok-file.ensures.read holds (c.read_input.ensures.files c.args.output.now) put) c.write_file.ensures.written
-
-pub returns-clause-codes_order : goal.returns-clause-codes_order
-returns-clause-codes_order g c =
-    let holds = rw (c.deref.ensures.value, sym c.deref-2.ensures.value) at c.in_ok-written.ensures.codes_order in
-    let bytes = g.H.Host.bytes in
-    on_ok_weaker c.write_file.result (λ put. front_written HaveOrderedCodes (bytes c.args.host.now) (bytes c.read_input.new.host) (bytes c.write_file.new.host) c.args.input.now c.args.output.now c.in_ok-file.file.items c.deref-2.result.now c.in_ok-file.ensures.read holds (c.read_input.ensures.files c.args.output.now) put) c.write_file.ensures.written
-
-pub returns-clause-layouts : goal.returns-clause-layouts
-returns-clause-layouts g c =
-    let holds = rw (c.deref.ensures.value, sym c.deref-2.ensures.value) at c.in_ok-written.ensures.layouts in
-    let bytes = g.H.Host.bytes in
-    on_ok_weaker c.write_file.result (λ put. front_written HaveLeastLayouts (bytes c.args.host.now) (bytes c.read_input.new.host) (bytes c.write_file.new.host) c.args.input.now c.args.output.now c.in_ok-file.file.items c.deref-2.result.now c.in_ok-file.ensures.read holds (c.read_input.ensures.files c.args.output.now) put) c.write_file.ensures.written
-
-pub returns-clause-tidy : goal.returns-clause-tidy
-returns-clause-tidy g c =
-    let holds = rw (c.deref.ensures.value, sym c.deref-2.ensures.value) at c.in_ok-written.ensures.tidy in
-    let bytes = g.H.Host.bytes in
-    on_ok_weaker c.write_file.result (λ put. front_written IsTidy (bytes c.args.host.now) (bytes c.read_input.new.host) (bytes c.write_file.new.host) c.args.input.now c.args.output.now c.in_ok-file.file.items c.deref-2.result.now c.in_ok-file.ensures.read holds (c.read_input.ensures.files c.args.output.now) put) c.write_file.ensures.written
-
-pub returns-clause-placed : goal.returns-clause-placed
-returns-clause-placed g c =
-    let holds = rw (c.deref.ensures.value, sym c.deref-2.ensures.value) at c.in_ok-written.ensures.placed in
-    let bytes = g.H.Host.bytes in
-    on_ok_weaker c.write_file.result (λ put. front_written IsPlaced (bytes c.args.host.now) (bytes c.read_input.new.host) (bytes c.write_file.new.host) c.args.input.now c.args.output.now c.in_ok-file.file.items c.deref-2.result.now c.in_ok-file.ensures.read holds (c.read_input.ensures.files c.args.output.now) put) c.write_file.ensures.written
+pub returns-clause-writes : goal.returns-clause-writes
+returns-clause-writes g c =
+    let faults = g.H.Host.write_faults in
+    caused (faults c.args.host.now) (faults c.read_input.new.host) (faults c.write_files.new.host) c.args.output.now c.args.certificate.now c.write_files.result c.read_input.ensures.writes c.write_files.ensures.writes
 
 pub returns-clause-faulty_kept : goal.returns-clause-faulty_kept
 returns-clause-faulty_kept g c = λ file told faulty.
