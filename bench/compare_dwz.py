@@ -5,6 +5,7 @@ in Markdown.
   bench/compare_dwz.py [--program PROGRAM] [--dwarfutil PROGRAM] [--runs N] [--svg PICTURE] FILE ..
 
 Of N runs (1) the fastest counts. Time is that of the processor, in seconds; memory is the peak, in MB of 10^6 bytes; sizes are bytes.
+The program makes its certificate in that time, which is thrown away; bench/certificates.py tells its size.
 Both are told by GNU time, since what Python asks of a process counts the memory of Python itself. dwz doesn't take every file: then its
 columns say what it said. The last lines add up the files that both take, and all files. PICTURE is an SVG with bars for the former.
 
@@ -165,7 +166,7 @@ def main():
     with tempfile.TemporaryDirectory() as folder:
         out = os.path.join(folder, "out")
         for path in options.files:
-            result = [Run(sizes=sizes_of(path)), measured([options.program, "shrink", path, out], out, options.runs),
+            result = [Run(sizes=sizes_of(path)), measured([options.program, "shrink", path, out, os.devnull], out, options.runs),
                       measured(["dwz", "-o", out, path], out, options.runs)]
             if options.dwarfutil:
                 result.append(by_dwarfutil(options.dwarfutil, path, out, options.runs))

@@ -172,7 +172,7 @@ def main():
                 before = section_of(path, folder)
                 if os.path.exists(out):
                     os.remove(out)
-                run = subprocess.run([args.program, "shrink", path, out], capture_output=True, text=True)
+                run = subprocess.run([args.program, "shrink", path, out, os.devnull], capture_output=True, text=True)
                 count += 1
                 if run.returncode != 0:
                     wrong += 1

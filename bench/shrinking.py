@@ -16,9 +16,9 @@ def compiled(folder, name, text, builds):
     return made
 
 
-def shrink(program, path, out):
-    """'written', 'refused' or 'differs', and what was said or the status."""
-    run = subprocess.run([program, "shrink", path, out], capture_output=True, text=True, errors="replace")
+def shrink(program, path, out, certificate=os.devnull):
+    """'written', 'refused' or 'differs', and what was said or the status. Left out, the certificate is thrown away."""
+    run = subprocess.run([program, "shrink", path, out, certificate], capture_output=True, text=True, errors="replace")
     if run.returncode == 0:
         return "written", ""
     if run.returncode == 3:

@@ -4,8 +4,9 @@ files that are too large for a test in memory.
 
   checks/edge.py [PROGRAM]                 left out, it is crates/shrink_app/out/shrink_app
 
-What has to be written is known without the program: the wanted files are made here, by the rules of docs/FORMATS.md. Each test
-prints one line. The last line is `N passed, M failed`, and the exit status is 1 where one failed.
+What has to be written is known without the program: the wanted files are made here, by the rules of docs/FORMATS.md, and so are
+nearly all wanted certificates, by those of docs/CERTIFICATE.md. Each test prints one line. The last line is `N passed, M failed`,
+and the exit status is 1 where one failed.
 """
 import argparse
 import itertools
@@ -24,11 +25,12 @@ TOP = os.path.dirname(os.path.dirname(os.path.abspath(__file__)))
 sys.path.insert(0, os.path.join(TOP, "bench"))
 from elf_files import Section, aligned, elf_file, names_of, placed, sleb, uleb
 from harness import BUILT, Failure, Skipped, Tests, executable
+from record_files import LINES, MAGIC, PAIRS, records
 
 # A run of the program has to end in this time.
 SECONDS = 60
 LIMIT = 1 << 30
-SHRINK = ["shrink", "in", "out"]
+SHRINK = ["shrink", "in", "out", "cert"]
 test = Tests()
 
 
@@ -77,9 +79,10 @@ class Place:
         """Fails where the program doesn't answer so, or where a file differs then, was made or is missing."""
         self.leaves(words, status, said, self.files(), **how)
 
-    def writes(self, words, written):
-        """Fails where the program doesn't write these bytes to OUT and leave all other files as they are."""
-        self.leaves(words, 0, b"", {**self.files(), words[2]: written})
+    def writes(self, words, written, records=b""):
+        """Fails where the program doesn't write these bytes to OUT, and these records to CERT behind the first bytes of a record
+        file, and leave all other files as they are."""
+        self.leaves(words, 0, b"", {**self.files(), words[2]: written, words[3]: MAGIC + records})
 
     def leaves(self, words, status, said, wanted, **how):
         self.answers(words, status, said, **how)
@@ -123,6 +126,11 @@ def unit_out(number):
     return unit(b"\1\2" + uleb(15 + len(name)) + name + b"\3" + b"\0")
 
 
+# The records of so many units whose slots all have their smallest size, so that there is no rank.
+def no_ranks(count):
+    return b"\3\0" * count
+
+
 def pair_of_units(count):
     """A file with so many units, and what has to be written for it."""
     return file_of_units(list(map(unit_in, range(count))), TABLE_IN), file_of_units(list(map(unit_out, range(count))), TABLE_OUT)
@@ -130,46 +138,76 @@ def pair_of_units(count):
 
 @test
 def wrong_words(place):
-    """wrong words, none and not UTF-8 ones too, are answered by `words`, and no file differs"""
+    """wrong words, none, fewer than three names, equal names and not UTF-8 ones too, are answered by `words`, and no file differs"""
     place.write("in", pair_of_units(2)[0])
+    place.write("there", b"before")
     for words in (
         [],
         ["shrink"],
         ["shrink", "in"],
-        ["in", "out"],
-        ["shrink", "in", "in"],
-        ["shrink", "in", "out", "more"],
-        ["grow", "in", "out"],
-        ["", "in", "out"],
-        [b"shrink\xff", "in", "out"],
-        ["shrink", b"in\xff", "out"],
-        ["shrink", "in", b"out\xc3"],
+        ["shrink", "in", "out"],
+        ["in", "out", "cert"],
+        ["shrink", "in", "in", "cert"],
+        ["shrink", "in", "out", "in"],
+        ["shrink", "in", "out", "out"],
+        ["shrink", "in", "in", "in"],
+        ["shrink", "in", "there", "there"],
+        ["shrink", "in", "out", "cert", "more"],
+        ["grow", "in", "out", "cert"],
+        ["", "in", "out", "cert"],
+        [b"shrink\xff", "in", "out", "cert"],
+        ["shrink", b"in\xff", "out", "cert"],
+        ["shrink", "in", b"out\xc3", "cert"],
+        ["shrink", "in", "out", b"cert\xff"],
     ):
         place.keeps(words, 2, b"words\n")
 
 
 @test
 def inputs_that_cannot_be_read(place):
-    """IN that is missing or a folder has the status 4, and OUT isn't touched"""
+    """IN that is missing or a folder has the status 4, and OUT and CERT aren't touched"""
     os.mkdir(place.path("folder"))
-    place.keeps(["shrink", "missing", "out"], 4)
-    place.keeps(["shrink", "folder", "out"], 4)
-    place.keeps(["shrink", "", "out"], 4)
+    for name in ("missing", "folder", ""):
+        place.keeps(["shrink", name, "out", "cert"], 4)
     place.write("out", b"before")
-    place.keeps(["shrink", "missing", "out"], 4)
-    place.keeps(["shrink", "folder", "out"], 4)
+    place.write("cert", b"before")
+    for name in ("missing", "folder"):
+        place.keeps(["shrink", name, "out", "cert"], 4)
 
 
 @test
 def outputs_that_cannot_be_written(place):
-    """OUT in a folder that isn't there, or a folder, or on a full device has the status 5"""
+    """OUT in a folder that isn't there, or a folder, or on a full device has the status 5, and CERT isn't touched"""
     place.write("in", pair_of_units(2)[0])
     os.mkdir(place.path("folder"))
-    place.keeps(["shrink", "in", "missing/out"], 5)
-    place.keeps(["shrink", "in", "folder"], 5)
-    place.keeps(["shrink", "in", ""], 5)
-    if os.path.exists("/dev/full"):
-        place.keeps(["shrink", "in", "/dev/full"], 5)
+    names = ["missing/out", "folder", "", *(["/dev/full"] if os.path.exists("/dev/full") else [])]
+    for name in names:
+        place.keeps(["shrink", "in", name, "cert"], 5)
+    place.write("cert", b"before")
+    for name in names:
+        place.keeps(["shrink", "in", name, "cert"], 5)
+
+
+@test
+def certificates_that_cannot_be_written(place):
+    """CERT in a folder that isn't there, or a folder, or on a full device has the status 5, and OUT is whole then"""
+    source, written = pair_of_units(2)
+    place.write("in", source)
+    os.mkdir(place.path("folder"))
+    for name in ("missing/cert", "folder", "", *(["/dev/full"] if os.path.exists("/dev/full") else [])):
+        for before in (None, b"before", b"\xff" * 100_000):
+            if before is not None:
+                place.write("out", before)
+            place.leaves(["shrink", "in", "out", name], 5, b"", {**place.files(), "out": written})
+            os.remove(place.path("out"))
+
+
+@test
+def certificates_that_are_thrown_away(place):
+    """CERT may be /dev/null, and OUT is written then"""
+    source, written = pair_of_units(2)
+    place.write("in", source)
+    place.leaves(["shrink", "in", "out", "/dev/null"], 0, b"", {**place.files(), "out": written})
 
 
 @test
@@ -185,7 +223,7 @@ def messages_that_cannot_be_written(place):
 
 @test
 def refused_files(place):
-    """a refused file has the status 3 and one line, at places with up to seven digits, and OUT isn't made"""
+    """a refused file has the status 3 and one line, at places with up to seven digits, and OUT and CERT aren't made"""
     whole = pair_of_units(2)[0]
     old = [unit_in(number) for number in range(40_000)]
     last = 64 + sum(map(len, old[:-1]))
@@ -200,17 +238,19 @@ def refused_files(place):
         place.write("in", body)
         place.keeps(SHRINK, 3, line)
     place.write("out", b"before")
+    place.write("cert", b"before")
     place.keeps(SHRINK, 3, line)
 
 
 @test
-def longer_output_is_emptied(place):
-    """OUT that is there and longer than what is written has none of its old bytes"""
+def longer_files_are_emptied(place):
+    """OUT and CERT that are there and longer than what is written have none of their old bytes"""
     source, written = pair_of_units(2)
     place.write("in", source)
     for size in (len(written) + 1, 1_000_000):
         place.write("out", b"\xff" * size)
-        place.writes(SHRINK, written)
+        place.write("cert", (MAGIC + no_ranks(3)) * size)
+        place.writes(SHRINK, written, no_ranks(2))
 
 
 @test
@@ -219,7 +259,8 @@ def names_of_files(place):
     source, written = pair_of_units(2)
     for name in ("a b", "größer", "-", "--help"):
         place.write(name, source)
-        place.writes(["shrink", name, name + ".new"], written)
+        place.writes(["shrink", name, name + ".new", name + ".cert"], written, no_ranks(2))
+    place.writes(["shrink", "-", "again", "--version"], written, no_ranks(2))
 
 
 # The header of a file that has no sections and no segments.
@@ -228,7 +269,7 @@ ALONE = struct.pack("<16sHHIQQQIHHHHHH", b"\x7fELF\2\1\1", 2, 62, 1, 0, 0, 0, 0,
 
 @test
 def file_without_sections(place):
-    """a file without sections is written as it stands, at 64 KB, at one byte less and more, and at 2 MB"""
+    """a file without sections is written as it stands, at 64 KB, at one byte less and more, and at 2 MB, without records"""
     file = ALONE + random.Random(1).randbytes(2_000_000)
     for size in (64, 65_535, 65_536, 65_537, 131_072, 2_000_000):
         place.write("in", file[:size])
@@ -237,7 +278,7 @@ def file_without_sections(place):
 
 @test
 def sections_laid_out(place):
-    """a file with a loaded section of 1.5 MB is laid out anew behind it, byte for byte"""
+    """a file with a loaded section of 1.5 MB is laid out anew behind it, byte for byte, without records"""
     text = random.Random(2).randbytes(1_500_000)
     comment, other = b"made by hand\0", b"12345"
 
@@ -281,15 +322,16 @@ def units_written(place):
     """a file of 40,000 units, 2.5 MB, is written as is wanted, twice the same, and so again from OUT"""
     source, written = pair_of_units(40_000)
     place.write("in", source)
-    place.writes(SHRINK, written)
-    place.writes(["shrink", "in", "other"], written)
-    place.writes(["shrink", "out", "again"], written)
+    records_of_units = no_ranks(40_000)
+    place.writes(SHRINK, written, records_of_units)
+    place.writes(["shrink", "in", "other", "its"], written, records_of_units)
+    place.writes(["shrink", "out", "again", "its"], written, records_of_units)
     shows_the_same(place, "info", 400_000)
 
 
 @test
 def memory_wanting(place):
-    """where the program gets less memory than IN has bytes the status is 6, and OUT isn't made"""
+    """where the program gets less memory than IN has bytes the status is 6, and OUT and CERT aren't made"""
     size = 32 << 20
     place.write("in", ALONE + bytes(size))
     place.keeps(SHRINK, 6, prepare=lambda: resource.setrlimit(resource.RLIMIT_AS, (size, size)))
@@ -297,7 +339,7 @@ def memory_wanting(place):
 
 @test
 def file_past_the_limit(place):
-    """a file of 1,000 bytes more than 2^30 is refused as Limit, and OUT isn't made"""
+    """a file of 1,000 bytes more than 2^30 is refused as Limit, and OUT and CERT aren't made"""
     with open("/proc/meminfo") as file:
         free = int(re.search(r"MemAvailable:\s+(\d+) kB", file.read())[1]) << 10
     if free < 3 * LIMIT:
@@ -330,8 +372,8 @@ def many_tables(place):
     for count in (2_000, 70_000):
         source, written = pair_of_tables(count)
         place.write("in", source)
-        place.writes(SHRINK, written)
-        place.writes(["shrink", "out", "again"], written)
+        place.writes(SHRINK, written, no_ranks(count))
+        place.writes(["shrink", "out", "again", "its"], written, no_ranks(count))
         if count < 10_000:
             shows_the_same(place, "info", 7 * count)
 
@@ -404,6 +446,49 @@ def rows_of(program):
     return rows
 
 
+def one_run(number):
+    """The record of a line number program that has this number for all pairs of line_base and line_range."""
+    return bytes([LINES]) + uleb(PAIRS) + uleb(number)
+
+
+@test
+def program_without_rows(place):
+    """a line number program without rows is written as it stands, and its record has one run with the number 0"""
+    source = elf_file([(b".debug_line", line_program(b"", -5, 14))])
+    place.write("in", source)
+    place.writes(SHRINK, source, one_run(0))
+
+
+# DW_LNS_advance_line by 1,000 and DW_LNS_copy. Special opcodes advance the line by at most 369, so that under each pair the operand
+# has two bytes: no pair makes the step shorter.
+EQUAL_STEP = b"\x03\xe8\x07\x01"
+
+
+@test
+def equal_steps(place):
+    """a line number program of 2^20 rows with equal steps is written as it stands, and its record has one run with the number 1"""
+    source = elf_file([(b".debug_line", line_program(EQUAL_STEP * ((1 << 20) - 1) + b"\0\1\1", -3, 12))])
+    place.write("in", source)
+    place.writes(SHRINK, source, one_run(1))
+
+
+def check_record(certificate, rows):
+    """Fails where a certificate isn't one record of a line number program with these rows, in which no pair has a number above the
+    count of different steps."""
+    found = list(records(certificate))
+    kinds = [record.kind for record in found]
+    if kinds != [LINES]:
+        raise Failure(f"CERT has records of the kinds {kinds}")
+    steps, address, line = set(), 0, 1
+    for next_address, next_line in rows:
+        steps.add((next_address - address, None if next_line is None else next_line - line))
+        address, line = (0, 1) if next_line is None else (next_address, next_line)
+    counts = {0, len(steps), *(1 << power for power in range(len(steps).bit_length()) if 1 << power < len(steps))}
+    others = {number for _, number in found[0].numbers} - counts
+    if others:
+        raise Failure(f"CERT has the numbers {others} for pairs, of a program with {len(steps)} different steps")
+
+
 @test
 def many_rows(place):
     """a line number program of 2^20 rows keeps its rows in at most half the bytes, and OUT is written again as it stands"""
@@ -418,7 +503,9 @@ def many_rows(place):
         raise Failure(f"OUT has a program of {size} bytes, or something else")
     if line_program(after[30 + len(FILES) :], *struct.unpack_from("<bB", after, 15)) != after or rows_of(after) != rows:
         raise Failure("the header or the rows differ")
-    place.writes(["shrink", "out", "again"], written)
+    certificate = place.read("cert")
+    check_record(certificate, rows)
+    place.writes(["shrink", "out", "again", "its"], written, certificate[len(MAGIC) :])
     shows_the_same(place, "decodedline", len(rows))
 
 

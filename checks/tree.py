@@ -30,31 +30,32 @@ sys.dont_write_bytecode = True
 TOP = os.path.dirname(os.path.dirname(os.path.abspath(__file__)))
 sys.path.insert(0, os.path.join(TOP, "bench"))
 sys.path.insert(0, os.path.join(TOP, "checks"))
-from edge import ALONE, difference, pair_of_units
+from edge import ALONE, difference, no_ranks, pair_of_units
 from elf_files import elf_file
 from harness import BUILT, Failure, Skipped, Tests, executable
+from record_files import MAGIC
 
 SCRIPT = os.path.join(TOP, "mikadocherry-tree")
 # A run has to end in this time.
 SECONDS = 60
 test = Tests()
 
-# The front of each script that stands in place of the program: it answers no words as the program does, and takes no
-# words beyond ASCII, as the program takes none that aren't UTF-8.
+# The front of each script that stands in place of the program: it answers words that aren't four as the program does,
+# and takes no words beyond ASCII, as the program takes none that aren't UTF-8.
 FRONT = """#!/bin/sh
-if [ $# = 0 ]; then echo words; exit 2; fi
+if [ $# != 4 ]; then echo words; exit 2; fi
 LC_ALL=C
-case "$2$3" in *[!\\ -~]*) echo words; exit 2 ;; esac
+case "$2$3$4" in *[!\\ -~]*) echo words; exit 2 ;; esac
 """
 # It looks up what it has to answer in a folder, by the digest of the file.
 KNOWING = FRONT + """
 answer={folder}/$(sha256sum <"$2" | cut -c1-64)
-if [ -e "$answer.out" ]; then cat "$answer.out" >"$3" || exit 5; exit 0; fi
+if [ -e "$answer.out" ]; then cat "$answer.out" >"$3" && cat "$answer.cert" >"$4" || exit 5; exit 0; fi
 if [ -e "$answer.said" ]; then cat "$answer.said"; exit 3; fi
 echo "refused Torn at 0"; exit 3
 """
-# It writes a file without its last byte, which will do where nobody reads it.
-CUTTING = 'size=$(wc -c <"$2")\nhead -c $((size - 1)) "$2" >"$3"\n'
+# It writes a file without its last byte and a certificate without records, which will do where nobody reads them.
+CUTTING = 'size=$(wc -c <"$2")\nhead -c $((size - 1)) "$2" >"$3"\necho DWMIN01 >"$4"\n'
 
 
 def wanted(condition, words):
@@ -103,30 +104,36 @@ class Place:
         with open(self.in_tree(name), "rb") as file:
             return file.read()
 
-    def knows(self, source, answer):
-        """Tells the stand-in what becomes of a file: the bytes that are written, or the line that refuses it."""
-        end = "said" if answer.startswith(b"refused ") else "out"
-        with open(self.path(f"answers/{hashlib.sha256(source).hexdigest()}.{end}"), "wb") as file:
-            file.write(answer)
+    def knows(self, source, **answers):
+        """Tells the stand-in what becomes of a file: the bytes that are written and the certificate, or the line that
+        refuses it."""
+        for end, answer in answers.items():
+            with open(self.path(f"answers/{hashlib.sha256(source).hexdigest()}.{end}"), "wb") as file:
+                file.write(answer)
 
     def pair(self, count):
         """A file of so many units and what is written for it."""
         source, written = pair_of_units(count)
-        self.knows(source, written)
-        self.knows(written, written)
+        for file in (source, written):
+            self.knows(file, out=written, cert=certificate_of(count))
         return source, written
 
     def refused(self, source, line):
-        self.knows(source, line)
+        self.knows(source, said=line)
         return source
 
-    def files(self):
-        """All names in the tree, with their bytes, or with where a symbolic link leads."""
+    def kept(self):
+        """What is in the folder for certificates, which is made where it isn't there."""
+        os.makedirs(self.path("kept"), exist_ok=True)
+        return self.files("kept")
+
+    def files(self, top="tree"):
+        """All names in a folder, with their bytes, or with where a symbolic link leads."""
         found = {}
-        for folder, folders, names in os.walk(self.path("tree")):
+        for folder, folders, names in os.walk(self.path(top)):
             for name in names + [it for it in folders if os.path.islink(os.path.join(folder, it))]:
                 path = os.path.join(folder, name)
-                key = os.path.relpath(path, self.path("tree"))
+                key = os.path.relpath(path, self.path(top))
                 if os.path.islink(path):
                     found[key] = os.readlink(path)
                 else:
@@ -161,6 +168,11 @@ class Place:
         for name, body in found.items():
             wanted(name in files, f"{name} is made")
             wanted(body == files[name], f"{name} has {difference(body, files[name])}")
+
+
+def certificate_of(count):
+    """The certificate of what is written for a file of so many units."""
+    return MAGIC + no_ranks(count)
 
 
 def counts(summary):
@@ -332,6 +344,149 @@ def links_to_the_outside(place):
     wanted("tree/a/a: linked from outside" in place.keeps("--verbose", "tree")[1], "the file isn't named")
     after = os.stat(place.path("outside"))
     wanted((after.st_ino, after.st_nlink, after.st_ctime_ns) == (before.st_ino, 2, before.st_ctime_ns), "it differs")
+
+
+KEPT = ["--certificates", "kept"]
+
+
+def has_kept(place, certificates):
+    """Fails where other certificates than these are kept, or none where there are none."""
+    found = place.kept()
+    wanted(found == certificates, f"{list(found)} are kept, or have other bytes than is wanted")
+
+
+@test
+def certificates(place):
+    """--certificates keeps the certificate of each file that is replaced, at its path, and no others"""
+    pairs = [place.pair(count) for count in (20, 30, 40)]
+    for name, (source, _) in zip(("a", "b/c/d", "b/\udce9"), pairs):
+        place.write(os.fsencode(name), source)
+    place.write("small", pairs[0][1])
+    place.write("o.o", place.refused(object_file(pairs[0][0]), b"refused FileType at 16\n"))
+    place.write("plain", PLAIN)
+    has_kept(place, {})
+    stdout, stderr = place.run(*KEPT, "tree")
+    wanted(counts(stdout)["replaced"] == 3 and stderr == "", f"{stdout!r} and {stderr!r}")
+    names = (b"a.cert", b"b/c/d.cert", b"b/\xe9.cert")
+    has_kept(place, {name: certificate_of(count) for name, count in zip(names, (20, 30, 40))})
+    mask = os.umask(0)
+    os.umask(mask)
+    modes = [stat.S_IMODE(os.stat(place.path(b"kept/" + name)).st_mode) for name in names]
+    wanted(modes == [0o666 & ~mask] * 3, f"the certificates have the modes {modes}")
+    wanted(not any(it.startswith(b".") for it in os.listdir(place.path("kept"))), "a temporary file is left")
+    # nothing is replaced, and then one file, which has become smaller
+    place.run(*KEPT, "tree")
+    has_kept(place, {name: certificate_of(count) for name, count in zip(names, (20, 30, 40))})
+    place.write("b/c/d", place.pair(10)[0])
+    place.run("--certificates", "kept/", "tree/")
+    has_kept(place, {name: certificate_of(count) for name, count in zip(names, (20, 10, 40))})
+
+
+@test
+def names_of_certificates(place):
+    """a certificate has the path below the DIR in which its file was found first; a file that is given has its name"""
+    for name, count in (("a", 20), ("b/c/d", 30), ("e/f", 40)):
+        place.write(name, place.pair(count)[0])
+    os.link(place.in_tree("a"), place.in_tree("b/a"))
+    place.kept()
+    place.run(*KEPT, "tree/b", "./tree/e/../e/f", "tree")
+    has_kept(place, {b"a.cert": certificate_of(20), b"c/d.cert": certificate_of(30), b"f.cert": certificate_of(40)})
+
+
+@test
+def certificates_thrown_away(place):
+    """the program gets /dev/null for a certificate that isn't kept, and --dry-run keeps none and makes no folder"""
+    place.write("a/b", place.pair(20)[0])
+    place.kept()
+    says(place.keeps("--dry-run", *KEPT, "tree", status=0)[0].split("bytes")[0], {"would be replaced": 1})
+    wanted(os.listdir(place.path("kept")) == [], "something is kept")
+    program = place.script("thrown", FRONT + '[ "$4" = /dev/null ] || exit 1\n' + CUTTING)
+    wanted(counts(place.run(program=program)[0])["replaced"] == 1, "it isn't replaced")
+
+
+@test
+def certificates_that_cannot_be_kept(place):
+    """where a certificate can't be kept the file stays, and it is a fault with its name, also with --dry-run"""
+    names = ("folder", "elf", "link", "empty", "below/file", "same")
+    for number, name in enumerate(names):
+        place.write(name, place.pair(20 + number)[0])
+    place.write("second/same", place.pair(30)[0])
+    place.write("good", place.pair(31)[0])
+    place.kept()
+    os.mkdir(place.path("kept/folder.cert"))
+    place.write("../kept/elf.cert", PLAIN)
+    place.write("../kept/other", certificate_of(1))
+    os.symlink("other", place.path("kept/link.cert"))
+    place.write("../kept/empty.cert", b"")
+    place.write("../kept/below", b"")
+    before = place.kept()
+    stderr = place.keeps("--dry-run", *KEPT, "tree", "tree/second", status=1)[1]
+    has_kept(place, before)
+    second = place.run(*KEPT, "tree", "tree/second", status=1)[1]
+    wanted(sorted(stderr.splitlines()) == sorted(second.splitlines()), f"{stderr!r} and {second!r} are said")
+    for name in ("folder", "elf", "link", "empty", "below/file"):
+        wanted(f"tree/{name}: its certificate can't be kept" in stderr, f"{name}: {stderr!r} is said")
+    # the same path below two folders: here the first one has both
+    has_kept(place, {**before, **{
+        b"good.cert": certificate_of(31), b"same.cert": certificate_of(25), b"second/same.cert": certificate_of(30)
+    }})
+
+
+@test
+def certificates_of_one_name(place):
+    """where two files have one path below two folders the second stays, and it is a fault with its name"""
+    pairs = [place.pair(count) for count in (20, 30)]
+    place.write("one/a", pairs[0][0])
+    place.write("two/a", pairs[1][0])
+    place.kept()
+    stdout, stderr = place.run(*KEPT, "tree/one", "tree/two", status=1)
+    wanted("tree/two/a: its certificate would have the name of that of tree/one/a" in stderr, stderr)
+    place.has({b"one/a": pairs[0][1], b"two/a": pairs[1][0]})
+    has_kept(place, {b"a.cert": certificate_of(20)})
+
+
+@test
+def folders_for_certificates(place):
+    """a FOLDER that isn't there or isn't one has the status 1; one that can't be written is a fault for each file"""
+    place.write("a", place.pair(20)[0])
+    for folder in ("missing", "tree/a"):
+        stdout, stderr = place.keeps("--certificates", folder, "tree", status=1)
+        wanted(stdout == "" and f"{folder} isn't a folder" in stderr, f"{stdout!r} and {stderr!r}")
+    place.kept()
+    os.chmod(place.path("kept"), 0o555)
+    stdout, stderr = run_without_rights(place, 1, *KEPT)
+    says(stdout, {"faults": 1})
+    wanted("tree/a: no temporary file can be made in kept" in stderr, stderr)
+    os.chmod(place.path("kept"), 0o755)
+    run_without_rights(place, 0, *KEPT)
+    has_kept(place, {b"a.cert": MAGIC})
+
+
+@test
+def other_certificates(place):
+    """a program that writes no certificate, or can't write it, is a fault, and the file stays"""
+    place.write("a", place.pair(20)[0])
+    place.kept()
+    for number, (text, words) in enumerate((
+        (CUTTING + ': >"$4"\n', "no certificate"),
+        (CUTTING + 'echo ELF >"$4"\n', "no certificate"),
+        (CUTTING + "exit 5\n", "its certificate: the disk may be full"),
+    )):
+        stderr = place.keeps(*KEPT, "tree", status=1, program=place.script(f"other{number}", FRONT + text))[1]
+        wanted("tree/a: " in stderr and words in stderr, f"{text}: {stderr!r} is said")
+        has_kept(place, {})
+
+
+@test
+def certificates_on_a_full_disk(place):
+    """where there is no room for a certificate the file stays, and no temporary file is left"""
+    place.write("a", place.pair(20)[0])
+    os.mkdir(place.path("kept"))
+    with mounted(place.path("kept"), 65_536):
+        large = FRONT + CUTTING + 'head -c 1000000 /dev/zero >>"$4" || exit 5\n'
+        stderr = place.keeps(*KEPT, "tree", status=1, program=place.script("large", large))[1]
+        wanted("tree/a: " in stderr and "disk" in stderr, stderr)
+        has_kept(place, {})
 
 
 @test
@@ -539,9 +694,9 @@ def full_disk(place):
         place.has({b"large": large[0], b"small": small[1]})
 
 
-def run_without_rights(place, status):
+def run_without_rights(place, status, *words):
     """As run, with a script in place of the program, by a user who may do nothing but what the owner of a file may."""
-    command = place.command(["tree"], place.script("cutting", FRONT + CUTTING))
+    command = place.command([*words, "tree"], place.script("cutting", FRONT + CUTTING))
     if os.getuid() == 0:
         if not shutil.which("setpriv"):
             raise Skipped("there is no setpriv to drop root's rights")
@@ -673,7 +828,8 @@ def files_that_change(place):
         place.write(name, source)
     os.link(place.in_tree("second"), place.in_tree("second name"))
     place.write("same", source)
-    with waiting_runs(place, "--jobs", "8", "tree", count=len(changes) + 1) as (run, folder):
+    place.kept()
+    with waiting_runs(place, *KEPT, "--jobs", "8", "tree", count=len(changes) + 1) as (run, folder):
         for name, change in changes.items():
             change(place.in_tree(name))
         files = {name: body for name, body in place.files().items() if not temporary(name)}
@@ -684,6 +840,7 @@ def files_that_change(place):
     for name in changes:
         wanted(f"tree/{name}: " in stderr, f"{name} isn't named in {stderr!r}")
     place.has(files)
+    has_kept(place, {b"same.cert": MAGIC})
 
 
 @test
@@ -707,7 +864,9 @@ def signals_that_stop(place):
         place.write(f"{number}/f", place.pair(20)[0])
     files = place.files()
     for number in (signal.SIGINT, signal.SIGTERM, signal.SIGHUP):
-        with waiting_runs(place, "--jobs", "4", "tree", count=4) as (run, folder):
+        has_kept(place, {})
+        with waiting_runs(place, *KEPT, "--jobs", "4", "tree", count=4) as (run, folder):
+            wanted(len(place.kept()) == 4, "there aren't four certificates begun")
             modes = [os.stat(place.in_tree(name)).st_mode for name in place.files().keys() - files.keys()]
             wanted(modes == [stat.S_IFREG | 0o600] * 4, f"not 4 files of the owner alone: {modes}")
             begun = [name.split("-")[1] for name in os.listdir(folder)]
@@ -787,10 +946,30 @@ def check_links(place, names):
     wanted(all(len(group) == 1 for group in groups.values()), "names of one file are names of two")
 
 
+def check_certificates(place, names, exact):
+    """Fails where something else is kept than the certificates of files that were replaced, or where one of these is
+    missing and that is asked for."""
+    kept = {name: body for name, body in place.kept().items() if not temporary(os.path.basename(name))}
+    found = place.files()
+    done = {number_of(name) for name in names if found[name] == names[name][1]}
+    for name, body in kept.items():
+        wanted(number_of(name) in done, f"{name} is kept of a file that isn't replaced")
+        wanted(body == certificate_of(20 + number_of(name) % 8), f"{name} isn't whole")
+    numbers = [number_of(name) for name in kept]
+    wanted(len(numbers) == len(set(numbers)), "a file has two certificates")
+    wanted(not exact or len(kept) == len(done), f"{len(kept)} certificates are kept of {len(done)} files")
+
+
+def number_of(name):
+    """The number of a file of `many_files`, by one of its names or that of its certificate."""
+    return int(name.split(b"/")[1].split(b".")[0])
+
+
 def killed_amid(place, number, names, count, seconds):
     """Lets a run be ended by a signal, so many seconds after so many names have other contents."""
     before, pipe = {name: os.stat(place.in_tree(name)).st_ino for name in names}, subprocess.PIPE
-    run = subprocess.Popen(place.command(()), cwd=place.folder, stdout=subprocess.DEVNULL, stderr=pipe)
+    command = place.command([*KEPT, "tree"])
+    run = subprocess.Popen(command, cwd=place.folder, stdout=subprocess.DEVNULL, stderr=pipe)
     while run.poll() is None and sum(os.stat(place.in_tree(it)).st_ino != before[it] for it in names) < count:
         time.sleep(0.002)
     time.sleep(seconds)
@@ -807,8 +986,11 @@ def kills_at_any_moment(place):
     rng, between = random.Random(), 0
     for number in [signal.SIGTERM, signal.SIGKILL] * 6:
         names = many_files(place)
+        place.kept()
         killed_amid(place, number, names, rng.randrange(len(names) * 3 // 4), rng.uniform(0, 0.05))
         done, left = check_whole(place, names, exact=number == signal.SIGTERM)
+        check_certificates(place, names, exact=number == signal.SIGTERM)
+        shutil.rmtree(place.path("kept"))
         between += 0 < done < len(names)
         if number == signal.SIGTERM:
             check_links(place, names)
@@ -853,7 +1035,7 @@ def one_build(place):
     place.run(program=program)
     with open(log) as file:
         lines = file.read().split()
-    wanted(lines == ["0"] + ["3"] * 5, f"it is run with these numbers of words: {lines}")
+    wanted(lines == ["0"] + ["4"] * 5, f"it is run with these numbers of words: {lines}")
 
 
 @test
