@@ -6,8 +6,8 @@ use Rattle.abbrev_tables.specs.declared.decl.Spec.{Spec}
 use Rattle.abbrev_tables.specs.Tables.{implicit_const}
 
 -- The column is the old one in a least form for values that mean this. References within a unit have DW_FORM_ref_udata, the one form
--- among theirs that is written: how many bytes each takes is the matter of the unit's layout. Those of DW_FORM_ref_addr, which count from
--- the section's first byte, keep that form.
+-- among theirs that is written: how many bytes each takes is the matter of the unit's layout. Those that still count from the section's
+-- first byte have DW_FORM_ref_addr.
 pub record IsLeastColumn (old : Spec) (meanings : List Meaning) (new : Spec) : Type 0 where
   pub name : new.name ≡ old.name
   pub least : IsLeastForm meanings new.form new.constant

@@ -1,15 +1,17 @@
 -- The order is kept by what comes next.
 use Rattle.std.proofs.Common.{◌≡◌, ◌≤◌, ◌<◌, ◌+◌, ◌^◌, ℕ, List, [], ◌∷◌, ◌++◌, length, get_or, refl, sym, subst, arith, inl, inr}
-use Rattle.std.specs.Prelude.{◌⊎◌}
+use Rattle.std.specs.Prelude.{◌⊎◌, Option, IfSome}
 use Rattle.std.proofs.lemmas.List.{get_or_append_left, get_or_push, length_push}
+use Rattle.std.proofs.lemmas.List.Elements.{AllZip-get_or, length_all_zip}
 use Rattle.std.proofs.lemmas.Bool.{cases_lt}
+use Rattle.dw_base.specs.declared.fault.Span.{Span}
 use Rattle.form_codec.specs.declared.value.Value.{Value}
 use Rattle.form_codec.specs.declared.value.Value.TheVariants as value
 use Rattle.form_codec.specs.Values.{LiesIn}
 use Rattle.entry_arena.specs.declared.entry.Entry.{Entry}
 use Rattle.entry_arena.specs.declared.entry.ChainEnd.{ChainEnd}
-use Rattle.entry_arena.specs.Arena.{Arena, entry_at, value_at, chain_end_at, with_entry, with_value, with_end}
-use Rattle.entry_arena.specs.Order.{ComesBefore, SpansRise, IsInOrder, IsHeld, IsNextEntry, IsNextValue, IsNextEnd}
+use Rattle.entry_arena.specs.Arena.{Arena, entry_at, value_at, chain_end_at, span_of, with_entry, with_value, with_values, with_end}
+use Rattle.entry_arena.specs.Order.{ComesBefore, SpansRise, LendAlike, IsInOrder, IsHeld, IsNextEntry, IsNextValue, IsNextEnd}
 
 -- an item of a list with one more is an old one or the new one
 pub at_more : {X : Type 0} (P : X → Type 0) (xs : List X) (x d : X) (i : ℕ) → (i < length xs → P (get_or xs i d)) → (i ≡ length xs → P x) → i < length (xs ++ x ∷ []) → P (get_or (xs ++ x ∷ []) i d)
@@ -117,4 +119,54 @@ end_in_order f id place order next =
       apart = λ i j li lj.
           at_more (λ z. (z.at < (entry_at f.entries i).at) ⊎ ((entry_at f.entries i).at + (entry_at f.entries i).len ≤ z.at)) f.ends end none j (λ l. order.apart i j li l) (λ _. inr (next.after.entered i li)) lj;
       spans = order.spans;
+    }
+
+-- OTHER VALUES
+
+abbrev pub LendSame : Value → Value → Type 0
+LendSame v w = span_of w ≡ span_of v
+
+-- where the bytes lie that a value lends, and the other way round
+lent : (size : ℕ) (v : Value) → LiesIn size v → IfSome (span_of v) (λ s. s.at + s.len ≤ size)
+lent size (value.Wide16 span) lies = lies
+lent size (value.Block span) lies = lies
+lent size (value.Expr span) lies = lies
+lent size (value.Text span) lies = lies
+lent size v lies = tt
+
+lies : (size : ℕ) (v : Value) → IfSome (span_of v) (λ s. s.at + s.len ≤ size) → LiesIn size v
+lies size (value.Wide16 span) lent = lent
+lies size (value.Block span) lent = lent
+lies size (value.Expr span) lent = lent
+lies size (value.Text span) lent = lent
+lies size v lent = tt
+
+spans_alike : (olds news : List Value) (size : ℕ) → LendAlike olds news → SpansRise olds size → SpansRise news size
+spans_alike olds news size alike spans =
+    let count : length olds ≡ length news = length_all_zip LendSame olds news alike in
+    let same : (i : ℕ) → i < length news → span_of (value_at news i) ≡ span_of (value_at olds i) = λ i inside. AllZip-get_or LendSame olds news i (value.Addr 0) (value.Addr 0) alike (omega arith) in
+    record {
+      inside = λ i inside.
+          lies size (value_at news i) (subst (λ (o : Option Span). IfSome o (λ s. s.at + s.len ≤ size)) (sym (same i inside)) (lent size (value_at olds i) (spans.inside i (omega arith))));
+      rising = λ i j less inside.
+          let before : ComesBefore (value_at olds i) (value_at olds j) = spans.rising i j less (omega arith) in
+          let first = subst (λ (o : Option Span). IfSome o (λ s. IfSome (span_of (value_at olds j)) (λ t. s.at + s.len ≤ t.at))) (sym (same i (omega arith))) before in
+          subst (λ (o : Option Span). IfSome (span_of (value_at news i)) (λ s. IfSome o (λ t. s.at + s.len ≤ t.at))) (sym (same j inside)) first;
+    }
+
+-- other values that lend the same bytes are in order too
+pub values_held : (f : Arena) (values : List Value) → IsHeld f → LendAlike f.values values → IsHeld (with_values f values)
+values_held f values held alike =
+    let count : length f.values ≡ length values = length_all_zip LendSame f.values values alike in
+    let order = held.order in
+    record {
+      order = record {
+        preorder = order.preorder;
+        valued = record { first = order.valued.first; adjacent = order.valued.adjacent; inside = λ i inside. omega (arith, order.valued.inside i inside) };
+        entered = order.entered;
+        ended = order.ended;
+        apart = order.apart;
+        spans = spans_alike f.values values (length f.section) alike order.spans;
+      };
+      count = record { entries = held.count.entries; values = omega (arith, held.count.values); ends = held.count.ends };
     }

@@ -28,6 +28,10 @@ with_value f v = record { section = f.section; entries = f.entries; values = f.v
 abbrev pub with_end : Arena → ChainEnd → Arena
 with_end f end = record { section = f.section; entries = f.entries; values = f.values; ends = f.ends ++ end ∷ [] }
 
+-- other values, and all else as it is
+abbrev pub with_values : Arena → List Value → Arena
+with_values f values = record { section = f.section; entries = f.entries; values = values; ends = f.ends }
+
 -- the entry with a number; past the end there is none, and one of zeros stands for it
 abbrev pub entry_at : List Entry → ℕ → Entry
 entry_at entries i = slice_index_or entries i (record { at = 0; len = 0; depth = 0; decl = 0; first = 0; count = 0 })

@@ -1,5 +1,6 @@
 -- The order in which things are held: preorder, with places and spans that rise.
 use Rattle.std.specs.Prelude.{◌≡◌, ◌≤◌, ◌<◌, ◌+◌, ◌^◌, ◌⊎◌, ℕ, List, [], length, IfSome}
+use Rattle.std.specs.List.{AllZip}
 use Rattle.form_codec.specs.declared.value.Value.{Value}
 use Rattle.form_codec.specs.Values.{LiesIn}
 use Rattle.entry_arena.specs.declared.entry.Entry.{Entry}
@@ -41,6 +42,10 @@ ComesBefore v w = IfSome (span_of v) (λ s. IfSome (span_of w) (λ t. s.at + s.l
 pub record SpansRise (values : List Value) (size : ℕ) : Type 0 where
   pub inside : (i : ℕ) → i < length values → LiesIn size (value_at values i)
   pub rising : (i j : ℕ) → i < j → j < length values → ComesBefore (value_at values i) (value_at values j)
+
+-- values that lend the same bytes, one by one
+abbrev pub LendAlike : List Value → List Value → Type 0
+LendAlike = AllZip (λ v w. span_of w ≡ span_of v)
 
 -- what is true of each forest
 pub record IsInOrder (f : Arena) : Type 0 where

@@ -2,8 +2,8 @@
 ghost use Rattle.std.specs.Prelude.{◌≡◌, ◌≢◌, ◌≤◌, ◌<◌, ◌+◌, ◌^◌, ℕ, length, None, Some, IsTrue, IfOk, IfErr, MatchOption, ◌↔◌};
 ghost use Rattle.form_codec.specs.Values.{bytes_in};
 ghost use Rattle.entry_arena.specs.declared.entry.Target.TheVariants.{Entry as TheEntry, ChainEnd as TheEnd};
-ghost use Rattle.entry_arena.specs.Arena.{nothing_of, with_entry, with_value, with_end, entry_at, value_at, chain_end_at, IsEntryAt, HasChainEnd, IsChainEndAt};
-ghost use Rattle.entry_arena.specs.Order.{IsInOrder, IsNextEntry, IsNextValue, IsNextEnd};
+ghost use Rattle.entry_arena.specs.Arena.{nothing_of, with_entry, with_value, with_values, with_end, entry_at, value_at, chain_end_at, IsEntryAt, HasChainEnd, IsChainEndAt};
+ghost use Rattle.entry_arena.specs.Order.{IsInOrder, IsNextEntry, IsNextValue, IsNextEnd, LendAlike};
 
 use crate::entry::{ChainEnd, Entry, Target};
 use dw_base::{NoMemory, Span};
@@ -128,6 +128,24 @@ impl<'a> Forest<'a> {
         self.entries.shrink_to_fit();
         self.values.shrink_to_fit();
         self.ends.shrink_to_fit();
+    }
+
+    /// The same entries and chain ends with other values in place of the forest's own, one for each, which lend the same bytes of
+    /// the section. The only error is want of memory.
+    pub fn with_values(&self, alloc: Global, values: Vec<Value>) -> Result<Forest<'a>, NoMemory>
+        requires { LendAlike self.now.values values.items }
+        ensures { IfOk result (λ forest. forest ≡ with_values self.now values.items) }
+    {
+        let mut entries = Vec::with_capacity(alloc, self.entries.len())?;
+        entries.extend_from_slice(&self.entries)?;
+        let mut ends = Vec::with_capacity(alloc, self.ends.len())?;
+        ends.extend_from_slice(&self.ends)?;
+        Ok(Forest {
+            section: self.section,
+            entries,
+            values,
+            ends,
+        })
     }
 
     /// How many entries there are.

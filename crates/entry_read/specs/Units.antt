@@ -3,7 +3,8 @@
 use Rattle.std.specs.Prelude.{◌≡◌, ◌≤◌, ◌<◌, ◌+◌, ◌^◌, ℕ, List, [], slice_index}
 use Rattle.abbrev_tables.specs.Tables.{Declared}
 use Rattle.abbrev_tables.specs.Listings.{Listing, declarations_in, IsTableAt}
-use Rattle.entry_arena.specs.Arena.{Arena}
+use Rattle.form_codec.specs.declared.value.Value.{Value}
+use Rattle.entry_arena.specs.Arena.{Arena, with_values}
 use Rattle.entry_arena.specs.Trees.{Listed, listed_to, bytes_between, nothing_from, IsForest}
 use Rattle.entry_arena.specs.Walks.{Item, Walks}
 use Rattle.entry_read.specs.declared.head.UnitHead.{UnitHead}
@@ -14,6 +15,10 @@ use Rattle.entry_read.specs.Heads.{header_size}
 pub record HeadAndForest : Type 0 where
   pub head : UnitHead
   pub forest : Arena
+
+-- the unit with other values
+abbrev pub unit_with : HeadAndForest → List Value → HeadAndForest
+unit_with unit values = record { head = unit.head; forest = with_values unit.forest values }
 
 -- where the unit's entries begin, and where it ends
 abbrev pub entries_at : UnitHead → ℕ

@@ -1,16 +1,18 @@
 // Units.
 ghost use Rattle.std.specs.Prelude.{◌≡◌, ◌≤◌, ◌<◌, ◌+◌, ◌^◌, ◌↔◌, ℕ, [], length, slice_index, IfOk, IfErr, IsTrue};
+ghost use Rattle.entry_arena.specs.Order.{LendAlike};
 ghost use Rattle.entry_arena.specs.Trees.{listed_to};
 ghost use Rattle.entry_read.specs.Heads.{IsHead};
-ghost use Rattle.entry_read.specs.Units.{declarations_of, IsTable, IsUnitHeld, IsWithin};
+ghost use Rattle.entry_read.specs.Units.{declarations_of, unit_with, IsTable, IsUnitHeld, IsWithin};
 ghost use Rattle.entry_read.specs.Faults.{FaultUnit};
 ghost use Rattle.dw_base.specs.Refusals.{IsFaultOf, IsFaulty, IsRefusedFor};
 
 use crate::entries::{Scope, read_entries};
 use crate::head::UnitHead;
 use abbrev_tables::Table;
-use dw_base::{Kind, Refusal};
+use dw_base::{Kind, NoMemory, Refusal};
 use entry_arena::Forest;
+use form_codec::Value;
 use std::alloc::Global;
 use std::marker::Model;
 
@@ -51,6 +53,18 @@ impl<'a> Unit<'a> {
         ensures { result.now ≡ self.now.forest }
     {
         &self.forest
+    }
+
+    /// The same unit with other values in place of its own, one for each, which lend the same bytes of the section. The only error
+    /// is want of memory.
+    pub fn with_values(&self, alloc: Global, values: Vec<Value>) -> Result<Unit<'a>, NoMemory>
+        requires { LendAlike self.now.forest.values values.items }
+        ensures { IfOk result (λ unit. unit ≡ unit_with self.now values.items) }
+    {
+        Ok(Unit {
+            head: self.head,
+            forest: self.forest.with_values(alloc, values)?,
+        })
     }
 }
 

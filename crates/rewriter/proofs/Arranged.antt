@@ -17,7 +17,7 @@ use Rattle.unit_write.specs.Placing.{EntrySize, ArePlaced}
 use Rattle.unit_write.specs.Moved.{IsPlacedAt}
 use Rattle.value_links.specs.World.{World}
 use Rattle.rewriter.specs.declared.tables.NewTable.{NewTable}
-use Rattle.rewriter.specs.inside.Placed.{places_at, unit_in, ArePlacesOf}
+use Rattle.rewriter.specs.inside.Placed.{places_at, written_in, ArePlacesOf}
 use Rattle.rewriter.specs.inside.Held.{HavePlaces, AllHavePlaces}
 
 -- as many entries, and as many ends, as places
@@ -83,7 +83,7 @@ module _ (Size : ℕ → ℕ → Type 0) where
 pub placed_have : (unit : HeadAndForest) (table : Listing) (columns : List Spec) (numbers lens : List ℕ) (start : ℕ) (entries ends : List ℕ) (to : ℕ) → IsPlacedAt unit table columns numbers lens start entries ends to → HavePlaces unit.forest (record { start = start; entries = entries; ends = ends; end = to })
 placed_have unit table columns numbers lens start entries ends to p =
     let first : ℕ = start + (entries_at unit.head - unit.head.at) in
-    let counts = placed_counts (EntrySize table columns numbers unit.forest lens) unit.forest.section (declarations_of table) (nothing_from (entries_at unit.head)) [] (record { entries = unit.forest.entries; values = unit.forest.values; ends = unit.forest.ends; place = p.place }) [] 0 (start + (entries_at unit.head - unit.head.at)) p.whole.items entries ends to p.whole.walked p.placed in
+    let counts = placed_counts (EntrySize table columns numbers unit.forest lens) unit.forest.section (declarations_of table) (nothing_from (entries_at unit.head)) [] (record { entries = unit.forest.entries; values = p.values; ends = unit.forest.ends; place = p.place }) [] 0 (start + (entries_at unit.head - unit.head.at)) p.whole.items entries ends to p.whole.walked p.placed in
     let count_entries : length unit.forest.entries ≡ 0 + length entries = counts.0 in
     let count_ends : length unit.forest.ends ≡ 0 + length ends = counts.1 in
     record {
@@ -114,5 +114,7 @@ placed_behind unit table columns numbers lens start entries ends to p k inside =
 pub all_placed : (world : World) (tables : List NewTable) (places : List Places) (size : ℕ) → ArePlacesOf world tables places size → AllHavePlaces world places
 all_placed world tables places size are = record {
   count = are.count;
-  each = λ u inside. placed_have (unit_in world.units u) _ _ _ _ (places_at places u).start (places_at places u).entries (places_at places u).ends (places_at places u).end (are.each u inside).placed;
+  each = λ u inside.
+      let have = placed_have (written_in world tables u) _ _ _ _ (places_at places u).start (places_at places u).entries (places_at places u).ends (places_at places u).end (are.each u inside).placed in
+      record { entries = have.entries; ends = have.ends; entries_after = have.entries_after; ends_after = have.ends_after };
 }

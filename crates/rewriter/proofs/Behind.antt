@@ -22,11 +22,13 @@ use Rattle.value_links.specs.declared.units.NamedTable.{NamedTable}
 use Rattle.rewriter.specs.declared.tables.NewTable.{NewTable}
 use Rattle.rewriter.specs.declared.new_places.NewPlaces.{NewPlaces}
 use Rattle.rewriter.specs.inside.Tables.{TableAnew, table_anew, new_table_at, AreTablesWritten}
-use Rattle.rewriter.specs.inside.Placed.{places_at, unit_in, AreWritable, IsPlacedBy, PlacesFollow, ArePlacesOf}
+use Rattle.rewriter.specs.inside.Placed.{places_at, unit_in, written_in, AreTaken, AreWritable, IsPlacedBy, PlacesFollow, ArePlacesOf}
+use Rattle.rewriter.specs.inside.Taken.{IsTakenFrom}
 use Rattle.rewriter.specs.inside.Numbers.{AreNewNumbers}
 use Rattle.rewriter.specs.inside.Held.{table_for}
 use Rattle.rewriter.proofs.Standing.{held_unit}
-use Rattle.rewriter.proofs.SpotNumbers.{spot_numbers}
+use Rattle.rewriter.proofs.SpotNumbers.{taken_read, spot_numbers}
+use Rattle.rewriter.proofs.TakenLaws.{taken_count, taken_operations, taken_ends, taken_shortest}
 use Rattle.rewriter.proofs.UnitExpressions.{section_short}
 
 -- PLACES RISE
@@ -64,66 +66,67 @@ unit_ends world tables places size u are known =
 -- THE SIZES OF SLOTS
 
 -- as many new numbers as values, and as many ends
-module _ (file : List ℕ) (world : World) (r : Reading) (tables : List NewTable) (places : List Places) (new_places : NewPlaces) (u : ℕ) (new : NewNumbers) (is : IsWorldOf world.image Narrow world) (holds : Holds file world r) (known : u < length world.units) (numbers : AreNewNumbers world r.links tables places new_places u new) where
-  read_there : head_and_forest (unit_at r.links u) ≡ unit_in world.units u
-  read_there = sym (held_unit file world r u holds)
+module _ (file : List ℕ) (world : World) (r : Reading) (tables : List NewTable) (places : List Places) (new_places : NewPlaces) (u : ℕ) (new : NewNumbers) (is : IsWorldOf world.image Narrow world) (holds : Holds file world r) (taken : AreTaken world tables) (known : u < length world.units) (numbers : AreNewNumbers world r.links tables places new_places u new) where
+  taken_there : IsTakenFrom (head_and_forest (unit_at r.links u)) (written_in world tables u)
+  taken_there = taken_read file world r tables u holds taken known
 
-  numbers_counted : length new.held.items ≡ length (unit_in world.units u).forest.values
-  numbers_counted = numbers.count ∙ ap (λ (h : HeadAndForest). length h.forest.values) read_there
+  numbers_counted : length new.held.items ≡ length (written_in world tables u).forest.values
+  numbers_counted = numbers.count ∙ sym (taken_count (head_and_forest (unit_at r.links u)) (written_in world tables u) taken_there)
 
-  ends_known : AreEndsFor (unit_in world.units u).forest new.expressions.ends.items
-  ends_known = subst (λ (h : HeadAndForest). AreEndsFor h.forest new.expressions.ends.items) read_there numbers.ends_are
+  ends_known : AreEndsFor (written_in world tables u).forest new.expressions.ends.items
+  ends_known = taken_ends (head_and_forest (unit_at r.links u)) (written_in world tables u) taken_there new.expressions.ends.items numbers.ends_are
+
+  expressions_known : AreWrittenShortest (written_in world tables u).forest (operations_at world.operations u) new.expressions.ends.items numbers.op_numbers new.expressions.bytes.items
+  expressions_known = taken_shortest (head_and_forest (unit_at r.links u)) (written_in world tables u) taken_there (operations_at world.operations u) new.expressions.ends.items numbers.op_numbers new.expressions.bytes.items numbers.expressions
 
   -- the sizes that the new numbers need are such as a unit can be written with
-  anew_fits : AreLensFor (unit_in world.units u).forest (lens_anew (unit_in world.units u).forest (new_values new))
+  anew_fits : AreLensFor (written_in world tables u).forest (lens_anew (written_in world tables u).forest (new_values new))
   anew_fits =
       let short : length (unit_in world.units u).forest.section < 2 ^ 32 = section_short world u is known in
-      lens_fit (unit_in world.units u).forest (new_values new) numbers_counted ends_known.rise.each ends_known (omega (arith, short)) numbers.fit
+      lens_fit (written_in world tables u).forest (new_values new) numbers_counted ends_known.rise.each ends_known (omega (arith, short)) numbers.fit
 
   -- they are those with which it has its places
-  pub placed_with : LayoutsHold → IsPlacedBy world tables u (places_at places u) → IsPlacedAt (unit_in world.units u) (table_for world u) (new_table_at tables (slice_index world.table_of u)).columns (new_table_at tables (slice_index world.table_of u)).numbers (lens_anew (unit_in world.units u).forest (new_values new)) (places_at places u).start (places_at places u).entries (places_at places u).ends (places_at places u).end
+  pub placed_with : LayoutsHold → IsPlacedBy world tables u (places_at places u) → IsPlacedAt (written_in world tables u) (table_for world u) (new_table_at tables (slice_index world.table_of u)).columns (new_table_at tables (slice_index world.table_of u)).numbers (lens_anew (written_in world tables u).forest (new_values new)) (places_at places u).start (places_at places u).entries (places_at places u).ends (places_at places u).end
   placed_with hold p =
-      let operations : HasOperations Narrow (unit_in world.units u).forest (operations_at world.operations u) = is.operations.each u (unit_in [] 0) known in
-      let written : AreWrittenShortest (unit_in world.units u).forest (operations_at world.operations u) new.expressions.ends.items numbers.op_numbers new.expressions.bytes.items = subst (λ (h : HeadAndForest). AreWrittenShortest h.forest (operations_at world.operations u) new.expressions.ends.items numbers.op_numbers new.expressions.bytes.items) read_there numbers.expressions in
-      let counts = spot_numbers file world Narrow r tables places new_places u new is holds known numbers p in
-      let same : lens_anew (unit_in world.units u).forest (new_values new) ≡ p.lens = hold (unit_in world.units u) (table_for world u) (new_table_at tables (slice_index world.table_of u)).columns (new_table_at tables (slice_index world.table_of u)).numbers (operations_at world.operations u) (new_values new) numbers.op_numbers p.more p.spots p.lists p.lens p.ranks (places_at places u).start (places_at places u).entries (places_at places u).ends (places_at places u).end operations p.named numbers_counted ends_known.rise.each p.laid_out p.placed counts written in
-      subst (λ (lens : List ℕ). IsPlacedAt (unit_in world.units u) (table_for world u) (new_table_at tables (slice_index world.table_of u)).columns (new_table_at tables (slice_index world.table_of u)).numbers lens (places_at places u).start (places_at places u).entries (places_at places u).ends (places_at places u).end) (sym same) p.placed
+      let operations : HasOperations Narrow (written_in world tables u).forest (operations_at world.operations u) = taken_operations (unit_in world.units u) (written_in world tables u) (taken u known) Narrow (operations_at world.operations u) (is.operations.each u (unit_in [] 0) known) in
+      let counts = spot_numbers file world Narrow r tables places new_places u new is holds taken known numbers p in
+      let same : lens_anew (written_in world tables u).forest (new_values new) ≡ p.lens = hold (written_in world tables u) (table_for world u) (new_table_at tables (slice_index world.table_of u)).columns (new_table_at tables (slice_index world.table_of u)).numbers (operations_at world.operations u) (new_values new) numbers.op_numbers p.more p.spots p.lists p.lens p.ranks (places_at places u).start (places_at places u).entries (places_at places u).ends (places_at places u).end operations p.named numbers_counted ends_known.rise.each p.laid_out p.placed counts expressions_known in
+      subst (λ (lens : List ℕ). IsPlacedAt (written_in world tables u) (table_for world u) (new_table_at tables (slice_index world.table_of u)).columns (new_table_at tables (slice_index world.table_of u)).numbers lens (places_at places u).start (places_at places u).entries (places_at places u).ends (places_at places u).end) (sym same) p.placed
 
 -- WHAT IS READ OF THE PARTS
 
-module _ (world : World) (tables : List NewTable) (u : ℕ) (unit : HeadAndForest) (old : NamedTable) (anew : NewTable) (unit_is : unit ≡ unit_in world.units u) (old_is : old ≡ table_at world.tables (slice_index world.table_of u)) (anew_is : table_anew anew ≡ new_table_at tables (slice_index world.table_of u)) where
+module _ (world : World) (tables : List NewTable) (u : ℕ) (unit : HeadAndForest) (old : NamedTable) (anew : NewTable) (unit_is : unit ≡ written_in world tables u) (old_is : old ≡ table_at world.tables (slice_index world.table_of u)) (anew_is : table_anew anew ≡ new_table_at tables (slice_index world.table_of u)) where
   -- what holds of the parts that are held holds of those that were read, and the other way round
-  there : (P : HeadAndForest → Listing → TableAnew → Type 0) → P (unit_in world.units u) (table_for world u) (new_table_at tables (slice_index world.table_of u)) → P unit old.table (table_anew anew)
+  there : (P : HeadAndForest → Listing → TableAnew → Type 0) → P (written_in world tables u) (table_for world u) (new_table_at tables (slice_index world.table_of u)) → P unit old.table (table_anew anew)
   there P held =
-      subst (λ (h : HeadAndForest). P h old.table (table_anew anew)) (sym unit_is) (subst (λ (n : NamedTable). P (unit_in world.units u) n.table (table_anew anew)) (sym old_is) (subst (P (unit_in world.units u) (table_for world u)) (sym anew_is) held))
+      subst (λ (h : HeadAndForest). P h old.table (table_anew anew)) (sym unit_is) (subst (λ (n : NamedTable). P (written_in world tables u) n.table (table_anew anew)) (sym old_is) (subst (P (written_in world tables u) (table_for world u)) (sym anew_is) held))
 
-  back : (P : HeadAndForest → Listing → TableAnew → Type 0) → P unit old.table (table_anew anew) → P (unit_in world.units u) (table_for world u) (new_table_at tables (slice_index world.table_of u))
+  back : (P : HeadAndForest → Listing → TableAnew → Type 0) → P unit old.table (table_anew anew) → P (written_in world tables u) (table_for world u) (new_table_at tables (slice_index world.table_of u))
   back P read =
-      subst (P (unit_in world.units u) (table_for world u)) anew_is (subst (λ (n : NamedTable). P (unit_in world.units u) n.table (table_anew anew)) old_is (subst (λ (h : HeadAndForest). P h old.table (table_anew anew)) unit_is read))
+      subst (P (written_in world tables u) (table_for world u)) anew_is (subst (λ (n : NamedTable). P (written_in world tables u) n.table (table_anew anew)) old_is (subst (λ (h : HeadAndForest). P h old.table (table_anew anew)) unit_is read))
 
   abbrev Writes : HeadAndForest → Listing → TableAnew → NewNumbers → ℕ → List ℕ → Type 0
   Writes h t n new start section = (ds : List Declared) → IsRenumbered t n.columns n.numbers ds → IsWrittenAnew h t n.columns n.numbers ds new.table new.type_offset (new_values new) start section
 
-  pub written_there : (new : NewNumbers) (start at : ℕ) (section : List ℕ) → at ≡ start → ((ds : List Declared) → IsRenumbered old.table anew.columns.items anew.numbers.items ds → IsWrittenAnew unit old.table anew.columns.items anew.numbers.items ds new.table new.type_offset (new_values new) at section) → ((ds : List Declared) → IsRenumbered (table_for world u) (new_table_at tables (slice_index world.table_of u)).columns (new_table_at tables (slice_index world.table_of u)).numbers ds → IsWrittenAnew (unit_in world.units u) (table_for world u) (new_table_at tables (slice_index world.table_of u)).columns (new_table_at tables (slice_index world.table_of u)).numbers ds new.table new.type_offset (new_values new) start section)
+  pub written_there : (new : NewNumbers) (start at : ℕ) (section : List ℕ) → at ≡ start → ((ds : List Declared) → IsRenumbered old.table anew.columns.items anew.numbers.items ds → IsWrittenAnew unit old.table anew.columns.items anew.numbers.items ds new.table new.type_offset (new_values new) at section) → ((ds : List Declared) → IsRenumbered (table_for world u) (new_table_at tables (slice_index world.table_of u)).columns (new_table_at tables (slice_index world.table_of u)).numbers ds → IsWrittenAnew (written_in world tables u) (table_for world u) (new_table_at tables (slice_index world.table_of u)).columns (new_table_at tables (slice_index world.table_of u)).numbers ds new.table new.type_offset (new_values new) start section)
   written_there new start at section start_is writes =
-      subst (λ (z : ℕ). Writes (unit_in world.units u) (table_for world u) (new_table_at tables (slice_index world.table_of u)) new z section) start_is (back (λ h t n. Writes h t n new at section) writes)
+      subst (λ (z : ℕ). Writes (written_in world tables u) (table_for world u) (new_table_at tables (slice_index world.table_of u)) new z section) start_is (back (λ h t n. Writes h t n new at section) writes)
 
-  module _ (file : List ℕ) (r : Reading) (places : List Places) (new_places : NewPlaces) (new : NewNumbers) (is : IsWorldOf world.image Narrow world) (holds : Holds file world r) (known : u < length world.units) (numbers : AreNewNumbers world r.links tables places new_places u new) where
-    read_is : unit ≡ head_and_forest (unit_at r.links u)
-    read_is = unit_is ∙ held_unit file world r u holds
-
+  module _ (file : List ℕ) (r : Reading) (places : List Places) (new_places : NewPlaces) (new : NewNumbers) (is : IsWorldOf world.image Narrow world) (holds : Holds file world r) (taken : AreTaken world tables) (known : u < length world.units) (numbers : AreNewNumbers world r.links tables places new_places u new) where
     pub held_counted : length new.held.items ≡ length unit.forest.values
-    held_counted = numbers.count ∙ ap (λ (h : HeadAndForest). length h.forest.values) (sym read_is)
+    held_counted = subst (λ (h : HeadAndForest). length new.held.items ≡ length h.forest.values) (sym unit_is) (numbers_counted file world r tables places new_places u new is holds taken known numbers)
 
     -- the ends of its expressions are those of the unit
     pub ends_there : AreEndsFor unit.forest new.expressions.ends.items
-    ends_there = subst (λ (h : HeadAndForest). AreEndsFor h.forest new.expressions.ends.items) (sym read_is) numbers.ends_are
+    ends_there = subst (λ (h : HeadAndForest). AreEndsFor h.forest new.expressions.ends.items) (sym unit_is) (ends_known file world r tables places new_places u new is holds taken known numbers)
 
     pub filled_there : (k : ℕ) → k < length unit.forest.values → slice_index new.expressions.ends.items k ≤ length new.expressions.bytes.items
-    filled_there = subst (λ (h : HeadAndForest). (k : ℕ) → k < length h.forest.values → slice_index new.expressions.ends.items k ≤ length new.expressions.bytes.items) (sym read_is) numbers.expressions.all
+    filled_there = subst (λ (h : HeadAndForest). (k : ℕ) → k < length h.forest.values → slice_index new.expressions.ends.items k ≤ length new.expressions.bytes.items) (sym unit_is) (expressions_known file world r tables places new_places u new is holds taken known numbers).all
 
     pub type_none : unit.head.kind ≢ type_unit → new.type_offset ≡ 0
-    type_none other = numbers.type_at.none (λ same. other (ap (λ (h : HeadAndForest). h.head.kind) read_is ∙ same))
+    type_none other =
+        let kind : (unit_in world.units u).head.kind ≡ (unit_at r.links u).head.kind = ap (λ (h : HeadAndForest). h.head.kind) (held_unit file world r u holds) in
+        numbers.type_at.none (λ same. other (ap (λ (h : HeadAndForest). h.head.kind) unit_is ∙ kind ∙ same))
 
     pub table_fits : (section : List ℕ) → AreTablesWritten world section tables → slice_index world.table_of u < length world.tables → length section < 2 ^ 32 → new.table < 2 ^ 32
     table_fits section written there narrow =
@@ -134,9 +137,9 @@ module _ (world : World) (tables : List NewTable) (u : ℕ) (unit : HeadAndFores
     -- it can be written with the sizes that its new numbers need
     pub writable_anew : AreWritable world tables → IsWritable unit old.table anew.columns.items anew.numbers.items (lens_anew unit.forest (new_values new))
     writable_anew writable =
-        there (λ h t n. IsWritable h t n.columns n.numbers (lens_anew h.forest (new_values new))) (writable u (lens_anew (unit_in world.units u).forest (new_values new)) known (anew_fits file world r tables places new_places u new is holds known numbers))
+        there (λ h t n. IsWritable h t n.columns n.numbers (lens_anew h.forest (new_values new))) (writable u (lens_anew (written_in world tables u).forest (new_values new)) known (anew_fits file world r tables places new_places u new is holds taken known numbers))
 
     -- and stands at its places with them
-    pub placed_there : (start end : ℕ) → start ≡ (places_at places u).start → end ≡ (places_at places u).end → IsPlacedAt (unit_in world.units u) (table_for world u) (new_table_at tables (slice_index world.table_of u)).columns (new_table_at tables (slice_index world.table_of u)).numbers (lens_anew (unit_in world.units u).forest (new_values new)) (places_at places u).start (places_at places u).entries (places_at places u).ends (places_at places u).end → IsPlacedAt unit old.table anew.columns.items anew.numbers.items (lens_anew unit.forest (new_values new)) start (places_at places u).entries (places_at places u).ends end
+    pub placed_there : (start end : ℕ) → start ≡ (places_at places u).start → end ≡ (places_at places u).end → IsPlacedAt (written_in world tables u) (table_for world u) (new_table_at tables (slice_index world.table_of u)).columns (new_table_at tables (slice_index world.table_of u)).numbers (lens_anew (written_in world tables u).forest (new_values new)) (places_at places u).start (places_at places u).entries (places_at places u).ends (places_at places u).end → IsPlacedAt unit old.table anew.columns.items anew.numbers.items (lens_anew unit.forest (new_values new)) start (places_at places u).entries (places_at places u).ends end
     placed_there start end start_is end_is placed =
-        there (λ h t n. IsPlacedAt h t n.columns n.numbers (lens_anew h.forest (new_values new)) start (places_at places u).entries (places_at places u).ends end) (subst (λ (z : ℕ). IsPlacedAt (unit_in world.units u) (table_for world u) (new_table_at tables (slice_index world.table_of u)).columns (new_table_at tables (slice_index world.table_of u)).numbers (lens_anew (unit_in world.units u).forest (new_values new)) z (places_at places u).entries (places_at places u).ends end) (sym start_is) (subst (IsPlacedAt (unit_in world.units u) (table_for world u) (new_table_at tables (slice_index world.table_of u)).columns (new_table_at tables (slice_index world.table_of u)).numbers (lens_anew (unit_in world.units u).forest (new_values new)) (places_at places u).start (places_at places u).entries (places_at places u).ends) (sym end_is) placed))
+        there (λ h t n. IsPlacedAt h t n.columns n.numbers (lens_anew h.forest (new_values new)) start (places_at places u).entries (places_at places u).ends end) (subst (λ (z : ℕ). IsPlacedAt (written_in world tables u) (table_for world u) (new_table_at tables (slice_index world.table_of u)).columns (new_table_at tables (slice_index world.table_of u)).numbers (lens_anew (written_in world tables u).forest (new_values new)) z (places_at places u).entries (places_at places u).ends end) (sym start_is) (subst (IsPlacedAt (written_in world tables u) (table_for world u) (new_table_at tables (slice_index world.table_of u)).columns (new_table_at tables (slice_index world.table_of u)).numbers (lens_anew (written_in world tables u).forest (new_values new)) (places_at places u).start (places_at places u).entries (places_at places u).ends) (sym end_is) placed))

@@ -16,14 +16,16 @@ use Rattle.abbrev_tables.specs.Listings.{Listing, decl_at, spec_at}
 use Rattle.entry_arena.specs.declared.entry.Entry.{Entry}
 use Rattle.entry_arena.specs.Arena.{entry_at, value_at}
 use Rattle.entry_arena.specs.Trees.{ValuesBetween, declared_at}
+use Rattle.entry_read.specs.declared.head.UnitHead.{UnitHead}
 use Rattle.entry_read.specs.Units.{HeadAndForest, declarations_of, IsTable, IsUnitHeld}
 use Rattle.entry_read.proofs.Declarations.{columns_inside, declared_is}
 use Rattle.entry_read.proofs.PlaceLaws.{entry_stands}
 use Rattle.value_links.specs.declared.units.NamedTable.{NamedTable}
-use Rattle.value_links.specs.Uses.{values_with, column_meanings}
+use Rattle.value_links.specs.Uses.{values_with, column_values}
 use Rattle.rewriter.specs.inside.Placed.{unit_in}
+use Rattle.rewriter.specs.inside.Columns.{with_head}
 use Rattle.rewriter.proofs.ColumnUnits.{entry_declared, entry_counted}
-use Rattle.rewriter.proofs.ColumnMeanings.{has_decl, AreOfTable, term_of, held_here}
+use Rattle.rewriter.proofs.ColumnMeanings.{has_decl, AreOfTable, term_of, held_here, plain, plain_of, plain_append}
 
 -- a column spells a value of a section
 abbrev IsSpelled : List ℕ → Spec → Value → Type 0
@@ -87,26 +89,28 @@ spelled_append : (code : ℕ) (constant : ℤ) (ms ns : List Meaning) → AreSpe
 spelled_append code constant [] ns first second = second
 spelled_append code constant (m ∷ ms) ns (here, rest) second = (here, spelled_append code constant ms ns rest second)
 
-units_spelled : (code : ℕ) (constant : ℤ) (term : HeadAndForest → List Meaning) (units : List HeadAndForest) → All (λ (unit : HeadAndForest). AreSpelled code constant (term unit)) units → AreSpelled code constant (flat_map term units)
+units_spelled : (code : ℕ) (constant : ℤ) (term : HeadAndForest → List (UnitHead × Meaning)) (units : List HeadAndForest) → All (λ (unit : HeadAndForest). AreSpelled code constant (plain (term unit))) units → AreSpelled code constant (plain (flat_map term units))
 units_spelled code constant term [] all = tt
 units_spelled code constant term (unit ∷ units) all =
-    spelled_append code constant (term unit) (flat_map term units) (All-head (λ (x : HeadAndForest). AreSpelled code constant (term x)) unit units all) (units_spelled code constant term units (All-tail (λ (x : HeadAndForest). AreSpelled code constant (term x)) unit units all))
+    let rest = units_spelled code constant term units (All-tail (λ (x : HeadAndForest). AreSpelled code constant (plain (term x))) unit units all) in
+    let own = All-head (λ (x : HeadAndForest). AreSpelled code constant (plain (term x))) unit units all in
+    subst (λ (ms : List Meaning). AreSpelled code constant ms) (sym (plain_append (term unit) (flat_map term units))) (spelled_append code constant (plain (term unit)) (plain (flat_map term units)) own rest)
 
 module _ (units : List HeadAndForest) (table : NamedTable) (section table_of : List ℕ) (i : ℕ) (of : AreOfTable units table section table_of i) (number j : ℕ) (inside : j < (decl_at table.table.decls number).count) where
   abbrev old : Spec
   old = spec_at table.table.specs ((decl_at table.table.decls number).first + j)
 
-  unit_spelled : (u : ℕ) → u < length units → slice_index table_of u ≡ i → AreSpelled old.form old.constant (map (meant_in (unit_in units u).forest.section) (values_with number j (unit_in units u)))
+  unit_spelled : (u : ℕ) → u < length units → slice_index table_of u ≡ i → AreSpelled old.form old.constant (plain (with_head (unit_in units u) (values_with number j (unit_in units u))))
   unit_spelled u below is =
       let unit : HeadAndForest = unit_in units u in
       let each = All-from_get_or (λ (e : Entry). e.decl ≡ number → IsSpelled unit.forest.section old (value_at unit.forest.values (e.first + j))) unit.forest.entries (entry_at [] 0)
       (λ id known same. entry_spelled table.table unit of.stands (held_here units table section table_of i of u below is) id known number j inside same) in
-      entries_spelled unit.forest.section old unit.forest.values number j unit.forest.entries each
+      subst (λ (ms : List Meaning). AreSpelled old.form old.constant ms) (sym (plain_of unit (values_with number j unit))) (entries_spelled unit.forest.section old unit.forest.values number j unit.forest.entries each)
 
-  term_spelled : (u : ℕ) → u < length units → AreSpelled old.form old.constant (term_of table.place number j (unit_in units u))
+  term_spelled : (u : ℕ) → u < length units → AreSpelled old.form old.constant (plain (term_of table.place number j (unit_in units u)))
   term_spelled u below =
       let unit : HeadAndForest = unit_in units u in
-      cond_both (eqb unit.head.table table.place) (map (meant_in unit.forest.section) (values_with number j unit)) [] (λ (ms : List Meaning). AreSpelled old.form old.constant ms)
+      cond_both (eqb unit.head.table table.place) (with_head unit (values_with number j unit)) [] (λ (ms : List (UnitHead × Meaning)). AreSpelled old.form old.constant (plain ms))
       (λ named. elim (cases_eq (slice_index table_of u) i) [
         | inl is ↦ unit_spelled u below is
         | inr other ↦ absurd (of.apart u below other (eqb-true unit.head.table table.place named))
@@ -114,5 +118,5 @@ module _ (units : List HeadAndForest) (table : NamedTable) (section table_of : L
       (λ _. tt)
 
   -- the old form of a column spells the values of all its entries
-  pub column_spelled : AreSpelled (spec_at table.table.specs ((decl_at table.table.decls number).first + j)).form (spec_at table.table.specs ((decl_at table.table.decls number).first + j)).constant (column_meanings units table.place number j)
-  column_spelled = units_spelled old.form old.constant (term_of table.place number j) units (All-from_get_or (λ (unit : HeadAndForest). AreSpelled old.form old.constant (term_of table.place number j unit)) units (unit_in [] 0) term_spelled)
+  pub values_spelled : AreSpelled (spec_at table.table.specs ((decl_at table.table.decls number).first + j)).form (spec_at table.table.specs ((decl_at table.table.decls number).first + j)).constant (plain (column_values units table.place number j))
+  values_spelled = units_spelled old.form old.constant (term_of table.place number j) units (All-from_get_or (λ (unit : HeadAndForest). AreSpelled old.form old.constant (plain (term_of table.place number j unit))) units (unit_in [] 0) term_spelled)

@@ -155,7 +155,7 @@ module _ (units : List HeadAndForest) (table : Listing) (named : List ℕ) (sect
     unit_there : unit_in units u ≡ unit
     unit_there = get_or_default units u (unit_in [] 0) unit unit_known ∙ sym unit_is
 
-    at_number : unit_in units (get_or named n 0) ≡ unit
+    pub at_number : unit_in units (get_or named n 0) ≡ unit
     at_number = ap (unit_in units) (sym u_is) ∙ unit_there
 
     pub unit_lent : unit.forest.section ≡ section

@@ -28,6 +28,7 @@ use Rattle.rewriter.proofs.MovedAttributes.{IsMovedAttribute}
 use Rattle.rewriter.proofs.MovedBases.{BaseMoves, first_moves, first_came, all_bases, root_moves}
 use Rattle.rewriter.proofs.NewBodies.{body_written}
 use Rattle.rewriter.proofs.SectionsAnew.{none_empty}
+use Rattle.rewriter.proofs.InwardMeanings.{taken_alike}
 
 -- ADDRESSES
 
@@ -47,7 +48,10 @@ lows_stay r places new_places u id [] [] moves = refl
 lows_stay r places new_places u id [] (b ∷ news) moves = absurd moves
 lows_stay r places new_places u id (a ∷ olds) [] moves = absurd moves
 lows_stay r places new_places u id ((name, m) ∷ olds) ((other, value) ∷ news) (move, moves) =
-    ap (λ (z : ℕ). low_pcs ((z, value) ∷ news)) move.name ∙ ap (λ (z : Meaning). low_pcs ((name, z) ∷ news)) move.value ∙ low_here name move.number move.made m olds news (lows_stay r places new_places u id olds news moves)
+    ap (λ (z : ℕ). low_pcs ((z, value) ∷ news)) move.name
+    ∙ ap (λ (z : Meaning). low_pcs ((name, z) ∷ news)) move.value
+    ∙ low_here name move.number move.made move.taken olds news (lows_stay r places new_places u id olds news moves)
+    ∙ taken_alike (λ (z : Meaning). low_pcs ((name, z) ∷ olds)) (λ n k. refl) (unit_at r u).head m move.taken move.took
 
 -- THE BASE OF ADDRESSES
 

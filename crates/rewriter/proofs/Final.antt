@@ -36,7 +36,7 @@ named_is world u tables table_of i named inside old same_tables same_numbers is 
     let at : i ≡ slice_index world.table_of u = get_or_read world.table_of u i inside (subst (λ (z : List ℕ). i ≡ get_or z u i) same_numbers is) 0 in
     get_or_read world.tables (slice_index world.table_of u) named old (subst (λ (z : List NamedTable). named ≡ get_or z (slice_index world.table_of u) named) same_tables (subst (λ (j : ℕ). named ≡ get_or tables j named) at there)) (record { place = 0; table = record { decls = []; specs = []; end = 0 } })
 
-module _ (world : World) (u id column : ℕ) (own : HeadAndForest) (named : NamedTable) (entry : Entry) (known : EntryMeans world u id) (own_is : own ≡ unit_in world.units u) (named_is : named ≡ table_at world.tables (slice_index world.table_of u)) (entry_is : entry ≡ entry_at own.forest.entries id) where
+module _ (world : World) (u id column : ℕ) (own : HeadAndForest) (named : NamedTable) (entry : Entry) (written : HeadAndForest) (known : EntryMeans world written u id) (own_is : own ≡ unit_in world.units u) (named_is : named ≡ table_at world.tables (slice_index world.table_of u)) (entry_is : entry ≡ entry_at own.forest.entries id) where
   entry_there : entry ≡ entry_in world u id
   entry_there = entry_is ∙ ap (λ (h : HeadAndForest). entry_at h.forest.entries id) own_is
 
@@ -68,10 +68,10 @@ module _ (world : World) (u id column : ℕ) (own : HeadAndForest) (named : Name
         let within : column < decl.count = omega (arith, known.counted, below) in
         ap (λ (cs : List Spec). (spec_at cs column).name) columns_there ∙ ap (λ (c : Spec). c.name) (get_or-take decl.count (drop decl.first table.specs) column (spec_at [] 0) within ∙ get_or-drop decl.first table.specs column (spec_at [] 0))
 
-pub value_there : (world : World) (u id column : ℕ) (own : HeadAndForest) (entry : Entry) (values : List Value) → own ≡ unit_in world.units u → entry ≡ entry_at own.forest.entries id → values ≡ own.forest.values → value_at values (entry.first + column) ≡ value_in world u id column
-value_there world u id column own entry values own_is entry_is values_are =
+pub value_there : (world : World) (u id column : ℕ) (own : HeadAndForest) (entry : Entry) (written : HeadAndForest) (values : List Value) → own ≡ unit_in world.units u → entry ≡ entry_at own.forest.entries id → values ≡ written.forest.values → value_at values (entry.first + column) ≡ value_in world written u id column
+value_there world u id column own entry written values own_is entry_is values_are =
     let e : entry ≡ entry_in world u id = entry_is ∙ ap (λ (h : HeadAndForest). entry_at h.forest.entries id) own_is in
-    ap (λ (vs : List Value). value_at vs (entry.first + column)) (values_are ∙ ap (λ (h : HeadAndForest). h.forest.values) own_is) ∙ ap (λ (x : Entry). value_at (unit_in world.units u).forest.values (x.first + column)) e
+    ap (λ (vs : List Value). value_at vs (entry.first + column)) values_are ∙ ap (λ (x : Entry). value_at written.forest.values (x.first + column)) e
 
 -- A UNIT IS HELD AS IT IS READ
 
@@ -109,32 +109,24 @@ value_among info abbrevs unit is id number name meaning place h =
     (omega (arith, below, inside, numbered), ap (value_at unit.forest.values) numbered ∙ sym (value_same info abbrevs unit is id h.known (length h.earlier) below) ∙ here)
 
 -- the new numbers of values, where the unit and its table are given
-abbrev pub NumbersIn : Reading → List Places → NewPlaces → ℕ → List ℕ → HeadAndForest → Listing → Type 0
-NumbersIn r places new_places u held h t =
-    (id j : ℕ) → id < length h.forest.entries → j < (entry_at h.forest.entries id).count → IsNewNumber r.links places new_places u id (spec_at t.specs ((decl_at t.decls (entry_at h.forest.entries id).decl).first + j)).name (meant_in (unit_at r.links u).forest.section (value_at h.forest.values ((entry_at h.forest.entries id).first + j))) (slice_index held ((entry_at h.forest.entries id).first + j))
+abbrev pub NumbersIn : Reading → List Places → NewPlaces → ℕ → List ℕ → List Value → HeadAndForest → Listing → Type 0
+NumbersIn r places new_places u held values h t =
+    (id j : ℕ) → id < length h.forest.entries → j < (entry_at h.forest.entries id).count → IsNewNumber r.links places new_places u id (spec_at t.specs ((decl_at t.decls (entry_at h.forest.entries id).decl).first + j)).name (meant_in (unit_at r.links u).forest.section (value_at values ((entry_at h.forest.entries id).first + j))) (slice_index held ((entry_at h.forest.entries id).first + j))
 
--- an attribute is the one with its number among the columns
-module _ (r : Reading) (places : List Places) (new_places : NewPlaces) (u : ℕ) (held : List ℕ) (info abbrevs : List ℕ) (is : IsUnitRead info abbrevs (unit_at r.links u)) (numbers : NumbersIn r places new_places u held (head_and_forest (unit_at r.links u)) (unit_at r.links u).table) where
-  pub attribute_numbered : (id number name : ℕ) (meaning : Meaning) (place : ℕ) → HasValueAt (unit_at r.links u) id number name meaning place → IsNewNumber r.links places new_places u id name meaning (slice_index held number)
+-- an attribute is the one with its number among the columns, and its value, as it is written, has the new number
+module _ (r : Reading) (places : List Places) (new_places : NewPlaces) (u : ℕ) (held : List ℕ) (written : List Value) (info abbrevs : List ℕ) (is : IsUnitRead info abbrevs (unit_at r.links u)) (numbers : NumbersIn r places new_places u held written (head_and_forest (unit_at r.links u)) (unit_at r.links u).table) where
+  pub attribute_numbered : (id number name : ℕ) (meaning : Meaning) (place : ℕ) → HasValueAt (unit_at r.links u) id number name meaning place → IsNewNumber r.links places new_places u id name (meant_in (unit_at r.links u).forest.section (value_at written number)) (slice_index held number)
   attribute_numbered id number name meaning place h =
-      let e : Entry = entry_at (unit_at r.links u).forest.entries id in
-      let section : List ℕ = (unit_at r.links u).forest.section in
-      let values : List Value = (unit_at r.links u).forest.values in
-      let j : ℕ = length h.earlier in
       let size : length (values_of (unit_at r.links u) id) ≡ (entry_at (unit_at r.links u).forest.entries id).count = values_size info abbrevs (unit_at r.links u) is id h.known in
       let parts : length (values_of (unit_at r.links u) id) ≡ length h.earlier + length (h.value ∷ h.later) = ap length h.values ∙ length-append h.earlier (h.value ∷ h.later) in
       let below : length h.earlier < (entry_at (unit_at r.links u).forest.entries id).count = omega arith in
       let counted : length h.earlier ≡ length h.earlier_columns = values_counted (unit_at r.links u).forest.section h.earlier_columns h.earlier h.values_at place h.valued in
       let none : Spec = spec_at [] 0 in
       let column : spec_at (declaration_of (unit_at r.links u) id).columns (length h.earlier) ≡ h.column = ap (λ (cs : List Spec). spec_at cs (length h.earlier)) h.columns ∙ subst (λ (k : ℕ). spec_at (h.earlier_columns ++ h.column ∷ h.later_columns) k ≡ h.column) (sym counted) (get_or-append_seam h.earlier_columns h.column h.later_columns none) in
-      let here : value_at (values_of (unit_at r.links u) id) (length h.earlier) ≡ h.value = ap (λ (vs : List Value). value_at vs (length h.earlier)) h.values ∙ get_or-append_seam h.earlier h.value h.later (value.Addr 0) in
       let name_is : (spec_at (unit_at r.links u).table.specs ((decl_at (unit_at r.links u).table.decls (entry_at (unit_at r.links u).forest.entries id).decl).first + length h.earlier)).name ≡ name = ap (λ (c : Spec). c.name) (sym (column_same info abbrevs (unit_at r.links u) is id h.known (length h.earlier) below) ∙ column) ∙ sym h.named in
-      let value_is : value_at (unit_at r.links u).forest.values ((entry_at (unit_at r.links u).forest.entries id).first + length h.earlier) ≡ h.value = sym (value_same info abbrevs (unit_at r.links u) is id h.known (length h.earlier) below) ∙ here in
-      let meaning_is : meant_in (unit_at r.links u).forest.section (value_at (unit_at r.links u).forest.values ((entry_at (unit_at r.links u).forest.entries id).first + length h.earlier)) ≡ meaning = ap (meant_in (unit_at r.links u).forest.section) value_is ∙ sym h.meant in
       let raw = numbers id (length h.earlier) h.known below in
-      let a = subst (λ (n : ℕ). IsNewNumber r.links places new_places u id n (meant_in (unit_at r.links u).forest.section (value_at (unit_at r.links u).forest.values ((entry_at (unit_at r.links u).forest.entries id).first + length h.earlier))) (slice_index held ((entry_at (unit_at r.links u).forest.entries id).first + length h.earlier))) name_is raw in
-      let b = subst (λ (m : Meaning). IsNewNumber r.links places new_places u id name m (slice_index held ((entry_at (unit_at r.links u).forest.entries id).first + length h.earlier))) meaning_is a in
-      subst (λ (n : ℕ). IsNewNumber r.links places new_places u id name meaning (slice_index held n)) (sym h.numbered) b
+      let here = subst (λ (n : ℕ). IsNewNumber r.links places new_places u id n (meant_in (unit_at r.links u).forest.section (value_at written ((entry_at (unit_at r.links u).forest.entries id).first + length h.earlier))) (slice_index held ((entry_at (unit_at r.links u).forest.entries id).first + length h.earlier))) name_is raw in
+      subst (λ (n : ℕ). IsNewNumber r.links places new_places u id name (meant_in (unit_at r.links u).forest.section (value_at written n)) (slice_index held n)) (sym h.numbered) here
 
 pub type_moved : (file : List ℕ) (world : World) (r : Reading) (places : List Places) (u : ℕ) (own : HeadAndForest) (mine : Places) (new : ℕ) → Holds file world r → own ≡ unit_in world.units u → places_anew mine ≡ places_at places u → IsTypeMoved own (places_anew mine) new → IsNewType r.links (places_at places u) u new
 type_moved file world r places u own mine new holds own_is mine_is moved =

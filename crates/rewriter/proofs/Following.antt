@@ -25,6 +25,7 @@ use Rattle.rewriter.proofs.MovedPlaces.{entry_moves}
 use Rattle.rewriter.proofs.MovedEntries.{moved, entry_moved, entries_count, same_declared}
 use Rattle.rewriter.proofs.MovedAttributes.{IsMovedAttribute, says, attributes_moved}
 use Rattle.rewriter.proofs.ListMeanings.{value_follows}
+use Rattle.rewriter.proofs.TakenLaws.{links_taken}
 
 abbrev no_entry : Entry
 no_entry = record { at = 0; len = 0; depth = 0; decl = 0; first = 0; count = 0 }
@@ -39,7 +40,9 @@ module _ {file : List ℕ} {world : World} {tables : List NewTable} {places : Li
   attributes_mean u id inside known (a ∷ olds) [] ys moves means = absurd moves
   attributes_mean u id inside known (a ∷ olds) (b ∷ news) [] moves means = absurd means
   attributes_mean u id inside known (a ∷ olds) (b ∷ news) (y ∷ ys) (move, moves) (mean, means) =
-      let follows : Resolves s u id a.0 (renewed move.number move.made a.1) y.1 = value_follows all u id a.0 a.1 move.number move.made y.1 inside known move.numbered mean.value in
+      let links = links_taken file r u id a.0 a.1 move.taken mean.value.linked all.read inside move.took mean.value.links in
+      let taken : Resolves r u id a.0 move.taken y.1 = record { linked = mean.value.linked; links = links; resolves = mean.value.resolves } in
+      let follows : Resolves s u id a.0 (renewed move.number move.made move.taken) y.1 = value_follows all u id a.0 move.taken move.number move.made y.1 inside known move.numbered taken in
       let by_value : Resolves s u id a.0 b.1 y.1 = subst (λ (z : Meaning). Resolves s u id a.0 z y.1) (sym move.value) follows in
       (record { name = mean.name ∙ sym move.name; value = subst (λ (z : ℕ). Resolves s u id z b.1 y.1) (sym move.name) by_value }, attributes_mean u id inside known olds news ys moves means)
 

@@ -31,7 +31,7 @@ use Rattle.unit_write.specs.declared.slots.Spot.{Spot}
 use Rattle.unit_write.specs.NewExpressions.{made_of, refs_of, operations_anew, AreWrittenShortest}
 use Rattle.unit_write.specs.Values.{renewed}
 use Rattle.unit_write.specs.Moved.{NewValues, IsMovedEntry, AreMovedValues, IsPlacedAt, new_values}
-use Rattle.unit_write.specs.Slots.{spot_place, spot_at, list_spot, all_spots, IsSpotPlaced, IsListSlotFor, aims_anew, IsLaidOut, AreSpotNumbers}
+use Rattle.unit_write.specs.Slots.{spot_place, spot_at, list_spot, IsSpotPlaced, IsListSlotFor, aims_anew, IsLaidOut, AreSpotNumbers}
 use Rattle.value_links.specs.Sections.{debug_info, debug_abbrev}
 use Rattle.value_links.specs.Reading.{UnitRead, Reading, declarations, unit_at, IsUnitRead}
 use Rattle.value_links.specs.Layouts.{place_told, all_aims, list_expressions, AreOwnedLists, HasLayout, HasLeastLayout}
@@ -40,7 +40,8 @@ use Rattle.value_links.specs.World.{World, head_and_forest, table_at, operations
 use Rattle.rewriter.specs.declared.tables.NewTable.{NewTable}
 use Rattle.rewriter.specs.declared.new_places.NewPlaces.{NewPlaces}
 use Rattle.rewriter.specs.inside.Tables.{new_table_at}
-use Rattle.rewriter.specs.inside.Placed.{PlacesAnew, places_at, unit_in, IsPlacedBy, AreRanksOf}
+use Rattle.rewriter.specs.inside.Taken.{IsTakenFrom}
+use Rattle.rewriter.specs.inside.Placed.{PlacesAnew, places_at, written_in, IsPlacedBy, AreRanksOf}
 use Rattle.rewriter.specs.inside.Units.{IsUnitMoved}
 use Rattle.rewriter.specs.inside.Follows.{AreReadAnew}
 use Rattle.rewriter.proofs.Meant.{read_unit_at}
@@ -48,8 +49,10 @@ use Rattle.rewriter.proofs.NewExpressions.{expression_span}
 use Rattle.rewriter.proofs.WideExpressions.{was_expression}
 use Rattle.rewriter.proofs.MovedSlots.{AimMoves, zip_append, zip_at, zip_counts}
 use Rattle.rewriter.proofs.OwnedAnew.{owned_there, lists_made, lists_placed}
-use Rattle.rewriter.proofs.SpotNumbers.{aims_moved, read_numbers, entries_later, named_there}
-use Rattle.rewriter.proofs.Standing.{held_count, held_unit}
+use Rattle.rewriter.proofs.MovedEntries.{taken}
+use Rattle.rewriter.proofs.SpotNumbers.{aims_moved, read_numbers, entries_later, taken_read}
+use Rattle.rewriter.proofs.Standing.{held_count}
+use Rattle.rewriter.proofs.TakenLaws.{taken_shortest}
 
 -- VALUES THAT ARE RENEWED
 
@@ -77,8 +80,8 @@ record IsRanked (s : Reading) (u : ℕ) (ranks : List ℕ) : Type 0 where
 
 -- ONE UNIT
 
--- a unit that is written anew at its places, where its slots count to these
-module _ (s : Reading) (u : ℕ) (unit : HeadAndForest) (table : Listing) (columns : List Spec) (numbers : List ℕ) (held : HeldOps) (anew : NewValues) (op_numbers : List ℕ) (more : List Aim) (spots more_spots : List Spot) (lens ranks : List ℕ) (start : ℕ) (entries ends : List ℕ) (to : ℕ) (laid : IsLaidOut unit table columns numbers (operations_in unit.forest held) more (spots ++ more_spots) lens ranks) (placed : IsPlacedAt unit table columns numbers lens start entries ends to) (counted : AreSpotNumbers unit.forest held anew.held op_numbers spots start entries ends) (values : AreMovedValues unit.forest anew (unit_at s.links u).forest.section (listed_to (unit_at s.links u).forest 0)) (moved : AllZip (IsMovedEntry numbers) unit.forest.entries (unit_at s.links u).forest.entries) (begins : (unit_at s.links u).head.at ≡ start) (places : map (λ (e : Entry). e.at) (unit_at s.links u).forest.entries ≡ entries) (written : AreWrittenShortest unit.forest held anew.ends op_numbers anew.expressions) (went : PlacesAnew) (follow : (k : ℕ) → k ≤ length unit.forest.values → AllZip (AimMoves unit.forest went unit.head.at) (aims_before (meaning_at unit.forest) (operations_in unit.forest held) k) (aims_before (λ (n : ℕ). renewed (slice_index anew.held n) [] (meaning_at unit.forest n)) (operations_anew unit.forest held op_numbers) k)) (owned : List ℕ) (owns : AreOwnedLists s u owned) (lists : List (List Operation)) (lists_spelled : AllZip (IsExpression Wide) lists (list_expressions s owned)) (lists_go : AllZip (AimMoves unit.forest went unit.head.at) more (flat_map expression_aims lists)) (lists_placed : AllZip (IsSpotPlaced start entries ends) (flat_map expression_aims lists) more_spots) where
+-- a unit that is written anew at its places, where its slots count to these, and what was read for it
+module _ (s : Reading) (u : ℕ) (read unit : HeadAndForest) (table : Listing) (columns : List Spec) (numbers : List ℕ) (held : HeldOps) (anew : NewValues) (op_numbers : List ℕ) (more : List Aim) (spots more_spots : List Spot) (lens ranks : List ℕ) (start : ℕ) (entries ends : List ℕ) (to : ℕ) (laid : IsLaidOut unit table columns numbers (operations_in unit.forest held) more (spots ++ more_spots) lens ranks) (placed : IsPlacedAt unit table columns numbers lens start entries ends to) (counted : AreSpotNumbers unit.forest held anew.held op_numbers spots start entries ends) (values : AreMovedValues unit.forest anew (unit_at s.links u).forest.section (listed_to (unit_at s.links u).forest 0)) (moved : AllZip (IsMovedEntry numbers) unit.forest.entries (unit_at s.links u).forest.entries) (begins : (unit_at s.links u).head.at ≡ start) (places : map (λ (e : Entry). e.at) (unit_at s.links u).forest.entries ≡ entries) (written : AreWrittenShortest unit.forest held anew.ends op_numbers anew.expressions) (went : PlacesAnew) (follow : (k : ℕ) → k ≤ length unit.forest.values → AllZip (AimMoves read.forest went read.head.at) (aims_before (meaning_at unit.forest) (operations_in unit.forest held) k) (aims_before (λ (n : ℕ). renewed (slice_index anew.held n) [] (meaning_at unit.forest n)) (operations_anew unit.forest held op_numbers) k)) (owned : List ℕ) (owns : AreOwnedLists s u owned) (lists : List (List Operation)) (lists_spelled : AllZip (IsExpression Wide) lists (list_expressions s owned)) (lists_go : AllZip (AimMoves read.forest went read.head.at) more (flat_map expression_aims lists)) (lists_placed : AllZip (IsSpotPlaced start entries ends) (flat_map expression_aims lists) more_spots) where
   abbrev new : UnitRead
   new = unit_at s.links u
 
@@ -92,7 +95,7 @@ module _ (s : Reading) (u : ℕ) (unit : HeadAndForest) (table : Listing) (colum
   news k = aims_before (meaning_at new.forest) (operations_anew unit.forest held op_numbers) k
 
   abbrev Goes : Aim → Aim → Type 0
-  Goes = AimMoves unit.forest went unit.head.at
+  Goes = AimMoves read.forest went read.head.at
 
   -- the slots of the first values tell what they tell with the new numbers
   aims_are : (k : ℕ) → k ≤ length unit.forest.values → aims_before (meaning_at new.forest) (operations_anew unit.forest held op_numbers) k ≡ aims_before (λ (n : ℕ). renewed (slice_index anew.held n) [] (meaning_at unit.forest n)) (operations_anew unit.forest held op_numbers) k
@@ -214,7 +217,10 @@ module _ (s : Reading) (u : ℕ) (unit : HeadAndForest) (table : Listing) (colum
 module _ {file : List ℕ} {world : World} {tables : List NewTable} {places : List Places} {new_places : NewPlaces} {info abbrevs : List ℕ} {r s : Reading} (all : AreReadAnew file world tables places new_places info abbrevs r s) where
   unit_ranked : (u : ℕ) → u < length r.links.units → (p : IsPlacedBy world tables u (places_at places u)) → IsRanked s u p.ranks
   unit_ranked u inside p =
-      let same : unit_in world.units u ≡ head_and_forest (unit_at r.links u) = held_unit file world r u all.holds in
+      let old : HeadAndForest = head_and_forest (unit_at r.links u) in
+      let own : HeadAndForest = written_in world tables u in
+      let held_in : length world.units ≡ length r.links.units = held_count file world r all.holds in
+      let stands : IsTakenFrom old own = taken_read file world r tables u all.holds (taken all) (omega (arith, held_in, inside)) in
       let m : IsUnitMoved world r.links tables places new_places u (unit_at s.links u) = all.units.each u inside in
       let i : ℕ = slice_index world.table_of u in
       let held : HeldOps = operations_at world.operations u in
@@ -223,24 +229,25 @@ module _ {file : List ℕ} {world : World} {tables : List NewTable} {places : Li
       let lies = units_lie (debug_info file) (unit_at r.links u).head (declarations (unit_at r.links u)) (unit_at r.links u).forest is.section is.entries in
       let (ops, told, made) = lists_made all u later p.owned p.more p.owns p.told in
       let go = subst (λ (z : List Aim). AllZip (AimMoves (unit_at r.links u).forest (places_at places u) (unit_at r.links u).head.at) z (flat_map expression_aims made.now)) (sym told) made.go in
-      let listed = subst (λ (h : HeadAndForest). AllZip (IsListSlotFor h.forest h.head.at) p.more p.lists) same p.listed.each in
-      ranked_there s u (head_and_forest (unit_at r.links u)) (table_at world.tables i).table (new_table_at tables i).columns (new_table_at tables i).numbers held (new_values m.numbers) m.numbered.op_numbers p.more p.spots (map list_spot p.lists) p.lens p.ranks (places_at places u).start (places_at places u).entries (places_at places u).ends (places_at places u).end
-      (subst (λ (h : HeadAndForest). IsLaidOut h (table_at world.tables i).table (new_table_at tables i).columns (new_table_at tables i).numbers (operations_in h.forest held) p.more (all_spots p.spots p.lists) p.lens p.ranks) same p.laid_out)
-      (subst (λ (h : HeadAndForest). IsPlacedAt h (table_at world.tables i).table (new_table_at tables i).columns (new_table_at tables i).numbers p.lens (places_at places u).start (places_at places u).entries (places_at places u).ends (places_at places u).end) same p.placed)
-      (read_numbers (debug_info file) (debug_abbrev file) world r.links tables places new_places u m.numbers is m.numbered later p.spots (named_there file world r tables places u all.holds p))
+      let listed = subst (λ (h : HeadAndForest). AllZip (IsListSlotFor h.forest h.head.at) p.more p.lists) stands.same p.listed.each in
+      let entries = subst (λ (h : HeadAndForest). AllZip (IsMovedEntry (new_table_at tables i).numbers) h.forest.entries (unit_at s.links u).forest.entries) (sym stands.same) m.entries in
+      ranked_there s u old own (table_at world.tables i).table (new_table_at tables i).columns (new_table_at tables i).numbers held (new_values m.numbers) m.numbered.op_numbers p.more p.spots (map list_spot p.lists) p.lens p.ranks (places_at places u).start (places_at places u).entries (places_at places u).ends (places_at places u).end
+      p.laid_out
+      p.placed
+      (read_numbers (debug_info file) (debug_abbrev file) world r.links tables places new_places u m.numbers is stands m.numbered later p.spots p.named)
       m.values
-      m.entries
+      entries
       m.at
       m.entry_places
-      m.numbered.expressions
+      (taken_shortest old own stands held m.numbers.expressions.ends.items m.numbered.op_numbers m.numbers.expressions.bytes.items m.numbered.expressions)
       (places_at places u)
-      (aims_moved (debug_info file) (debug_abbrev file) world r.links tables places new_places u m.numbers is m.numbered later)
+      (aims_moved (debug_info file) (debug_abbrev file) world r.links tables places new_places u m.numbers is stands m.numbered later)
       p.owned
       (owned_there all u p.owned p.owns)
       made.now
       made.spelled
       go
-      (lists_placed (unit_at r.links u).forest lies.order (places_at places u) (unit_at r.links u).head.at p.more (flat_map expression_aims made.now) p.lists go listed)
+      (lists_placed (unit_at r.links u).forest lies.order own.forest.values (places_at places u) (unit_at r.links u).head.at p.more (flat_map expression_aims made.now) p.lists go listed)
 
   was_inside : (u : ℕ) → u < length s.links.units → u < length r.links.units
   was_inside u inside = subst (λ (z : ℕ). u < z) all.units.count inside

@@ -17,6 +17,7 @@ pub mod ColumnSpelled
 pub mod ColumnUnits
 pub mod ColumnWritable
 pub mod ColumnsChosen
+pub mod ColumnsSeen
 pub mod ContextsStay
 pub mod Counting
 pub mod DebugSizes
@@ -27,6 +28,8 @@ pub mod FoundPairs
 pub mod FrozenLists
 pub mod HeadsStay
 pub mod HeldExpressions
+pub mod InsideForms
+pub mod InwardMeanings
 pub mod LeastColumns
 pub mod LeastLayouts
 pub mod Links
@@ -82,6 +85,10 @@ pub mod Stand
 pub mod Standing
 pub mod TableSizes
 pub mod TableSteps
+pub mod TakenLaws
+pub mod TakenMeanings
+pub mod TakenUnits
+pub mod TakenValues
 pub mod TermSums
 pub mod Tidied
 pub mod UnitExpressions

@@ -20,6 +20,8 @@ use Rattle.rewriter.proofs.MovedLists.{IsLinkMoved, old_at, new_at, new_once, mo
 use Rattle.rewriter.proofs.MovedEntries.{entries_count}
 use Rattle.rewriter.proofs.MovedViews.{new_run, run_moves}
 use Rattle.rewriter.proofs.MovedLinks.{link_follows, link_came, views_came}
+use Rattle.rewriter.proofs.TakenLaws.{links_taken}
+use Rattle.rewriter.proofs.InwardMeanings.{taken_links}
 
 module _ {file : List ℕ} {world : World} {tables : List NewTable} {places : List Places} {new_places : NewPlaces} {info abbrevs : List ℕ} {r s : Reading} (all : AreReadAnew file world tables places new_places info abbrevs r s) where
   -- VALUES
@@ -31,7 +33,8 @@ module _ {file : List ℕ} {world : World} {tables : List NewTable} {places : Li
   pub value_links : (u number : ℕ) (linked : Linked) → u < length r.links.units → IsLinked r.links u number linked → (now : Linked) × IsLinkMoved new_places linked now × IsLinked s.links u number now
   value_links u number linked inside is =
       let (new, place, stands, moves) = value_went all u is.id number is.name is.meaning is.place inside is.stands in
-      let (now, follows, links) = link_follows all u is.id is.name is.meaning moves.held moves.made linked inside is.stands.known moves.numbered is.links in
+      let taken = links_taken file r u is.id is.name is.meaning moves.taken linked all.read inside moves.took is.links in
+      let (now, follows, links) = link_follows all u is.id is.name moves.taken moves.held moves.made linked inside is.stands.known moves.numbered taken in
       (now, follows, record { id = is.id; name = is.name; meaning = new; place = place; stands = stands; links = subst (λ (z : Meaning). Links s.links u is.id is.name z now) (sym moves.value) links })
 
   -- VIEW PAIRS
@@ -54,8 +57,8 @@ module _ {file : List ℕ} {world : World} {tables : List NewTable} {places : Li
       let inside : u < length r.links.units = unit_inside u now in
       let known : l.id < length (unit_at r.links u).forest.entries = subst (λ (z : ℕ). l.id < z) (sym (entries_count all u inside)) l.stands.known in
       let (old, was, stands, moves) = value_came all u l.id number l.name l.meaning l.place inside l.stands in
-      let links : Links s.links u l.id l.name (renewed moves.held moves.made old) (ViewsAt list at) = subst (λ (z : Meaning). Links s.links u l.id l.name z (ViewsAt list at)) moves.value l.links in
-      let (k, named) = views_came all u l.id l.name old moves.held moves.made list at inside known moves.numbered links in
+      let links : Links s.links u l.id l.name (renewed moves.held moves.made moves.taken) (ViewsAt list at) = subst (λ (z : Meaning). Links s.links u l.id l.name z (ViewsAt list at)) moves.value l.links in
+      let (k, named) = views_came all u l.id l.name moves.taken moves.held moves.made list at inside known moves.numbered links in
       (k, named.inside, named.with, named.here)
 
   -- contexts are kept
@@ -97,12 +100,13 @@ module _ {file : List ℕ} {world : World} {tables : List NewTable} {places : Li
       let known : u < length r.links.units = unit_inside all u is.known in
       let l = is.links in
       let (old, was, stands, moves) = value_came all u l.id is.number l.name l.meaning l.place known l.stands in
-      let links : Links s.links u l.id l.name (renewed moves.held moves.made old) is.linked = subst (λ (z : Meaning). Links s.links u l.id l.name z is.linked) moves.value l.links in
-      let named = link_came all kind u l.id l.name old moves.held moves.made is.linked at known moves.numbered links is.names in
+      let links : Links s.links u l.id l.name (renewed moves.held moves.made moves.taken) is.linked = subst (λ (z : Meaning). Links s.links u l.id l.name z is.linked) moves.value l.links in
+      let named = link_came all kind u l.id l.name moves.taken moves.held moves.made is.linked at known moves.numbered links is.names in
+      let old_links : Links r.links u l.id l.name old named.linked = taken_links r.links u l.id l.name old moves.taken named.linked known moves.took named.links in
       record {
         k = named.k;
         inside = named.inside;
-        from = record { known = known; number = is.number; linked = named.linked; links = record { id = l.id; name = l.name; meaning = old; place = was; stands = stands; links = named.links }; names = named.names };
+        from = record { known = known; number = is.number; linked = named.linked; links = record { id = l.id; name = l.name; meaning = old; place = was; stands = stands; links = old_links }; names = named.names };
         to = named.here;
       }
 

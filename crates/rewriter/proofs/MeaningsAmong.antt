@@ -11,15 +11,16 @@ use Rattle.form_codec.specs.Columns.{EntriesWithin}
 use Rattle.form_codec.specs.Values.{meant_in}
 use Rattle.entry_arena.specs.declared.entry.Entry.{Entry}
 use Rattle.entry_arena.specs.Arena.{entry_at, value_at}
+use Rattle.entry_read.specs.declared.head.UnitHead.{UnitHead}
 use Rattle.entry_read.specs.Units.{HeadAndForest}
-use Rattle.value_links.specs.Uses.{values_with, column_meanings}
+use Rattle.value_links.specs.Uses.{values_with, column_values}
 use Rattle.rewriter.specs.inside.Placed.{unit_in}
 
 -- LISTS
 
 module _ {X Y : Type 0} where
   -- an element's image is among the images
-  contains_map : (f : X → Y) (xs : List X) (x : X) → Contains xs x → Contains (map f xs) (f x)
+  pub contains_map : (f : X → Y) (xs : List X) (x : X) → Contains xs x → Contains (map f xs) (f x)
   contains_map f xs x (k, inside, same) =
       let size : length (map f xs) ≡ length xs = length-map xs f in
       (k, omega (arith, size, inside), get_or-map f xs k x (f x) inside ∙ ap f same)
@@ -47,30 +48,34 @@ module _ {X : Type 0} where
 
 -- COLUMNS
 
--- the value that an entry has in a column of its declaration is one of those of the column
-value_among : (unit : HeadAndForest) (id column : ℕ) → id < length unit.forest.entries → Contains (values_with (entry_at unit.forest.entries id).decl column unit) (value_at unit.forest.values ((entry_at unit.forest.entries id).first + column))
-value_among unit id column known =
+-- the value that an entry has in a column of its declaration is one of those of the column in its unit
+value_with : (unit : HeadAndForest) (id j : ℕ) → id < length unit.forest.entries → Contains (values_with (entry_at unit.forest.entries id).decl j unit) (value_at unit.forest.values ((entry_at unit.forest.entries id).first + j))
+value_with unit id j known =
     let none : Entry = entry_at [] 0 in
     let e : Entry = entry_at unit.forest.entries id in
     let has : Entry → Bool = λ (x : Entry). eqb x.decl e.decl in
     let kept : Contains (filter has unit.forest.entries) e = contains_filter has unit.forest.entries id none known (eq-eqb e.decl e.decl refl) in
-    contains_map (λ (x : Entry). value_at unit.forest.values (x.first + column)) (filter has unit.forest.entries) e kept
+    contains_map (λ (x : Entry). value_at unit.forest.values (x.first + j)) (filter has unit.forest.entries) e kept
 
--- the meanings of a column that come from one unit
-abbrev meanings_of : ℕ → ℕ → ℕ → HeadAndForest → List Meaning
-meanings_of place number column unit = cond (eqb unit.head.table place) (map (meant_in unit.forest.section) (values_with number column unit)) []
+-- what a value of a unit means, with the header of the unit
+abbrev headed : HeadAndForest → Value → UnitHead × Meaning
+headed unit v = (unit.head, meant_in unit.forest.section v)
 
--- What a value of an entry means is one of the meanings of its column.
-pub meaning_among : (units : List HeadAndForest) (u id column : ℕ) → u < length units → id < length (unit_in units u).forest.entries → Contains (column_meanings units (unit_in units u).head.table (entry_at (unit_in units u).forest.entries id).decl column) (meant_in (unit_in units u).forest.section (value_at (unit_in units u).forest.values ((entry_at (unit_in units u).forest.entries id).first + column)))
-meaning_among units u id column inside known =
+-- the values of a column that come from one unit
+abbrev values_of : ℕ → ℕ → ℕ → HeadAndForest → List (UnitHead × Meaning)
+values_of place number j unit = cond (eqb unit.head.table place) (map (headed unit) (values_with number j unit)) []
+
+-- What a value of an entry means is one of the values of its column.
+pub value_among : (units : List HeadAndForest) (u id j : ℕ) → u < length units → id < length (unit_in units u).forest.entries → Contains (column_values units (unit_in units u).head.table (entry_at (unit_in units u).forest.entries id).decl j) ((unit_in units u).head, meant_in (unit_in units u).forest.section (value_at (unit_in units u).forest.values ((entry_at (unit_in units u).forest.entries id).first + j)))
+value_among units u id j inside known =
     let unit : HeadAndForest = unit_in units u in
     let number : ℕ = (entry_at unit.forest.entries id).decl in
-    let v : Value = value_at unit.forest.values ((entry_at unit.forest.entries id).first + column) in
-    let all : List Meaning = map (meant_in unit.forest.section) (values_with number column unit) in
-    let own : Contains all (meant_in unit.forest.section v) = contains_map (meant_in unit.forest.section) (values_with number column unit) v (value_among unit id column known) in
-    let is : meanings_of unit.head.table number column unit ≡ all = cond-true {A = List Meaning} (eqb unit.head.table unit.head.table) all [] (eq-eqb unit.head.table unit.head.table refl) in
-    let here : Contains (meanings_of unit.head.table number column unit) (meant_in unit.forest.section v) = subst (λ (z : List Meaning). Contains z (meant_in unit.forest.section v)) (sym is) own in
-    contains_flat_map (meanings_of unit.head.table number column) units u (unit_in [] 0) (meant_in unit.forest.section v) inside here
+    let v : Value = value_at unit.forest.values ((entry_at unit.forest.entries id).first + j) in
+    let all : List (UnitHead × Meaning) = map (headed unit) (values_with number j unit) in
+    let own : Contains all (headed unit v) = contains_map (headed unit) (values_with number j unit) v (value_with unit id j known) in
+    let is : values_of unit.head.table number j unit ≡ all = cond-true {A = List (UnitHead × Meaning)} (eqb unit.head.table unit.head.table) all [] (eq-eqb unit.head.table unit.head.table refl) in
+    let here : Contains (values_of unit.head.table number j unit) (headed unit v) = subst (λ (z : List (UnitHead × Meaning)). Contains z (headed unit v)) (sym is) own in
+    contains_flat_map (values_of unit.head.table number j) units u (unit_in [] 0) (headed unit v) inside here
 
 within_at : (code : ℕ) (constant : ℤ) (meanings : List Meaning) (n k : ℕ) (d : Meaning) → EntriesWithin code constant meanings n → k < length meanings → (bytes : List ℕ) × SpellsValue code constant (get_or meanings k d) bytes
 within_at code constant [] n k d within inside = absurd (omega arith)

@@ -1,5 +1,5 @@
 -- Each value of a unit of a valid file means something, and a type unit has its type.
-use Rattle.std.proofs.Common.{◌≡◌, ◌≤◌, ◌<◌, ◌+◌, ◌-◌, ℕ, zero, suc, List, [], ◌∷◌, length, get_or, take, drop, ◌∙◌, sym, ap, subst, arith}
+use Rattle.std.proofs.Common.{◌≡◌, ◌≤◌, ◌<◌, ◌+◌, ◌-◌, inl, inr, ℕ, zero, suc, List, [], ◌∷◌, length, get_or, take, drop, ◌∙◌, sym, ap, subst, arith}
 use Rattle.std.specs.Prelude.{slice_index_or, Option, Some, None}
 use Rattle.std.specs.List.{All, AllZip}
 use Rattle.std.proofs.lemmas.List.{get_or_default, length-map, length-drop, length-take-le, get_or-take, get_or-drop}
@@ -7,6 +7,7 @@ use Rattle.std.proofs.lemmas.List.Elements.{All-get_or}
 use Rattle.std.proofs.Math.ListN.{get_or-map}
 use Rattle.dw_base.specs.declared.fault.Reach.{Reach}
 use Rattle.form_codec.specs.declared.value.Value.{Value}
+use Rattle.form_codec.specs.declared.value.Value.TheVariants as value
 use Rattle.form_codec.specs.Forms.{Meaning}
 use Rattle.form_codec.specs.Values.{meant_in}
 use Rattle.abbrev_tables.specs.declared.decl.Spec.{Spec}
@@ -19,11 +20,14 @@ use Rattle.entry_arena.specs.Trees.{declared_at, listed_to}
 use Rattle.entry_arena.proofs.StandingLaws.{entries_stand}
 use Rattle.entry_arena.proofs.TreeLaws.{trees_are_walks}
 use Rattle.entry_arena.proofs.SpellingLaws.{attributes_count, attribute_at}
+use Rattle.entry_read.specs.declared.head.UnitHead.{UnitHead}
 use Rattle.entry_read.specs.Heads.{type_unit}
+use Rattle.entry_read.specs.Slots.{meaning_at}
 use Rattle.entry_read.specs.Units.{HeadAndForest, entries_at, IsTable}
 use Rattle.entry_read.specs.Places.{HaveOwners}
 use Rattle.entry_read.proofs.Declarations.{columns_inside, count_same, declared_is}
 use Rattle.entry_read.proofs.OwnerLaws.{values_belong}
+use Rattle.unit_write.specs.Taken.{StandsFor}
 use Rattle.value_links.specs.Sections.{debug_info, debug_abbrev}
 use Rattle.list_model.specs.declared.entry.ListKind.{ListKind}
 use Rattle.value_links.specs.Reading.{UnitRead, ListRead, ViewRead, Reading, lists_of, no_unit, declarations, unit_at, list_at, view_at, IsUnitRead}
@@ -35,10 +39,13 @@ use Rattle.value_links.specs.Debug.{EntryMeaning, UnitMeaning, described, MeansA
 use Rattle.value_links.specs.World.{World, head_and_forest, IsWorldOf}
 use Rattle.value_links.specs.declared.units.NamedTable.{NamedTable}
 use Rattle.value_links.proofs.LinkedOnce.{linked_once}
-use Rattle.rewriter.specs.inside.Placed.{unit_in}
+use Rattle.rewriter.specs.declared.tables.NewTable.{NewTable}
+use Rattle.rewriter.specs.inside.Taken.{IsTakenFrom, MeansFor}
+use Rattle.rewriter.specs.inside.Placed.{unit_in, written_in, AreTaken}
 use Rattle.rewriter.specs.inside.Held.{FitsOffset, MeansSomething, table_for, HaveAllValues, UnitMeans, HasType}
 use Rattle.rewriter.proofs.OffsetSizes.{offsets_fit}
 use Rattle.rewriter.proofs.Standing.{filled, held_unit, held_count}
+use Rattle.rewriter.proofs.TakenLaws.{taken_count, taken_value_at, taken_means, taken_all_values, links_taken}
 
 -- AN ENTRY'S ATTRIBUTES
 
@@ -168,16 +175,31 @@ means_it : (file : List ℕ) (r : Reading) (u id name : ℕ) (meaning : Meaning)
 means_it file r u id name meaning v linked read inside means links =
     subst (λ (z : Linked). ResolvesLink r z v) (linked_once file r.links u id name meaning means.linked linked read.links inside means.links links) means.resolves
 
+-- what is written for a value means the same
+resolves_taken : (file : List ℕ) (r : Reading) (u id name : ℕ) (old new : Meaning) (v : Resolved) → IsReading file r → u < length r.links.units → MeansFor (unit_at r.links u).head old new → Resolves r u id name old v → Resolves r u id name new v
+resolves_taken file r u id name old new v read inside same means =
+    record { linked = means.linked; links = links_taken file r u id name old new means.linked read inside same means.links; resolves = means.resolves }
+
+-- and is an offset only where the value is one
+taken_fits : (head : UnitHead) (v w : Value) → StandsFor head v w → FitsOffset v → FitsOffset w
+taken_fits head (value.SectionRef n) w (inl same) fits = subst FitsOffset (sym same) tt
+taken_fits head (value.SectionRef n) w (inr (m, place, few, same)) fits = subst FitsOffset (sym same) tt
+taken_fits head v w same fits = subst FitsOffset (sym same) fits
+
 -- THE WORLD
 
--- what is said of an entry, of a unit and a table that are given
-record EntryIn (world : World) (u id : ℕ) (h : HeadAndForest) (t : Listing) : Type 0 where
+-- what is written of a unit is taken from what was read
+pub taken_is : (world : World) (tables : List NewTable) (u : ℕ) (own : HeadAndForest) → AreTaken world tables → u < length world.units → own ≡ written_in world tables u → IsTakenFrom (unit_in world.units u) own
+taken_is world tables u own taken known own_is = subst (IsTakenFrom (unit_in world.units u)) (sym own_is) (taken u known)
+
+-- what is said of an entry, of a unit and a table that are given, and of the unit as it is written
+record EntryIn (world : World) (u id : ℕ) (h : HeadAndForest) (t : Listing) (own : HeadAndForest) : Type 0 where
   pub entry : id < length h.forest.entries
   pub declared : (entry_at h.forest.entries id).decl < length t.decls
   pub counted : (entry_at h.forest.entries id).count ≡ (decl_at t.decls (entry_at h.forest.entries id).decl).count
   pub columns : (decl_at t.decls (entry_at h.forest.entries id).decl).first + (entry_at h.forest.entries id).count ≤ length t.specs
-  pub values : (entry_at h.forest.entries id).first + (entry_at h.forest.entries id).count ≤ length h.forest.values
-  pub means : (column : ℕ) → column < (entry_at h.forest.entries id).count → MeansSomething world u id (spec_at t.specs ((decl_at t.decls (entry_at h.forest.entries id).decl).first + column)).name (value_at h.forest.values ((entry_at h.forest.entries id).first + column))
+  pub values : (entry_at h.forest.entries id).first + (entry_at h.forest.entries id).count ≤ length own.forest.values
+  pub means : (column : ℕ) → column < (entry_at h.forest.entries id).count → MeansSomething world u id (spec_at t.specs ((decl_at t.decls (entry_at h.forest.entries id).decl).first + column)).name (value_at own.forest.values ((entry_at h.forest.entries id).first + column))
 
 module _ (world : World) (u : ℕ) (reach : Reach) (is : IsWorldOf world.image reach world) (known : u < length world.units) where
   inside_read : u < length is.r.links.units
@@ -198,40 +220,63 @@ module _ (world : World) (u : ℕ) (reach : Reach) (is : IsWorldOf world.image r
       let inside : u < length is.r.links.units = inside_read in
       is.means.units.each u (record { unit_type = 0; signature = 0; type_entry = None; forest = [] }) (omega arith)
 
-  entry_read : (id : ℕ) → id < length (unit_at is.r.links u).forest.entries → EntryIn world u id (head_and_forest (unit_at is.r.links u)) (unit_at is.r.links u).table
-  entry_read id inside = record {
-    entry = inside;
-    declared = entry_declared (debug_info world.image) (debug_abbrev world.image) (unit_at is.r.links u) unit_is id inside;
-    counted = counted (debug_info world.image) (debug_abbrev world.image) (unit_at is.r.links u) unit_is id inside;
-    columns = columns_within (debug_info world.image) (debug_abbrev world.image) (unit_at is.r.links u) unit_is id inside;
-    values = (owners (debug_info world.image) (debug_abbrev world.image) (unit_at is.r.links u) unit_is).inside id inside;
-    means = λ column below.
-        let m = attribute_means (debug_info world.image) (debug_abbrev world.image) is.r u id column (slice_index_or is.debug.units u (record { unit_type = 0; signature = 0; type_entry = None; forest = [] })) unit_is means_unit inside below in
-        record { file = world.image; r = is.r; holds = is.holds; linked = m.1.linked; links = m.1.links; listed = λ kind n links. list_read is.r kind n m.0 (means_it world.image is.r u id _ _ m.0 (ListAt kind n) is.read inside_read m.1 links); viewed = λ list n links. views_read is.r list n m.0 (means_it world.image is.r u id _ _ m.0 (ViewsAt list n) is.read inside_read m.1 links); fits = offset_fits (debug_info world.image) (debug_abbrev world.image) (unit_at is.r.links u) unit_is id inside column below };
-  }
+  module _ (own : HeadAndForest) (taken : IsTakenFrom (unit_in world.units u) own) where
+    taken_read : IsTakenFrom (head_and_forest (unit_at is.r.links u)) own
+    taken_read = subst (λ (h : HeadAndForest). IsTakenFrom h own) unit_held taken
 
-  pub unit_means : UnitMeans world u
-  unit_means = record {
-    known = known;
-    values = subst (λ (h : HeadAndForest). HaveAllValues h.forest) (sym unit_held) (all_values (debug_info world.image) (debug_abbrev world.image) (unit_at is.r.links u) unit_is);
-    entries = λ id inside.
-        let within : id < length (unit_at is.r.links u).forest.entries = subst (λ (h : HeadAndForest). id < length h.forest.entries) unit_held inside in
-        let e : EntryIn world u id (unit_in world.units u) (table_for world u) = subst (λ (h : HeadAndForest). EntryIn world u id h (table_for world u)) (sym unit_held) (subst (EntryIn world u id (head_and_forest (unit_at is.r.links u))) (sym table_held) (entry_read id within)) in
-        let size : length world.units ≡ length is.r.links.units = held_count world.image world is.r is.holds in
-        let count : length world.table_of ≡ length is.r.links.units = is.holds.tables.count in
-        let there : u < length is.r.links.units = inside_read in
+    entry_read : (id : ℕ) → id < length (unit_at is.r.links u).forest.entries → EntryIn world u id (head_and_forest (unit_at is.r.links u)) (unit_at is.r.links u).table own
+    entry_read id inside =
+        let old : HeadAndForest = head_and_forest (unit_at is.r.links u) in
+        let e : Entry = entry_at (unit_at is.r.links u).forest.entries id in
+        let within : e.first + e.count ≤ length (unit_at is.r.links u).forest.values = (owners (debug_info world.image) (debug_abbrev world.image) (unit_at is.r.links u) unit_is).inside id inside in
+        let section : own.forest.section ≡ (unit_at is.r.links u).forest.section = ap (λ (h : HeadAndForest). h.forest.section) taken_read.same in
         record {
-          unit = known;
-          numbered = omega arith;
-          table = is.holds.tables.inside u there;
           entry = inside;
-          declared = e.declared;
-          counted = e.counted;
-          columns = e.columns;
-          values = e.values;
-          means = e.means;
-        };
-  }
+          declared = entry_declared (debug_info world.image) (debug_abbrev world.image) (unit_at is.r.links u) unit_is id inside;
+          counted = counted (debug_info world.image) (debug_abbrev world.image) (unit_at is.r.links u) unit_is id inside;
+          columns = columns_within (debug_info world.image) (debug_abbrev world.image) (unit_at is.r.links u) unit_is id inside;
+          values = omega (arith, within, taken_count old own taken_read);
+          means = λ column below.
+              let known : e.first + column < length (unit_at is.r.links u).forest.values = omega (arith, within, below) in
+              let (resolved, read) = attribute_means (debug_info world.image) (debug_abbrev world.image) is.r u id column (slice_index_or is.debug.units u (record { unit_type = 0; signature = 0; type_entry = None; forest = [] })) unit_is means_unit inside below in
+              let same : MeansFor (unit_at is.r.links u).head (meaning_at (unit_at is.r.links u).forest (e.first + column)) (meant_in (unit_at is.r.links u).forest.section (value_at own.forest.values (e.first + column))) = subst (λ (z : List ℕ). MeansFor (unit_at is.r.links u).head (meaning_at (unit_at is.r.links u).forest (e.first + column)) (meant_in z (value_at own.forest.values (e.first + column)))) section (taken_means old own taken_read (e.first + column) known) in
+              let m = resolves_taken world.image is.r u id _ _ _ resolved is.read inside_read same read in
+              record {
+                file = world.image;
+                r = is.r;
+                holds = is.holds;
+                linked = m.linked;
+                links = m.links;
+                listed = λ kind n links. list_read is.r kind n resolved (means_it world.image is.r u id _ _ resolved (ListAt kind n) is.read inside_read m links);
+                viewed = λ list n links. views_read is.r list n resolved (means_it world.image is.r u id _ _ resolved (ViewsAt list n) is.read inside_read m links);
+                fits = taken_fits (unit_at is.r.links u).head _ _ (taken_value_at old own taken_read (e.first + column) known) (offset_fits (debug_info world.image) (debug_abbrev world.image) (unit_at is.r.links u) unit_is id inside column below);
+              };
+        }
+
+    -- so all values of the unit do, as it is written
+    pub unit_means : UnitMeans world own u
+    unit_means = record {
+      known = known;
+      values = taken_all_values (unit_in world.units u) own taken (subst (λ (h : HeadAndForest). HaveAllValues h.forest) (sym unit_held) (all_values (debug_info world.image) (debug_abbrev world.image) (unit_at is.r.links u) unit_is));
+      same = ap (λ (h : HeadAndForest). h.forest.entries) taken.same;
+      entries = λ id inside.
+          let within : id < length (unit_at is.r.links u).forest.entries = subst (λ (h : HeadAndForest). id < length h.forest.entries) unit_held inside in
+          let e : EntryIn world u id (unit_in world.units u) (table_for world u) own = subst (λ (h : HeadAndForest). EntryIn world u id h (table_for world u) own) (sym unit_held) (subst (λ (t : Listing). EntryIn world u id (head_and_forest (unit_at is.r.links u)) t own) (sym table_held) (entry_read id within)) in
+          let size : length world.units ≡ length is.r.links.units = held_count world.image world is.r is.holds in
+          let count : length world.table_of ≡ length is.r.links.units = is.holds.tables.count in
+          let there : u < length is.r.links.units = inside_read in
+          record {
+            unit = known;
+            numbered = omega arith;
+            table = is.holds.tables.inside u there;
+            entry = inside;
+            declared = e.declared;
+            counted = e.counted;
+            columns = e.columns;
+            values = e.values;
+            means = e.means;
+          };
+    }
 
   type_there : (type : Option ℕ) → MeansType is.r.links u type → (unit_at is.r.links u).head.kind ≡ type_unit → (id : ℕ) × IsEntryAt (unit_at is.r.links u).forest id ((unit_at is.r.links u).head.at + (unit_at is.r.links u).head.type_at)
   type_there (Some id) means kind = (id, means.1)

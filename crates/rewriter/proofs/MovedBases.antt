@@ -21,12 +21,14 @@ use Rattle.value_links.specs.World.{World}
 use Rattle.value_links.proofs.Bases.{IsBase, is_base, split_first, behind, none_first, one_base}
 use Rattle.rewriter.specs.declared.tables.NewTable.{NewTable}
 use Rattle.rewriter.specs.declared.new_places.NewPlaces.{NewPlaces}
+use Rattle.rewriter.specs.inside.Taken.{MeansFor}
 use Rattle.rewriter.specs.inside.NewPlaces.{IsNewOffset}
 use Rattle.rewriter.specs.inside.Numbers.{IsNewNumber, IsNewValue}
 use Rattle.rewriter.specs.inside.Follows.{AreReadAnew}
 use Rattle.rewriter.proofs.Meant.{all_values}
 use Rattle.rewriter.proofs.MovedAttributes.{IsMovedAttribute, attributes_moved}
 use Rattle.rewriter.proofs.MovedLists.{number_once}
+use Rattle.rewriter.proofs.InwardMeanings.{was_taken}
 use Rattle.rewriter.proofs.UsedDeclarations.{unit_is}
 
 -- FIRST BASES
@@ -94,22 +96,23 @@ module _ (r : Linkable) (places : List Places) (new_places : NewPlaces) (u id na
   are_bases a b move = record { to = to; from = from }
     where
       -- the old one is this base, and so is the new one
-      both : (n : ℕ) → a.0 ≡ name → a.1 ≡ SectionPlace n → BaseMoves n move.number × (b ≡ (name, SectionPlace move.number))
+      both : (n : ℕ) → a.0 ≡ name → move.taken ≡ SectionPlace n → BaseMoves n move.number × (b ≡ (name, SectionPlace move.number))
       both n named meant =
-          let numbered : IsNewValue r places new_places u id name a.1 move.number move.made = subst (λ (z : ℕ). IsNewValue r places new_places u id z a.1 move.number move.made) named move.numbered in
+          let numbered : IsNewValue r places new_places u id name move.taken move.number move.made = subst (λ (z : ℕ). IsNewValue r places new_places u id z move.taken move.number move.made) named move.numbered in
           (subst (λ (z : Meaning). IsNewValue r places new_places u id name z move.number move.made) meant numbered, pair_is b name (SectionPlace move.number) (move.name ∙ named) (move.value ∙ ap (renewed move.number move.made) meant))
 
       to : (n : ℕ) → a ≡ (name, SectionPlace n) → (m : ℕ) × BaseMoves n m × (b ≡ (name, SectionPlace m))
       to n e =
-          let (moves, is) = both n (ap (λ (z : ℕ × Meaning). z.0) e) (ap (λ (z : ℕ × Meaning). z.1) e) in
+          let (moves, is) = both n (ap (λ (z : ℕ × Meaning). z.0) e) (subst (λ (z : ℕ × Meaning). MeansFor (unit_at r u).head z.1 move.taken) e move.took) in
           (move.number, moves, is)
 
       from : (m : ℕ) → b ≡ (name, SectionPlace m) → (n : ℕ) × BaseMoves n m × (a ≡ (name, SectionPlace n))
       from m e =
           let named : a.0 ≡ name = sym move.name ∙ ap (λ (z : ℕ × Meaning). z.0) e in
-          let (n, meant, number) = was_place move.number move.made m a.1 (sym move.value ∙ ap (λ (z : ℕ × Meaning). z.1) e) in
+          let (n, meant, number) = was_place move.number move.made m move.taken (sym move.value ∙ ap (λ (z : ℕ × Meaning). z.1) e) in
           let (moves, is) = both n named meant in
-          (n, subst (BaseMoves n) number moves, pair_is a name (SectionPlace n) named meant)
+          let was : a.1 ≡ SectionPlace n = was_taken (unit_at r u).head a.1 (SectionPlace n) (subst (MeansFor (unit_at r u).head a.1) meant move.took) (λ k same. absurd (cc (same))) in
+          (n, subst (BaseMoves n) number moves, pair_is a name (SectionPlace n) named was)
 
   pub all_bases : (olds news : List (ℕ × Meaning)) → AllZip (IsMovedAttribute r places new_places u id) olds news → AllZip (AreBases name BaseMoves) olds news
   all_bases [] [] moves = tt

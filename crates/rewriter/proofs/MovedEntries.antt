@@ -1,5 +1,5 @@
 -- Entries that are written anew: each has its declaration, and as many values that mean the same but for their new numbers and the new
--- bytes of expressions.
+-- bytes of expressions, where some references are taken as ones within their unit.
 use Rattle.std.proofs.Common.{◌≡◌, ◌≢◌, ◌≤◌, ◌<◌, ◌+◌, ◌-◌, ◌∙◌, ◌++◌, ℕ, List, ◌∷◌, length, take, drop, sym, ap, subst, refl, arith}
 use Rattle.std.specs.Prelude.{slice_index}
 use Rattle.std.proofs.lemmas.List.Elements.{AllZip-get_or, length_all_zip}
@@ -14,6 +14,8 @@ use Rattle.entry_arena.specs.declared.entry.Entry.{Entry}
 use Rattle.entry_arena.specs.Arena.{value_at}
 use Rattle.entry_arena.specs.Trees.{ValuesBetween, declared_at}
 use Rattle.entry_arena.specs.Standing.{StandsAs}
+use Rattle.entry_read.specs.Slots.{meaning_at}
+use Rattle.entry_read.specs.Units.{HeadAndForest}
 use Rattle.entry_read.proofs.PlaceLaws.{entry_stands}
 use Rattle.entry_read.proofs.Declarations.{declared_is}
 use Rattle.unit_write.specs.declared.places.Places.{Places}
@@ -29,11 +31,16 @@ use Rattle.value_links.specs.World.{World, named_by}
 use Rattle.rewriter.specs.declared.tables.NewTable.{NewTable}
 use Rattle.rewriter.specs.declared.new_places.NewPlaces.{NewPlaces}
 use Rattle.rewriter.specs.inside.Tables.{TableAnew, new_table_at}
+use Rattle.rewriter.specs.inside.Taken.{MeansFor}
+use Rattle.rewriter.specs.inside.Placed.{unit_in, written_in, AreTaken}
 use Rattle.rewriter.specs.inside.Units.{IsUnitMoved}
 use Rattle.rewriter.specs.inside.Follows.{AreReadAnew}
+use Rattle.rewriter.proofs.ChosenColumns.{chosen_columns_are_taken}
 use Rattle.rewriter.proofs.ColumnLaws.{AreNamedAlike, columns_named}
 use Rattle.rewriter.proofs.UsedDeclarations.{table_written, decl_known, decl_used, unit_is}
 use Rattle.rewriter.proofs.MovedValues.{value_here, as_many}
+use Rattle.rewriter.proofs.Standing.{held_count, held_unit}
+use Rattle.rewriter.proofs.TakenLaws.{taken_count, value_taken}
 
 abbrev no_entry : Entry
 no_entry = record { at = 0; len = 0; depth = 0; decl = 0; first = 0; count = 0 }
@@ -122,12 +129,34 @@ module _ {file : List ℕ} {world : World} {tables : List NewTable} {places : Li
       let e = entry_moved u id inside known in
       ap (λ (z : ℕ). take z (drop (entry_of (unit_at s.links u) id).first (unit_at s.links u).forest.values)) e.count ∙ ap (λ (z : ℕ). take (entry_of (unit_at r.links u) id).count (drop z (unit_at s.links u).forest.values)) e.first
 
-  -- each means the old one, renewed
-  pub values_mean : (u id : ℕ) (inside : u < length r.links.units) (k : ℕ) → k < length (values_of (unit_at r.links u) id) → meant_in (unit_at s.links u).forest.section (value_at (new_values u id) k) ≡ renewed_by (moved u inside).numbers ((entry_of (unit_at r.links u) id).first + k) (meant_in (unit_at r.links u).forest.section (value_at (values_of (unit_at r.links u) id) k))
+  -- VALUES
+
+  -- the values as they are written stand for those that were read
+  pub taken : AreTaken world tables
+  taken = chosen_columns_are_taken file world r abbrevs tables all.read all.holds all.tables_written
+
+  -- what is written for a value with a number among those of a unit
+  abbrev pub taken_meaning : ℕ → ℕ → Meaning
+  taken_meaning u number = meaning_at (written_in world tables u).forest number
+
+  pub means_taken : (u id number name : ℕ) (meaning : Meaning) (place : ℕ) → u < length r.links.units → HasValueAt (unit_at r.links u) id number name meaning place → MeansFor (unit_at r.links u).head meaning (meaning_at (written_in world tables u).forest number)
+  means_taken u id number name meaning place inside stands = value_taken file world r tables u id number name meaning place all.read all.holds taken inside stands
+
+  -- there are as many values
+  pub written_count : (u : ℕ) → u < length r.links.units → length (written_in world tables u).forest.values ≡ length (unit_at r.links u).forest.values
+  written_count u inside =
+      let held : length world.units ≡ length r.links.units = held_count file world r all.holds in
+      taken_count (unit_in world.units u) (written_in world tables u) (taken u (omega (arith, held, inside))) ∙ ap (λ (h : HeadAndForest). length h.forest.values) (held_unit file world r u all.holds)
+
+  pub as_many_values : (u : ℕ) → u < length r.links.units → length (unit_at s.links u).forest.values ≡ length (unit_at r.links u).forest.values
+  as_many_values u inside = (moved u inside).values.count ∙ written_count u inside
+
+  -- each means what is written for the old one, renewed
+  pub values_mean : (u id : ℕ) (inside : u < length r.links.units) (k : ℕ) → k < length (values_of (unit_at r.links u) id) → meant_in (unit_at s.links u).forest.section (value_at (new_values u id) k) ≡ renewed_by (moved u inside).numbers ((entry_of (unit_at r.links u) id).first + k) (taken_meaning u ((entry_of (unit_at r.links u) id).first + k))
   values_mean u id inside k k_in =
       let m = moved u inside in
       let e : Entry = entry_of (unit_at r.links u) id in
-      let size : length (new_values u id) ≡ length (values_of (unit_at r.links u) id) = as_many (unit_at r.links u).forest.values (unit_at s.links u).forest.values e.first e.count m.values.count in
-      let (old, old_in) = value_here (unit_at r.links u).forest.values e.first e.count k k_in in
-      let (new, new_in) = value_here (unit_at s.links u).forest.values e.first e.count k (subst (λ (z : ℕ). k < z) (sym size) k_in) in
-      ap (λ (z : Value). meant_in (unit_at s.links u).forest.section z) new ∙ m.values.each (e.first + k) old_in ∙ ap (λ (z : Value). renewed_by m.numbers (e.first + k) (meant_in (unit_at r.links u).forest.section z)) (sym old)
+      let size : length (new_values u id) ≡ length (values_of (unit_at r.links u) id) = as_many (unit_at r.links u).forest.values (unit_at s.links u).forest.values e.first e.count (as_many_values u inside) in
+      let (_, old_in) = value_here (unit_at r.links u).forest.values e.first e.count k k_in in
+      let (new, _) = value_here (unit_at s.links u).forest.values e.first e.count k (subst (λ (z : ℕ). k < z) (sym size) k_in) in
+      ap (λ (z : Value). meant_in (unit_at s.links u).forest.section z) new ∙ m.values.each (e.first + k) (subst (λ (z : ℕ). e.first + k < z) (sym (written_count u inside)) old_in)

@@ -70,19 +70,18 @@ split_at section (c ∷ cs) (v ∷ vs) from to (suc k) (next, spelled, placed, v
 
 -- The attributes of an entry, one by one, where each value that stands among columns is in a relation to what it means now:
 -- `moved` tells that by the value's number among those of the entry.
-module _ (Moves : ℕ × Meaning → ℕ × Meaning → Type 0) (old new : List ℕ) (columns : List Spec) (values : List Value) (values_at : ℕ) (moved : ℕ → Meaning → Meaning) (each : (before : List Spec) (c : Spec) (after : List Spec) (evs : List Value) (v : Value) (more : List Value) (place : ℕ) → columns ≡ before ++ c ∷ after → values ≡ evs ++ v ∷ more → ValuesBetween old before evs values_at place → Moves (c.name, meant_in old v) (c.name, moved (length evs) (meant_in old v))) where
-  pub attributes_move : (earlier cs : List Spec) (evs vs ws : List Value) (n from to : ℕ) → columns ≡ earlier ++ cs → values ≡ evs ++ vs → length evs ≡ n → ValuesBetween old earlier evs values_at from → ValuesBetween old cs vs from to → length ws ≡ length vs → ((k : ℕ) → k < length vs → meant_in new (value_at ws k) ≡ moved (n + k) (meant_in old (value_at vs k))) → AllZip Moves (attributes_of old cs vs) (attributes_of new cs ws)
+module _ (Moves : ℕ × Meaning → ℕ × Meaning → Type 0) (old new : List ℕ) (columns : List Spec) (values : List Value) (values_at : ℕ) (moved : ℕ → Meaning) (each : (before : List Spec) (c : Spec) (after : List Spec) (evs : List Value) (v : Value) (more : List Value) (place : ℕ) → columns ≡ before ++ c ∷ after → values ≡ evs ++ v ∷ more → ValuesBetween old before evs values_at place → Moves (c.name, meant_in old v) (c.name, moved (length evs))) where
+  pub attributes_move : (earlier cs : List Spec) (evs vs ws : List Value) (n from to : ℕ) → columns ≡ earlier ++ cs → values ≡ evs ++ vs → length evs ≡ n → ValuesBetween old earlier evs values_at from → ValuesBetween old cs vs from to → length ws ≡ length vs → ((k : ℕ) → k < length vs → meant_in new (value_at ws k) ≡ moved (n + k)) → AllZip Moves (attributes_of old cs vs) (attributes_of new cs ws)
   attributes_move earlier [] evs [] [] n from to is_columns is_values count prior valued size means = tt
   attributes_move earlier [] evs [] (w ∷ ws) n from to is_columns is_values count prior valued size means = absurd (omega arith)
   attributes_move earlier [] evs (v ∷ vs) ws n from to is_columns is_values count prior valued size means = absurd valued
   attributes_move earlier (c ∷ cs) evs [] ws n from to is_columns is_values count prior valued size means = absurd valued
   attributes_move earlier (c ∷ cs) evs (v ∷ vs) [] n from to is_columns is_values count prior valued size means = absurd (omega arith)
   attributes_move earlier (c ∷ cs) evs (v ∷ vs) (w ∷ ws) n from to is_columns is_values count prior (next, spelled, placed, valued) size means =
-      let moves : Moves (c.name, meant_in old v) (c.name, moved (length evs) (meant_in old v)) = each earlier c cs evs v vs from is_columns is_values prior in
-      let here : moved (length evs) (meant_in old v) ≡ meant_in new w = ap (λ (z : ℕ). moved z (meant_in old v)) (omega (arith, count)) ∙ sym (means 0 (omega arith)) in
+      let moves : Moves (c.name, meant_in old v) (c.name, moved (length evs)) = each earlier c cs evs v vs from is_columns is_values prior in
+      let here : moved (length evs) ≡ meant_in new w = ap moved (omega (arith, count)) ∙ sym (means 0 (omega arith)) in
       let first : Moves (c.name, meant_in old v) (c.name, meant_in new w) = subst (λ (z : Meaning). Moves (c.name, meant_in old v) (c.name, z)) here moves in
-      let later : (k : ℕ) → k < length vs → meant_in new (value_at ws k) ≡ moved (suc n + k) (meant_in old (value_at vs k)) =
-      λ k inside. means (suc k) (omega arith) ∙ ap (λ (z : ℕ). moved z (meant_in old (value_at vs k))) (omega arith) in
+      let later : (k : ℕ) → k < length vs → meant_in new (value_at ws k) ≡ moved (suc n + k) = λ k inside. means (suc k) (omega arith) ∙ ap moved (omega arith) in
       let longer : length (evs ++ v ∷ []) ≡ suc n = length_push evs v ∙ ap suc count in
       (first, attributes_move (earlier ++ c ∷ []) cs (evs ++ v ∷ []) vs ws (suc n) next to (is_columns ∙ sym (append_assoc earlier (c ∷ []) cs)) (is_values ∙ sym (append_assoc evs (v ∷ []) vs)) longer (values_push old earlier evs c v values_at from next prior spelled placed) valued (omega arith) later)
     where

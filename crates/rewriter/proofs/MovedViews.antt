@@ -1,10 +1,11 @@
 -- Where the view pairs of a file stand that is written anew, and with which lists they go.
-use Rattle.std.proofs.Common.{◌≡◌, ◌<◌, ◌∙◌, ◌++◌, inl, inr, Bool, true, false, ℕ, List, [], ◌∷◌, length, sym, ap, subst, refl, arith}
+use Rattle.std.proofs.Common.{◌≡◌, ◌<◌, ◌∙◌, ◌++◌, inl, inr, true≢false, Bool, true, false, ℕ, List, [], ◌∷◌, length, sym, ap, subst, refl, arith}
 use Rattle.std.specs.Prelude.{filter, slice_index, if◌then◌else◌}
 use Rattle.std.specs.List.{AllZip}
 use Rattle.std.proofs.lemmas.Bool.{cases_lt, eqb-true}
 use Rattle.form_codec.specs.Forms.{Meaning}
 use Rattle.form_codec.specs.Forms.Meaning.{Expression, InUnit, InSection, SectionPlace, LocationList}
+use Rattle.entry_read.specs.declared.head.UnitHead.{UnitHead}
 use Rattle.list_model.specs.declared.entry.ListKind.TheVariants.{Locations}
 use Rattle.unit_write.specs.declared.places.Places.{Places}
 use Rattle.unit_write.specs.Values.{renewed}
@@ -20,12 +21,14 @@ use Rattle.value_links.proofs.LinkedOnce.{base_once}
 use Rattle.value_links.proofs.Passing.{first_once}
 use Rattle.rewriter.specs.declared.tables.NewTable.{NewTable}
 use Rattle.rewriter.specs.declared.new_places.NewPlaces.{NewPlaces}
+use Rattle.rewriter.specs.inside.Taken.{MeansFor}
 use Rattle.rewriter.specs.inside.NewPlaces.{moved_lists, IsMovedTo, AreViewsMoved, IsNewOffset}
 use Rattle.rewriter.specs.inside.Numbers.{IsNewNumber, IsNewValue}
 use Rattle.rewriter.specs.inside.Follows.{AreReadAnew}
 use Rattle.rewriter.proofs.MovedAttributes.{IsMovedAttribute, says, attributes_moved}
 use Rattle.rewriter.proofs.MovedBases.{base_stays, base_came}
 use Rattle.rewriter.proofs.MovedLists.{IsLinkMoved, old_at, new_at, moved_list, list_moves, old_once, slot_stays, slot_named, begins_anew}
+use Rattle.rewriter.proofs.InwardMeanings.{taken_alike}
 
 -- THE FIRST OF SOME ATTRIBUTES
 
@@ -75,7 +78,16 @@ located_same name number made meaning = refl
 
 located_moves : (r : Linkable) (places : List Places) (new_places : NewPlaces) (u id : ℕ) (a b : ℕ × Meaning) → IsMovedAttribute r places new_places u id a b → is_located b ≡ is_located a
 located_moves r places new_places u id (name, meaning) (other, value) move =
-    ap (λ (z : ℕ). is_located (z, value)) move.name ∙ ap (λ (z : Meaning). is_located (name, z)) move.value ∙ located_same name move.number move.made meaning
+    ap (λ (z : ℕ). is_located (z, value)) move.name
+    ∙ ap (λ (z : Meaning). is_located (name, z)) move.value
+    ∙ located_same name move.number move.made move.taken
+    ∙ taken_alike (λ (z : Meaning). is_located (name, z)) (λ n m. refl) (unit_at r u).head meaning move.taken move.took
+
+-- a located value is taken as it is
+located_kept : (head : UnitHead) (name : ℕ) (meaning taken : Meaning) → MeansFor head meaning taken → is_located (name, meaning) ≡ true → taken ≡ meaning
+located_kept head name (SectionPlace n) taken took located = took
+located_kept head name (LocationList i) taken took located = took
+located_kept head name meaning taken took located = absurd (true≢false (sym located))
 
 -- the section offset of a DW_AT_location names a location list
 location_links : (r : Linkable) (u id n : ℕ) (linked : Linked) → Links r u id location (SectionPlace n) linked → IsListAt r Locations n × (linked ≡ ListAt Locations n)
@@ -129,6 +141,7 @@ module _ {file : List ℕ} {world : World} {tables : List NewTable} {places : Li
   tells_move u id name number made (Expression bytes) list inside located is tells = absurd tells
   tells_move u id name number made meaning list inside located is tells = absurd tells
 
+  -- a located value is taken as it is
   -- The first located attribute of an entry told the place of a list, and tells the new one and no other.
   pub record LocatedMoves (u id list : ℕ) : Type 0 where
     pub k : ℕ
@@ -142,18 +155,21 @@ module _ {file : List ℕ} {world : World} {tables : List NewTable} {places : Li
       let news : List (ℕ × Meaning) = (says s.links u (entry_of (unit_at s.links u) id)).attributes in
       let zip : AllZip (IsMovedAttribute r.links places new_places u id) (h.before ++ h.attribute ∷ h.after) news = subst (λ (z : List (ℕ × Meaning)). AllZip (IsMovedAttribute r.links places new_places u id) z news) h.parts (attributes_moved all u id inside known) in
       let p = around (IsMovedAttribute r.links places new_places u id) is_located (located_moves r.links places new_places u id) h.before h.after h.attribute news zip in
-      let m = tells_move u id h.attribute.0 p.moves.number p.moves.made h.attribute.1 list inside h.located p.moves.numbered h.tells in
+      let kept : p.moves.taken ≡ h.attribute.1 = located_kept (unit_at r.links u).head h.attribute.0 h.attribute.1 p.moves.taken p.moves.took h.located in
+      let value : p.b.1 ≡ renewed p.moves.number p.moves.made h.attribute.1 = p.moves.value ∙ ap (renewed p.moves.number p.moves.made) kept in
+      let numbered = subst (λ (z : Meaning). IsNewValue r.links places new_places u id h.attribute.0 z p.moves.number p.moves.made) kept p.moves.numbered in
+      let m = tells_move u id h.attribute.0 p.moves.number p.moves.made h.attribute.1 list inside h.located numbered h.tells in
       let located : is_located p.b ≡ true = located_moves r.links places new_places u id h.attribute p.b p.moves ∙ h.located in
       let none : filter is_located p.front ≡ [] = p.none h.first in
       record {
         k = m.k;
         inside = m.inside;
         from = m.from;
-        to = record { before = p.front; attribute = p.b; after = p.rest; parts = p.parts; first = none; located = located; tells = subst (λ (z : Meaning). TellsPlace s.links u z (new_at all Locations m.k)) (sym p.moves.value) m.to };
+        to = record { before = p.front; attribute = p.b; after = p.rest; parts = p.parts; first = none; located = located; tells = subst (λ (z : Meaning). TellsPlace s.links u z (new_at all Locations m.k)) (sym value) m.to };
         once = λ other g.
             let same : g.attribute ≡ p.b = (first_once is_located g.before g.attribute g.after p.front p.b p.rest (sym g.parts ∙ p.parts) g.first none g.located located).1 in
             let told : TellsPlace s.links u p.b.1 other = subst (λ (z : ℕ × Meaning). TellsPlace s.links u z.1 other) same g.tells in
-            m.once other (subst (λ (z : Meaning). TellsPlace s.links u z other) p.moves.value told);
+            m.once other (subst (λ (z : Meaning). TellsPlace s.links u z other) value told);
       }
 
   -- VIEW PAIRS

@@ -2,7 +2,7 @@
 use Rattle.std.proofs.Common.{◌≡◌, ◌≤◌, ◌<◌, ◌+◌, ◌^◌, ℕ, zero, suc, List, [], ◌∷◌, ◌++◌, length, Bool, true, false, ◌∙◌, sym, ap, refl, subst, arith, inl, inr}
 use Rattle.std.specs.Prelude.{◌⊎◌, Some, Result, Ok, Err, OnOk, nat_eq, if◌then◌else◌}
 use Rattle.std.specs.List.{All, AllZip}
-use Rattle.std.proofs.lemmas.Bool.{cases_eq, ne_eqb}
+use Rattle.std.proofs.lemmas.Bool.{cases_eq, cases_lt, ne_eqb}
 use Rattle.std.proofs.lemmas.List.{append-nil}
 use Rattle.std.proofs.lemmas.List.Elements.{All-from_get_or}
 use Rattle.dw_base.specs.declared.fault.NoMemory.{NoMemory}
@@ -14,7 +14,7 @@ use Rattle.expr_ops.specs.Ops.{meant, all_meant}
 use Rattle.expr_ops.specs.Drafts.{is_slot, is_typed, is_generic, op_at}
 use Rattle.expr_ops.specs.Names.{named_by}
 use Rattle.expr_ops.specs.Slots.{Aim, slot_form, op_aim, expression_aims}
-use Rattle.expr_ops.specs.Slots.Aim.{Place}
+use Rattle.expr_ops.specs.Slots.Aim.{Place, Length}
 use Rattle.expr_ops.proofs.NextRefs.{typed_cases}
 use Rattle.expr_ops.proofs.Reaches.{narrow_wide}
 use Rattle.form_codec.specs.declared.value.Value.{Value}
@@ -25,6 +25,7 @@ use Rattle.entry_arena.specs.declared.entry.ChainEnd.{ChainEnd}
 use Rattle.entry_arena.specs.Arena.{Arena, chain_end_at, entry_at, IsEntryAt}
 use Rattle.entry_arena.specs.Operations.{HeldOps, ops_of}
 use Rattle.entry_arena.specs.Order.{IsInOrder}
+use Rattle.entry_read.specs.declared.head.UnitHead.{UnitHead}
 use Rattle.entry_read.specs.Expressions.{IsExprAt}
 use Rattle.entry_read.specs.Slots.{value_aims, aims_before, meaning_at, expression_bytes}
 use Rattle.entry_read.specs.Units.{HeadAndForest}
@@ -38,11 +39,14 @@ use Rattle.value_links.specs.Links.{IsOpLinkOf, IsOpLinkFound}
 use Rattle.value_links.specs.Operations.{OpTarget, NamesUnitEntry, Names}
 use Rattle.value_links.specs.Reading.{Linkable, Reading, unit_at}
 use Rattle.value_links.specs.World.{World, operations_at, head_and_forest, Holds, IsWorldOf}
+use Rattle.rewriter.specs.inside.Taken.{IsTakenFrom}
 use Rattle.rewriter.specs.inside.Placed.{unit_in, operations_for}
 use Rattle.rewriter.specs.inside.Held.{MeansSomething, EntryMeans, entry_in, name_in, value_in, HaveAllValues, OperationNames, AddsSpots, AreSpotsUpTo}
 use Rattle.rewriter.proofs.SlotFronts.{AreOfFront, AreOfExpression}
 use Rattle.rewriter.proofs.NamedOperations.{operation_named, reference_still}
 use Rattle.rewriter.proofs.Standing.{held_unit}
+use Rattle.rewriter.proofs.TakenLaws.{read_expr, taken_spot_at}
+use Rattle.rewriter.proofs.Zips.{zip_weaker}
 
 -- THE NUMBERS OF CODES 0
 
@@ -59,6 +63,16 @@ end_fits f number order short inside =
     let at : number ≤ (chain_end_at f.ends number).at = climb f.ends order.ended.rising number inside in
     let below = order.ended.inside number inside in
     omega (arith, at, below, short)
+
+-- so there are no more than bytes
+pub ends_few : (f : Arena) → IsInOrder f → length f.ends ≤ length f.section
+ends_few f order = elim (cases_lt (length f.section) (length f.ends)) [
+  | inl more ↦
+      let at = climb f.ends order.ended.rising (length f.section) more in
+      let below = order.ended.inside (length f.section) more in
+      absurd (omega (arith, at, below))
+  | inr few ↦ few
+]
 
 -- THE SLOT OF AN OPERATION
 
@@ -172,6 +186,25 @@ module _ (unit : HeadAndForest) (ops : ℕ → List Operation) where
     all = λ last. subst (AreSpotsUpTo unit ops spots) (values.last id last) up;
   }
 
+-- A UNIT AS IT IS WRITTEN
+
+module _ (old new : HeadAndForest) (taken : IsTakenFrom old new) where
+  -- what stands in the unit that was read stands there
+  pub spot_taken : (spot : Spot) (n : ℕ) → IsSpotAt old.forest spot (old.head.at + n) → IsSpotAt new.forest spot (new.head.at + n)
+  spot_taken spot n is =
+      subst (λ (h : UnitHead). IsSpotAt new.forest spot (h.at + n)) (sym (ap (λ (h : HeadAndForest). h.head) taken.same)) (taken_spot_at old new taken spot (old.head.at + n) is)
+
+  spot_for_taken : (aim : Aim) (spot : Spot) → IsSpotFor old.forest old.head.at aim spot → IsSpotFor new.forest new.head.at aim spot
+  spot_for_taken (Place form n) spot is = spot_taken spot n is
+  spot_for_taken (Length fixed count) spot is = tt
+
+  spots_taken : (aims : List Aim) (before after : List Spot) → AddsSpots old aims before after → AddsSpots new aims before after
+  spots_taken aims before after adds = record {
+    spots = adds.spots;
+    behind = adds.behind;
+    are = zip_weaker (IsSpotFor old.forest old.head.at) (IsSpotFor new.forest new.head.at) spot_for_taken aims adds.spots adds.are;
+  }
+
 -- AN EXPRESSION OF A WORLD
 
 -- each operation names what it may
@@ -185,7 +218,7 @@ operations_name world u id name number span is known m stands =
     let (target, names) = operation_named m.r.links u (bytes_in (unit_at m.r.links u).forest.section span) (ops_of (operations_at world.operations u) number) spelled (m.links.0, m.links.1) k inside in
     (target, reference_still m.file file world m.r r m.holds holds u (named_by op.code) op.code op.a target names))
 
-module _ (world : World) (u id column : ℕ) (is : IsWorldOf world.image Narrow world) (known : EntryMeans world u id) (below : column < (entry_in world u id).count) (span : Span) (value_is : value_in world u id column ≡ value.Expr span) (held : HeldOps) (held_is : held ≡ operations_at world.operations u) (first : ℕ) (first_is : first ≡ (entry_in world u id).first) (ops : List Op) (ops_are : ops ≡ ops_of held (first + column)) where
+module _ (world : World) (own : HeadAndForest) (u id column : ℕ) (is : IsWorldOf world.image Narrow world) (taken : IsTakenFrom (unit_in world.units u) own) (known : EntryMeans world own u id) (below : column < (entry_in world u id).count) (span : Span) (value_is : value_in world own u id column ≡ value.Expr span) (held : HeldOps) (held_is : held ≡ operations_at world.operations u) (first : ℕ) (first_is : first ≡ (entry_in world u id).first) (ops : List Op) (ops_are : ops ≡ ops_of held (first + column)) where
   abbrev number : ℕ
   number = (entry_in world u id).first + column
 
@@ -194,18 +227,18 @@ module _ (world : World) (u id column : ℕ) (is : IsWorldOf world.image Narrow 
 
   pub expression_names : All (OperationNames world u) ops
   expression_names =
-      let values : (entry_in world u id).first + (entry_in world u id).count ≤ length (unit_in world.units u).forest.values = known.values in
-      let stands : IsExprAt (unit_in world.units u).forest number span = record { inside = omega (arith, values, below); is = value_is } in
+      let values : (entry_in world u id).first + (entry_in world u id).count ≤ length own.forest.values = known.values in
+      let stands : IsExprAt (unit_in world.units u).forest number span = read_expr (unit_in world.units u) own taken number span (record { inside = omega (arith, values, below); is = value_is }) in
       let means = subst (MeansSomething world u id (name_in world u id column)) value_is (known.means column below) in
       subst (All (OperationNames world u)) (sym ops_there) (operations_name world u id (name_in world u id column) number span is known.unit means stands)
 
-  pub spots_expression : (old new : List Spot) → ((bytes : List ℕ) → AddsSpots (unit_in world.units u) (expression_aims (all_meant bytes ops)) old new) → AreSpotsUpTo (unit_in world.units u) (operations_for world u) old number → AreSpotsUpTo (unit_in world.units u) (operations_for world u) new (number + 1)
+  pub spots_expression : (old new : List Spot) → ((bytes : List ℕ) → AddsSpots (unit_in world.units u) (expression_aims (all_meant bytes ops)) old new) → AreSpotsUpTo own (operations_for world own u) old number → AreSpotsUpTo own (operations_for world own u) new (number + 1)
   spots_expression old new adds up =
-      let f : Arena = (unit_in world.units u).forest in
+      let f : Arena = own.forest in
       let bytes : List ℕ = expression_bytes (meaning_at f number) in
-      let aims = ap (λ (v : Value). value_aims (meant_in f.section v) (operations_for world u number)) value_is in
-      spots_more (unit_in world.units u) (operations_for world u) old new number (expression_aims (all_meant bytes ops)) (aims ∙ ap (λ (os : List Op). expression_aims (all_meant bytes os)) (sym ops_there)) (adds bytes) up
+      let aims = ap (λ (v : Value). value_aims (meant_in f.section v) (operations_for world own u number)) value_is in
+      spots_more own (operations_for world own u) old new number (expression_aims (all_meant bytes ops)) (aims ∙ ap (λ (os : List Op). expression_aims (all_meant bytes os)) (sym ops_there)) (spots_taken (unit_in world.units u) own taken (expression_aims (all_meant bytes ops)) old new (adds bytes)) up
 
-  pub expression_added : (old new : List Spot) (r : Result (Unit {0}) NoMemory) → OnOk r ((bytes : List ℕ) → AddsSpots (unit_in world.units u) (expression_aims (all_meant bytes ops)) old new) → AreSpotsUpTo (unit_in world.units u) (operations_for world u) old number → OnOk r (AreSpotsUpTo (unit_in world.units u) (operations_for world u) new (number + 1))
+  pub expression_added : (old new : List Spot) (r : Result (Unit {0}) NoMemory) → OnOk r ((bytes : List ℕ) → AddsSpots (unit_in world.units u) (expression_aims (all_meant bytes ops)) old new) → AreSpotsUpTo own (operations_for world own u) old number → OnOk r (AreSpotsUpTo own (operations_for world own u) new (number + 1))
   expression_added old new (Ok x) adds up = spots_expression old new adds up
   expression_added old new (Err e) adds up = tt

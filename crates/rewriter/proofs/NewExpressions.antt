@@ -18,23 +18,25 @@ use Rattle.form_codec.specs.Values.{bytes_in, meant_in}
 use Rattle.entry_arena.specs.Arena.{entry_at, value_at}
 use Rattle.entry_arena.specs.Operations.{HeldOps, range_of, for_value, ops_of}
 use Rattle.entry_read.specs.Expressions.{IsExprAt, HasOperations}
+use Rattle.entry_read.specs.Slots.{meaning_at}
 use Rattle.entry_read.specs.Units.{HeadAndForest}
 use Rattle.unit_write.specs.declared.places.Places.{Places}
 use Rattle.unit_write.specs.declared.write.NewNumbers.{NewNumbers}
 use Rattle.unit_write.specs.NewExpressions.{made_of, AreEndsFor, AreWrittenShortest}
 use Rattle.value_links.specs.Sections.{debug_info, debug_abbrev}
 use Rattle.value_links.specs.Reading.{Linkable, Reading, unit_at}
-use Rattle.value_links.specs.Values.{HasValueAt}
 use Rattle.value_links.specs.Operations.{OpTarget, Names}
 use Rattle.value_links.specs.World.{World, operations_at, head_and_forest, Holds, IsWorldOf}
 use Rattle.rewriter.specs.declared.tables.NewTable.{NewTable}
 use Rattle.rewriter.specs.declared.new_places.NewPlaces.{NewPlaces}
 use Rattle.rewriter.specs.inside.Tables.{new_table_at}
-use Rattle.rewriter.specs.inside.Placed.{PlacesAnew, places_anew, places_at, unit_in}
+use Rattle.rewriter.specs.inside.Taken.{IsTakenFrom}
+use Rattle.rewriter.specs.inside.Placed.{PlacesAnew, places_anew, places_at, unit_in, written_in}
 use Rattle.rewriter.specs.inside.Numbers.{IsNewNumber, AreNewReferences, IsNewExpression, IsNewValue, AreNewNumbers}
 use Rattle.rewriter.specs.inside.Held.{MeansSomething, table_for, entry_in, name_in, value_in, AreNumbered, IsReferenceOf, AreOperationsNumbered, IsTypeMoved}
 use Rattle.rewriter.proofs.NamedOperations.{operation_named, reference_still}
 use Rattle.rewriter.proofs.Standing.{held_unit, held_count}
+use Rattle.rewriter.proofs.TakenLaws.{taken_count, read_expr, taken_expr}
 use Rattle.rewriter.proofs.Meant.{owners, unit_means}
 use Rattle.rewriter.proofs.Final.{NumbersIn, value_among, attribute_numbered, type_moved, table_known, unit_reads}
 
@@ -93,7 +95,7 @@ number_within : (n first count : ℕ) → first ≤ n → n < first + count → 
 number_within n first count from to = (n - first, omega (arith, from), omega (arith, from, to))
 
 -- an expression is the value of an attribute that means something
-module _ (world : World) (u : ℕ) (is : IsWorldOf world.image Narrow world) (known : u < length world.units) (number : ℕ) (span : Span) (stands : IsExprAt (unit_in world.units u).forest number span) where
+module _ (world : World) (u : ℕ) (written : HeadAndForest) (is : IsWorldOf world.image Narrow world) (known : u < length world.units) (taken : IsTakenFrom (unit_in world.units u) written) (number : ℕ) (span : Span) (stands : IsExprAt (unit_in world.units u).forest number span) where
   expression_means : (id : ℕ) × (name : ℕ) × MeansSomething world u id name (value.Expr span)
   expression_means =
       let same : unit_in world.units u ≡ head_and_forest (unit_at is.r.links u) = held_unit world.image world is.r u is.holds in
@@ -104,17 +106,17 @@ module _ (world : World) (u : ℕ) (is : IsWorldOf world.image Narrow world) (kn
       let first : (entry_in world u id).first ≤ number = subst (λ (h : HeadAndForest). (entry_at h.forest.entries id).first ≤ number) (sym same) from in
       let last : number < (entry_in world u id).first + (entry_in world u id).count = subst (λ (h : HeadAndForest). number < (entry_at h.forest.entries id).first + (entry_at h.forest.entries id).count) (sym same) to in
       let (j, at, below) = number_within number (entry_in world u id).first (entry_in world u id).count first last in
-      let value_is : value_in world u id j ≡ value.Expr span = ap (value_at (unit_in world.units u).forest.values) at ∙ stands.is in
-      (id, name_in world u id j, subst (MeansSomething world u id (name_in world u id j)) value_is (((unit_means world u Narrow is known).entries id there).means j below))
+      let value_is : value_in world written u id j ≡ value.Expr span = ap (value_at written.forest.values) at ∙ (taken_expr (unit_in world.units u) written taken number span stands).is in
+      (id, name_in world u id j, subst (MeansSomething world u id (name_in world u id j)) value_is (((unit_means world u Narrow is known written taken).entries id there).means j below))
 
-module _ (file : List ℕ) (world : World) (r : Reading) (places : List Places) (u : ℕ) (own : HeadAndForest) (operations : HeldOps) (is : IsWorldOf world.image Narrow world) (holds : Holds file world r) (known : u < length world.units) (own_is : own ≡ unit_in world.units u) (operations_are : operations ≡ operations_at world.operations u) (numbers ends expressions : List ℕ) (numbered : AreOperationsNumbered world places u numbers) where
+module _ (file : List ℕ) (world : World) (r : Reading) (places : List Places) (u : ℕ) (own : HeadAndForest) (operations : HeldOps) (written : HeadAndForest) (is : IsWorldOf world.image Narrow world) (holds : Holds file world r) (known : u < length world.units) (own_is : own ≡ unit_in world.units u) (operations_are : operations ≡ operations_at world.operations u) (taken : IsTakenFrom (unit_in world.units u) written) (numbers ends expressions : List ℕ) (numbered : AreOperationsNumbered world places u numbers) where
   held_there : unit_in world.units u ≡ head_and_forest (unit_at r.links u)
   held_there = held_unit file world r u holds
 
   -- the operations of an expression have their new references
   own_references : (number : ℕ) (span : Span) → IsExprAt (unit_in world.units u).forest number span → AreNewReferences r.links places u (ops_of (operations_at world.operations u) number) (for_value (operations_at world.operations u) numbers number)
   own_references number span stands =
-      let (id, name, means) = expression_means world u is known number span stands in
+      let (id, name, means) = expression_means world u written is known taken number span stands in
       let narrow = (is.operations.each u (unit_in [] 0) known).spelled number span stands in
       let wide = narrow_wide _ _ narrow in
       let read : IsExpression Wide (all_meant (bytes_in (unit_at r.links u).forest.section span) (ops_of (operations_at world.operations u) number)) (bytes_in (unit_at r.links u).forest.section span) = subst (λ (h : HeadAndForest). IsExpression Wide (all_meant (bytes_in h.forest.section span) (ops_of (operations_at world.operations u) number)) (bytes_in h.forest.section span)) held_there wide in
@@ -155,35 +157,51 @@ value_renewed : (r : Linkable) (places : List Places) (new_places : NewPlaces) (
 value_renewed r places new_places u id name (Expression bytes) new made number expression = expression bytes refl
 value_renewed r places new_places u id name meaning new made number expression = number
 
-module _ (file : List ℕ) (world : World) (r : Reading) (tables : List NewTable) (places : List Places) (new_places : NewPlaces) (u : ℕ) (own : HeadAndForest) (mine : Places) (new : NewNumbers) (is : IsWorldOf world.image Narrow world) (holds : Holds file world r) (known : u < length world.units) where
-  numbers_there : AreNumbered world places new_places u new.held.items → NumbersIn r places new_places u new.held.items (head_and_forest (unit_at r.links u)) (unit_at r.links u).table
+module _ (file : List ℕ) (world : World) (r : Reading) (tables : List NewTable) (places : List Places) (new_places : NewPlaces) (u : ℕ) (own : HeadAndForest) (written : HeadAndForest) (mine : Places) (new : NewNumbers) (is : IsWorldOf world.image Narrow world) (holds : Holds file world r) (known : u < length world.units) (written_is : written ≡ written_in world tables u) (taken : IsTakenFrom (unit_in world.units u) written) where
+  numbers_there : AreNumbered world written places new_places u new.held.items → NumbersIn r places new_places u new.held.items written.forest.values (head_and_forest (unit_at r.links u)) (unit_at r.links u).table
   numbers_there held =
       let size : length world.units ≡ length r.links.units = held_count file world r holds in
-      let first : NumbersIn r places new_places u new.held.items (unit_in world.units u) (table_for world u) = λ id j a b. held.each id j a b file r holds in
-      subst (NumbersIn r places new_places u new.held.items (head_and_forest (unit_at r.links u))) (table_known file world r u holds (omega (arith, size, known))) (subst (λ (h : HeadAndForest). NumbersIn r places new_places u new.held.items h (table_for world u)) (held_unit file world r u holds) first)
+      let first : NumbersIn r places new_places u new.held.items written.forest.values (unit_in world.units u) (table_for world u) = λ id j a b. held.each id j a b file r holds in
+      subst (NumbersIn r places new_places u new.held.items written.forest.values (head_and_forest (unit_at r.links u))) (table_known file world r u holds (omega (arith, size, known))) (subst (λ (h : HeadAndForest). NumbersIn r places new_places u new.held.items written.forest.values h (table_for world u)) (held_unit file world r u holds) first)
 
-  made_there : ((number : ℕ) (span : Span) → IsExprAt (unit_at r.links u).forest number span → IsNewExpression r.links places u (bytes_in (unit_at r.links u).forest.section span) (made_of new.expressions.ends.items new.expressions.bytes.items number)) → (id number name : ℕ) (bytes : List ℕ) (place : ℕ) → HasValueAt (unit_at r.links u) id number name (Expression bytes) place → IsNewExpression r.links places u bytes (made_of new.expressions.ends.items new.expressions.bytes.items number)
-  made_there made id number name bytes place h =
-      let (inside, here) = value_among (debug_info world.image) (debug_abbrev world.image) (unit_at r.links u) (unit_reads file world r u Narrow is holds known) id number name (Expression bytes) place h in
-      let (span, is_span, same) = expression_span (unit_at r.links u).forest.section h.value bytes h.meant in
-      subst (λ (z : List ℕ). IsNewExpression r.links places u z (made_of new.expressions.ends.items new.expressions.bytes.items number)) same (made number span (record { inside = inside; is = here ∙ is_span }))
+  values_count : length written.forest.values ≡ length (unit_at r.links u).forest.values
+  values_count = taken_count (unit_in world.units u) written taken ∙ ap (λ (h : HeadAndForest). length h.forest.values) (held_unit file world r u holds)
 
-  pub are_new_numbers : (operations : HeldOps) → own ≡ unit_in world.units u → operations ≡ operations_at world.operations u → places_anew mine ≡ places_at places u → new.end ≡ mine.end → new.table ≡ (new_table_at tables (slice_index world.table_of u)).at → IsTypeMoved own (places_anew mine) new.type_offset → AreNumbered world places new_places u new.held.items → (numbers : List ℕ) → AreOperationsNumbered world places u numbers → AreEndsFor own.forest new.expressions.ends.items → AreWrittenShortest own.forest operations new.expressions.ends.items numbers new.expressions.bytes.items → AreNewNumbers world r.links tables places new_places u new
-  are_new_numbers operations own_is operations_are mine_is end table_is type held numbers numbered ends written =
-      let there = written_known file world r places u own operations is holds known own_is operations_are numbers new.expressions.ends.items new.expressions.bytes.items numbered written in
-      let made = expressions_made file world r places u own operations is holds known own_is operations_are numbers new.expressions.ends.items new.expressions.bytes.items numbered there in
+  -- an expression is written as it was read, with its new references
+  made_there : ((number : ℕ) (span : Span) → IsExprAt (unit_at r.links u).forest number span → IsNewExpression r.links places u (bytes_in (unit_at r.links u).forest.section span) (made_of new.expressions.ends.items new.expressions.bytes.items number)) → (number : ℕ) (bytes : List ℕ) → number < length (unit_at r.links u).forest.values → meant_in (unit_at r.links u).forest.section (value_at written.forest.values number) ≡ Expression bytes → IsNewExpression r.links places u bytes (made_of new.expressions.ends.items new.expressions.bytes.items number)
+  made_there made number bytes inside means =
+      let (span, is_span, same) = expression_span (unit_at r.links u).forest.section (value_at written.forest.values number) bytes (sym means) in
+      let stands : IsExprAt (unit_in world.units u).forest number span = read_expr (unit_in world.units u) written taken number span (record { inside = omega (arith, inside, values_count); is = is_span }) in
+      let here : IsExprAt (unit_at r.links u).forest number span = subst (λ (h : HeadAndForest). IsExprAt h.forest number span) (held_unit file world r u holds) stands in
+      subst (λ (z : List ℕ). IsNewExpression r.links places u z (made_of new.expressions.ends.items new.expressions.bytes.items number)) same (made number span here)
+
+  -- the value is the one of the unit as it is written
+  meaning_there : (number : ℕ) → meant_in (unit_at r.links u).forest.section (value_at written.forest.values number) ≡ meaning_at (written_in world tables u).forest number
+  meaning_there number =
+      let section : (unit_at r.links u).forest.section ≡ (written_in world tables u).forest.section = sym (ap (λ (h : HeadAndForest). h.forest.section) (held_unit file world r u holds)) in
+      ap (λ (z : List ℕ). meant_in z (value_at written.forest.values number)) section ∙ ap (λ (h : HeadAndForest). meant_in (written_in world tables u).forest.section (value_at h.forest.values number)) written_is
+
+  pub are_new_numbers : (operations : HeldOps) → own ≡ unit_in world.units u → operations ≡ operations_at world.operations u → places_anew mine ≡ places_at places u → new.end ≡ mine.end → new.table ≡ (new_table_at tables (slice_index world.table_of u)).at → IsTypeMoved own (places_anew mine) new.type_offset → AreNumbered world written places new_places u new.held.items → (numbers : List ℕ) → AreOperationsNumbered world places u numbers → AreEndsFor own.forest new.expressions.ends.items → AreWrittenShortest own.forest operations new.expressions.ends.items numbers new.expressions.bytes.items → AreNewNumbers world r.links tables places new_places u new
+  are_new_numbers operations own_is operations_are mine_is end table_is type held numbers numbered ends shortest =
+      let there = written_known file world r places u own operations written is holds known own_is operations_are taken numbers new.expressions.ends.items new.expressions.bytes.items numbered shortest in
+      let made = expressions_made file world r places u own operations written is holds known own_is operations_are taken numbers new.expressions.ends.items new.expressions.bytes.items numbered there in
       record {
         ends = end ∙ ap (λ (p : PlacesAnew). p.end) mine_is;
         table_at = table_is;
         type_at = type_moved file world r places u own mine new.type_offset holds own_is mine_is type;
         type_fits = type.fits;
-        count = held.size.1 refl ∙ ap (λ (h : HeadAndForest). length h.forest.values) (held_unit file world r u holds);
+        count = held.size.1 refl ∙ values_count;
         fit = All-from_get_or (λ (number : ℕ). number < 2 ^ 32) new.held.items 0 (λ k within. held.fit k within);
-        ends_are = ends_known file world r places u own operations is holds known own_is operations_are numbers new.expressions.ends.items new.expressions.bytes.items numbered ends;
+        ends_are = ends_known file world r places u own operations written is holds known own_is operations_are taken numbers new.expressions.ends.items new.expressions.bytes.items numbered ends;
         op_numbers = numbers;
-        references = references_there file world r places u own operations is holds known own_is operations_are numbers new.expressions.ends.items new.expressions.bytes.items numbered;
+        references = references_there file world r places u own operations written is holds known own_is operations_are taken numbers new.expressions.ends.items new.expressions.bytes.items numbered;
         expressions = there;
         each = λ id number name meaning place h.
-            value_renewed r.links places new_places u id name meaning (slice_index new.held.items number) (made_of new.expressions.ends.items new.expressions.bytes.items number) (attribute_numbered r places new_places u new.held.items (debug_info world.image) (debug_abbrev world.image) (unit_reads file world r u Narrow is holds known) (numbers_there held) id number name meaning place h) (λ bytes same.
-            made_there made id number name bytes place (subst (λ (m : Meaning). HasValueAt (unit_at r.links u) id number name m place) same h));
+            let number_is = slice_index new.held.items number in
+            let made_is = made_of new.expressions.ends.items new.expressions.bytes.items number in
+            let unit = unit_reads file world r u Narrow is holds known in
+            let (inside, here) = value_among (debug_info world.image) (debug_abbrev world.image) (unit_at r.links u) unit id number name meaning place h in
+            let means = meant_in (unit_at r.links u).forest.section (value_at written.forest.values number) in
+            let renewed = value_renewed r.links places new_places u id name means number_is made_is (attribute_numbered r places new_places u new.held.items written.forest.values (debug_info world.image) (debug_abbrev world.image) unit (numbers_there held) id number name meaning place h) (λ bytes same. made_there made number bytes inside same) in
+            subst (λ (m : Meaning). IsNewValue r.links places new_places u id name m number_is made_is) (meaning_there number) renewed;
       }

@@ -12,12 +12,14 @@ use Rattle.expr_ops.specs.Slots.Aim.{Place, Length}
 use Rattle.expr_ops.proofs.Levels.{expression_once}
 use Rattle.expr_ops.proofs.Reaches.{narrow_wide}
 use Rattle.list_model.specs.declared.entry.ListKind.TheVariants.{Locations}
-use Rattle.entry_arena.specs.Arena.{Arena}
+use Rattle.form_codec.specs.declared.value.Value.{Value}
+use Rattle.entry_arena.specs.Arena.{Arena, with_values}
 use Rattle.entry_arena.specs.Order.{IsInOrder}
 use Rattle.unit_write.specs.declared.places.Places.{Places}
 use Rattle.unit_write.specs.declared.slots.ListSlot.{ListSlot}
 use Rattle.unit_write.specs.declared.slots.ListSlot.TheVariants.{Length as ListLength, Place as ListPlace}
 use Rattle.unit_write.specs.declared.slots.Spot.{Spot}
+use Rattle.unit_write.specs.declared.slots.Spot.TheVariants.{Entry as TheEntry, End as TheEnd, Nothing as NoSpot}
 use Rattle.unit_write.specs.NewExpressions.{refs_among}
 use Rattle.unit_write.specs.Slots.{IsSpotFor, IsSpotPlaced, IsListSlotFor, list_spot}
 use Rattle.value_links.specs.Layouts.{AreNumbersOf, AreOwnedLists, list_expressions}
@@ -75,12 +77,14 @@ module _ (r : Linkable) (places : List Places) (u : ℕ) (later : (k : ℕ) → 
 
 -- SPOTS
 
--- a slot of a list names what its spot is
-spot_for : (f : Arena) (at : ℕ) (aim : Aim) (slot : ListSlot) → IsListSlotFor f at aim slot → IsSpotFor f at aim (list_spot slot)
-spot_for f at (Place form n) (ListPlace kind spot) here = here.1
-spot_for f at (Place form n) (ListLength fixed count) here = absurd here
-spot_for f at (Length fixed count) (ListPlace kind spot) here = absurd here
-spot_for f at (Length fixed count) (ListLength size slots) here = tt
+-- a slot of a list names what its spot is, whatever values the unit has
+spot_for : (f : Arena) (values : List Value) (at : ℕ) (aim : Aim) (slot : ListSlot) → IsListSlotFor (with_values f values) at aim slot → IsSpotFor f at aim (list_spot slot)
+spot_for f values at (Place form n) (ListPlace kind (TheEntry id)) here = here.1
+spot_for f values at (Place form n) (ListPlace kind (TheEnd number)) here = here.1
+spot_for f values at (Place form n) (ListPlace kind NoSpot) here = here.1
+spot_for f values at (Place form n) (ListLength fixed count) here = absurd here
+spot_for f values at (Length fixed count) (ListPlace kind spot) here = absurd here
+spot_for f values at (Length fixed count) (ListLength size slots) here = tt
 
 zip_map : (R : Aim → Spot → Type 0) (aims : List Aim) (slots : List ListSlot) → AllZip (λ (aim : Aim) (slot : ListSlot). R aim (list_spot slot)) aims slots → AllZip R aims (map list_spot slots)
 zip_map R [] [] zip = tt
@@ -89,10 +93,10 @@ zip_map R (aim ∷ aims) [] zip = absurd zip
 zip_map R (aim ∷ aims) (slot ∷ slots) (first, zip) = (first, zip_map R aims slots zip)
 
 -- what slots of lists tell that have moved are the places of what they name
-pub lists_placed : (f : Arena) → IsInOrder f → (places : PlacesAnew) (at : ℕ) (olds news : List Aim) (slots : List ListSlot) → AllZip (AimMoves f places at) olds news → AllZip (IsListSlotFor f at) olds slots → AllZip (IsSpotPlaced places.start places.entries places.ends) news (map list_spot slots)
-lists_placed f order places at olds news slots moves are =
+pub lists_placed : (f : Arena) → IsInOrder f → (values : List Value) (places : PlacesAnew) (at : ℕ) (olds news : List Aim) (slots : List ListSlot) → AllZip (AimMoves f places at) olds news → AllZip (IsListSlotFor (with_values f values) at) olds slots → AllZip (IsSpotPlaced places.start places.entries places.ends) news (map list_spot slots)
+lists_placed f order values places at olds news slots moves are =
     zip_map (IsSpotPlaced places.start places.entries places.ends) news slots
-    (zip_both (AimMoves f places at) (IsListSlotFor f at) (λ (aim : Aim) (slot : ListSlot). IsSpotPlaced places.start places.entries places.ends aim (list_spot slot)) (λ old new slot goes here. spot_placed f order places at old new (list_spot slot) goes (spot_for f at old slot here)) olds news slots moves are)
+    (zip_both (AimMoves f places at) (IsListSlotFor (with_values f values) at) (λ (aim : Aim) (slot : ListSlot). IsSpotPlaced places.start places.entries places.ends aim (list_spot slot)) (λ old new slot goes here. spot_placed f order places at old new (list_spot slot) goes (spot_for f values at old slot here)) olds news slots moves are)
 
 -- NUMBERS
 

@@ -4,6 +4,7 @@ use Rattle.std.specs.Prelude.{Bool, true, false, Some, filter, if◌then◌else�
 use Rattle.std.specs.List.{AllZip}
 use Rattle.form_codec.specs.Forms.{Meaning}
 use Rattle.form_codec.specs.Forms.Meaning.{AddressNumber, Expression, InUnit, InSection, SectionPlace}
+use Rattle.entry_read.specs.declared.head.UnitHead.{UnitHead}
 use Rattle.list_model.specs.declared.tables.AddrTable.{AddrTable}
 use Rattle.list_model.specs.Addresses.{TablesFollow}
 use Rattle.unit_write.specs.declared.places.Places.{Places}
@@ -17,12 +18,14 @@ use Rattle.value_links.specs.Whole.{HasAddrBase, AreAddressesRead, AreFirstBases
 use Rattle.value_links.specs.World.{World}
 use Rattle.rewriter.specs.declared.tables.NewTable.{NewTable}
 use Rattle.rewriter.specs.declared.new_places.NewPlaces.{NewPlaces}
+use Rattle.rewriter.specs.inside.Taken.{MeansFor}
 use Rattle.rewriter.specs.inside.Follows.{AreReadAnew}
 use Rattle.rewriter.proofs.MovedAttributes.{IsMovedAttribute}
 use Rattle.rewriter.proofs.MovedBases.{was_place, root_moves}
 use Rattle.rewriter.proofs.ContextsStay.{table_stays}
 use Rattle.rewriter.proofs.ValuesStay.{value_came}
 use Rattle.rewriter.proofs.ListNames.{unit_inside}
+use Rattle.rewriter.proofs.InwardMeanings.{taken_alike, was_taken}
 
 -- no number of an address is moved
 was_number : (number : ℕ) (made : List ℕ) (i : ℕ) (meaning : Meaning) → renewed number made meaning ≡ AddressNumber i → meaning ≡ AddressNumber i
@@ -31,6 +34,12 @@ was_number number made i (InSection n) e = absurd (cc (e))
 was_number number made i (SectionPlace n) e = absurd (cc (e))
 was_number number made i (Expression bytes) e = absurd (cc (e))
 was_number number made i meaning e = e
+
+-- so it was the number, whatever it was taken to mean
+number_taken : (head : UnitHead) (old taken : Meaning) (number i : ℕ) (made : List ℕ) → MeansFor head old taken → renewed number made taken ≡ AddressNumber i → old ≡ AddressNumber i
+number_taken head old taken number i made took e =
+    let is : taken ≡ AddressNumber i = was_number number made i taken e in
+    was_taken head old (AddressNumber i) (subst (MeansFor head old) is took) (λ k same. absurd (cc (same)))
 
 -- FIRST ADDRESSES
 
@@ -48,7 +57,10 @@ module _ (r : Linkable) (places : List Places) (new_places : NewPlaces) (u id : 
 
   low_moves : (a b : ℕ × Meaning) → Moves a b → is_low_pc b ≡ is_low_pc a
   low_moves (name, meaning) (other, value) move =
-      ap (λ (z : ℕ). is_low_pc (z, value)) move.name ∙ ap (λ (z : Meaning). is_low_pc (name, z)) move.value ∙ low_same name move.number move.made meaning
+      ap (λ (z : ℕ). is_low_pc (z, value)) move.name
+      ∙ ap (λ (z : Meaning). is_low_pc (name, z)) move.value
+      ∙ low_same name move.number move.made move.taken
+      ∙ taken_alike (λ (z : Meaning). is_low_pc (name, z)) (λ n m. refl) (unit_at r u).head meaning move.taken move.took
 
   -- attributes around one, and those that were around the one that it was
   pub record WereAround (olds before : List (ℕ × Meaning)) (b : ℕ × Meaning) : Type 0 where
@@ -97,11 +109,11 @@ module _ {file : List ℕ} {world : World} {tables : List NewTable} {places : Li
       let olds : List (ℕ × Meaning) = (root_of (unit_at r.links u)).attributes in
       let moves : AllZip (IsMovedAttribute r.links places new_places u 0) olds (low.before ++ (low_pc, AddressNumber i) ∷ low.after) = subst (AllZip (IsMovedAttribute r.links places new_places u 0) olds) low.parts (root_moves all u inside) in
       let p = around r.links places new_places u 0 olds low.before low.after (low_pc, AddressNumber i) moves in
-      let meant : p.a.1 ≡ AddressNumber i = was_number p.moves.number p.moves.made i p.a.1 (sym p.moves.value) in
+      let meant : p.a.1 ≡ AddressNumber i = number_taken (unit_at r.links u).head p.a.1 p.moves.taken p.moves.number i p.moves.made p.moves.took (sym p.moves.value) in
       let attribute : p.a ≡ (low_pc, AddressNumber i) = ap (λ (z : ℕ). (z, p.a.1)) (sym p.moves.name) ∙ ap (λ (z : Meaning). (low_pc, z)) meant in
       let none : length (filter is_low_pc p.earlier) ≡ 0 = lows_size r.links places new_places u 0 p.earlier low.before p.front ∙ ap (λ (z : List (ℕ × Meaning)). length z) low.first in
       let (old, was, stands, moved) = value_came all u 0 low.number low_pc (AddressNumber i) place inside low.stands in
-      let same : old ≡ AddressNumber i = was_number moved.held moved.made i old (sym moved.value) in (
+      let same : old ≡ AddressNumber i = number_taken (unit_at r.links u).head old moved.taken moved.held i moved.made moved.took (sym moved.value) in (
         was,
         record {
           number = low.number;
@@ -132,8 +144,9 @@ module _ {file : List ℕ} {world : World} {tables : List NewTable} {places : Li
   base_came (u, id, number, n, place, now, h) =
       let inside = unit_inside all u now in
       let (old, was, stands, moved) = value_came all u id number addr_base (SectionPlace n) place inside h in
-      let (k, meant, _) = was_place moved.held moved.made n old (sym moved.value) in
-      (u, id, number, k, was, inside, subst (λ (z : Meaning). HasValueAt (unit_at r.links u) id number addr_base z was) meant stands)
+      let (k, meant, _) = was_place moved.held moved.made n moved.taken (sym moved.value) in
+      let same : old ≡ SectionPlace k = was_taken (unit_at r.links u).head old (SectionPlace k) (subst (MeansFor (unit_at r.links u).head old) meant moved.took) (λ j inner. absurd (cc (inner))) in
+      (u, id, number, k, was, inside, subst (λ (z : Meaning). HasValueAt (unit_at r.links u) id number addr_base z was) same stands)
 
   tables_stay : AreAddressesRead s.links.units s.links.addresses
   tables_stay has =

@@ -44,7 +44,7 @@ use Rattle.rewriter.specs.declared.tables.NewTable.{NewTable}
 use Rattle.rewriter.specs.declared.new_places.NewPlaces.{NewPlaces}
 use Rattle.rewriter.specs.declared.sections.NewSections.{NewSections}
 use Rattle.rewriter.specs.inside.Tables.{TablesStand, table_anew, AreTablesWritten}
-use Rattle.rewriter.specs.inside.Placed.{PlacesAnew, places_anew, places_at, IsPlacedBy, PlacesFollow, ArePlacesOf, AreRanksOf, AreWritable}
+use Rattle.rewriter.specs.inside.Placed.{PlacesAnew, places_anew, places_at, IsPlacedBy, PlacesFollow, ArePlacesOf, AreRanksOf, AreTaken, AreWritable}
 use Rattle.rewriter.specs.inside.Recorded.{IsRecorded}
 use Rattle.rewriter.specs.inside.Units.{AreUnitsWritten}
 use Rattle.rewriter.specs.inside.Bodies.{NewBytes, new_bytes}
@@ -60,7 +60,7 @@ use Rattle.rewriter.proofs.FewRows.{AreProgramsFew, programs_few, few_rows, prog
 use Rattle.rewriter.proofs.ListsAnew.{AreReadBack, lists_anew}
 use Rattle.rewriter.proofs.ListsRead.{lists_for, moved_from_read}
 use Rattle.rewriter.proofs.ViewRuns.{pairs_count}
-use Rattle.rewriter.proofs.ChosenColumns.{chosen_columns_are_writable}
+use Rattle.rewriter.proofs.ChosenColumns.{chosen_columns_are_taken, chosen_columns_are_writable}
 use Rattle.rewriter.proofs.UsedDeclarations.{unit_is}
 
 -- SECTIONS THAT A FILE LACKS
@@ -148,13 +148,13 @@ parts_of {file} {world} {r} {tables} {places} {new_places} {info} {abbrevs} {lin
     both Locations = of_locations
 
 -- the records of the steps, which are put together in their order, are those of a certificate
-pub recorded_of : {world : World} {r : Reading} {tables : List NewTable} {places : List Places} {section lines ranges locations units a b c d certificate : List ℕ} → certificate ≡ magic ++ (a ++ (b ++ (c ++ d))) → a ≡ lines → b ≡ ranges → c ≡ locations → d ≡ units → ((runs : List (List Run)) × HaveRuns AreLeastRuns section runs × Joined SpellsRecord (map OfLines runs) lines) → AreListsRecorded r Ranges ranges → AreListsRecorded r Locations locations → AreRanksOf world tables places units → IsRecorded world r tables places section certificate
-recorded_of {world} {r} {tables} {places} {section} {lines} {ranges} {locations} {units} {a} {b} {c} {d} {certificate} whole of_a of_b of_c of_d (runs, has_runs, spelled) of_ranges of_locations of_units = record {
+pub recorded_of : {world : World} {r : Reading} {tables : List NewTable} {places : List Places} {section lines ranges locations units certificate : List ℕ} → certificate ≡ magic ++ (lines ++ (ranges ++ (locations ++ units))) → ((runs : List (List Run)) × HaveRuns AreLeastRuns section runs × Joined SpellsRecord (map OfLines runs) lines) → AreListsRecorded r Ranges ranges → AreListsRecorded r Locations locations → AreRanksOf world tables places units → IsRecorded world r tables places section certificate
+recorded_of {world} {r} {tables} {places} {section} {lines} {ranges} {locations} {units} {certificate} whole (runs, has_runs, spelled) of_ranges of_locations of_units = record {
   lines = lines;
   ranges = ranges;
   locations = locations;
   units = units;
-  whole = whole ∙ ap (λ (z : List ℕ). magic ++ z) parts;
+  whole = whole;
   runs = runs;
   has_runs = has_runs;
   runs_spelled = spelled;
@@ -162,9 +162,6 @@ recorded_of {world} {r} {tables} {places} {section} {lines} {ranges} {locations}
   has_locations = of_locations;
   has_ranks = of_units;
 }
-  where
-    parts : a ++ (b ++ (c ++ d)) ≡ lines ++ (ranges ++ (locations ++ units))
-    parts = cc
 
 module _ {file : List ℕ} {world : World} {r : Reading} {tables : List NewTable} {places : List Places} {new_places : NewPlaces} {info abbrevs lines ranges locations aranges : List ℕ} {range_views location_views : List Moved} (parts : AreParts file world r tables places new_places info abbrevs lines ranges locations aranges range_views location_views) where
   units_count : length world.units ≡ length r.links.units
@@ -367,7 +364,10 @@ module _ {file : List ℕ} {world : World} {r : Reading} {tables : List NewTable
 -- WHAT THE STEPS ASK FOR
 
 pub writable : NumbersHaveSizes → ExpressionsHaveSizes → ShortestHaveSizes → (world : World) → IsWorldOf world.image Narrow world → (abbrevs : List ℕ) (tables : List NewTable) → AreTablesWritten world abbrevs tables → AreWritable world tables
-writable numbers expressions others world is abbrevs tables written = chosen_columns_are_writable numbers expressions others world.image world is.r abbrevs tables is.read is.valid is.holds written
+writable numbers expressions others world is abbrevs tables written = chosen_columns_are_writable world.image world is.r abbrevs tables is.read is.holds written numbers expressions others
+
+pub taken : (world : World) → IsWorldOf world.image Narrow world → (abbrevs : List ℕ) (tables : List NewTable) → AreTablesWritten world abbrevs tables → AreTaken world tables
+taken world is abbrevs tables written = chosen_columns_are_taken world.image world is.r abbrevs tables is.read is.holds written
 
 pub lines_read : (world : World) → IsWorldOf world.image Narrow world → (section : List ℕ) (heads : List Head) → section ≡ debug_line world.image → heads ≡ world.programs → AreRead section heads
 lines_read world is section heads e f =

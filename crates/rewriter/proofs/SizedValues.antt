@@ -32,6 +32,13 @@ holds_number form.RefAddr c m bytes moves written p = subst (HoldsNumber 16) (sy
 holds_number form.SecOffset c m bytes moves written p = subst (HoldsNumber 23) (sym p.1) refl
 holds_number f c m bytes moves written p = absurd (cc (moves))
 
+-- so a column whose form can be chosen, and which spells such a value, has that form
+pub number_held : (column : Spec) (m : Meaning) (bytes : List ℕ) → is_moving m ≡ true → IsChoice column.form → SpellsValue column.form column.constant m bytes → HoldsNumber column.form m
+number_held column m bytes moves choice s =
+    let shape : shape_moves (shape_of s.form column.constant) ≡ true = sym (shape_is (shape_of s.form column.constant) m bytes s.spelled) ∙ moves in
+    let written : is_written s.form ≡ true = ap is_written (code_once s.form choice.0 (s.known ∙ sym choice.1)) ∙ choice.2 in
+    subst (λ (z : ℕ). HoldsNumber z m) s.known (holds_number s.form column.constant m bytes shape written s.spelled)
+
 module _ (numbers : NumbersHaveSizes) (expressions : ExpressionsHaveSizes) (others : ShortestHaveSizes) where
   -- an expression of so many bytes can be written, and so can each value that stays
   stays_sized : (column : Spec) (m : Meaning) (len : ℕ) (bytes : List ℕ) → is_moving m ≡ false → SpellsValue column.form column.constant m bytes → (size : ℕ) × HasSize column m len size
@@ -44,11 +51,7 @@ module _ (numbers : NumbersHaveSizes) (expressions : ExpressionsHaveSizes) (othe
   value_sized : (column : Spec) (m : Meaning) (len : ℕ) (bytes : List ℕ) → IsChoice column.form → SpellsValue column.form column.constant m bytes → (size : ℕ) × HasSize column m len size
   value_sized column m len bytes choice s =
       elim (cases_Bool (is_moving m)) [
-        | inl moves ↦
-            let shape : shape_moves (shape_of s.form column.constant) ≡ true = sym (shape_is (shape_of s.form column.constant) m bytes s.spelled) ∙ moves in
-            let written : is_written s.form ≡ true = ap is_written (code_once s.form choice.0 (s.known ∙ sym choice.1)) ∙ choice.2 in
-            let held = holds_number s.form column.constant m bytes shape written s.spelled in
-            numbers column m len (subst (λ (z : ℕ). HoldsNumber z m) s.known held)
+        | inl moves ↦ numbers column m len (number_held column m bytes moves choice s)
         | inr stays ↦ stays_sized column m len bytes stays s
       ]
 

@@ -7,9 +7,10 @@ use Rattle.dw_base.specs.declared.fault.Reach.{Reach}
 use Rattle.expr_ops.specs.Expressions.{Operation}
 use Rattle.expr_ops.specs.Slots.{Aim, expression_aims}
 use Rattle.expr_ops.specs.Slots.Aim.{Place, Length}
+use Rattle.form_codec.specs.declared.value.Value.{Value}
 use Rattle.form_codec.specs.Forms.{Meaning}
 use Rattle.form_codec.specs.Forms.Meaning.{Expression, InUnit, InSection, SectionPlace}
-use Rattle.entry_arena.specs.Arena.{Arena, chain_end_at, value_at}
+use Rattle.entry_arena.specs.Arena.{Arena, with_values, chain_end_at, value_at}
 use Rattle.entry_arena.specs.Operations.{HeldOps, ops_of, for_value}
 use Rattle.entry_arena.specs.Order.{IsInOrder}
 use Rattle.entry_read.specs.Slots.{value_aims, aims_before, aims_of, meaning_at, expression_bytes, operations_in}
@@ -30,14 +31,16 @@ use Rattle.value_links.proofs.EntryValues.{value_stands}
 use Rattle.value_links.proofs.Targets.{entry_once, never_both}
 use Rattle.rewriter.specs.declared.tables.NewTable.{NewTable}
 use Rattle.rewriter.specs.declared.new_places.NewPlaces.{NewPlaces}
-use Rattle.rewriter.specs.inside.Placed.{PlacesAnew, places_at, unit_in, IsPlacedBy}
+use Rattle.rewriter.specs.inside.Placed.{PlacesAnew, places_at, written_in, AreTaken, IsPlacedBy}
+use Rattle.rewriter.specs.inside.Taken.{IsTakenFrom}
 use Rattle.rewriter.specs.inside.Numbers.{MovesTo, IsNewValue, AreNewNumbers}
 use Rattle.rewriter.proofs.Arranged.{placed_behind}
 use Rattle.rewriter.proofs.Final.{unit_reads}
 use Rattle.rewriter.proofs.MovedSlots.{AimMoves, zip_append, operations_moved, expression_aims_move}
 use Rattle.rewriter.proofs.NewExpressions.{expression_span}
 use Rattle.rewriter.proofs.Standing.{held_unit}
-use Rattle.rewriter.proofs.Zips.{zip_both}
+use Rattle.rewriter.proofs.TakenLaws.{taken_count, read_expr}
+use Rattle.rewriter.proofs.Zips.{zip_weaker, zip_both}
 
 -- of the codes 0 that end chains each stands at a place of its own
 end_once : (f : Arena) → IsInOrder f → (i j : ℕ) → i < length f.ends → j < length f.ends → (chain_end_at f.ends i).at ≡ (chain_end_at f.ends j).at → i ≡ j
@@ -68,31 +71,46 @@ spot_placed f order places at (Place form n) (Length fixed count) spot moves her
 spot_placed f order places at (Length fixed count) (Place form n) spot moves here = absurd moves
 spot_placed f order places at (Length fixed count) (Length size number) spot moves here = tt
 
+-- what a slot names is told of entries and codes 0 alone
+spot_for : (f : Arena) (values : List Value) (at : ℕ) (aim : Aim) (spot : Spot) → IsSpotFor (with_values f values) at aim spot → IsSpotFor f at aim spot
+spot_for f values at (Place form n) (TheEntry id) here = here
+spot_for f values at (Place form n) (TheEnd number) here = here
+spot_for f values at (Place form n) NoSpot here = here
+spot_for f values at (Length fixed count) spot here = here
+
 -- THE VALUES OF A UNIT
 
-module _ (info abbrevs : List ℕ) (world : World) (r : Linkable) (tables : List NewTable) (places : List Places) (new_places : NewPlaces) (u : ℕ) (new : NewNumbers) (is : IsUnitRead info abbrevs (unit_at r u)) (numbered : AreNewNumbers world r tables places new_places u new) (later : (k : ℕ) → k < length (unit_at r u).forest.entries → (places_at places u).start < slice_index (places_at places u).entries k) where
+-- the unit as it is read, and as it is written
+module _ (info abbrevs : List ℕ) (world : World) (r : Linkable) (tables : List NewTable) (places : List Places) (new_places : NewPlaces) (u : ℕ) (new : NewNumbers) (is : IsUnitRead info abbrevs (unit_at r u)) (taken : IsTakenFrom (head_and_forest (unit_at r u)) (written_in world tables u)) (numbered : AreNewNumbers world r tables places new_places u new) (later : (k : ℕ) → k < length (unit_at r u).forest.entries → (places_at places u).start < slice_index (places_at places u).entries k) where
   abbrev held : HeldOps
   held = operations_at world.operations u
+
+  abbrev own : Arena
+  own = (written_in world tables u).forest
 
   abbrev Aims : Aim → Aim → Type 0
   Aims = AimMoves (unit_at r u).forest (places_at places u) (unit_at r u).head.at
 
+  counted : length (written_in world tables u).forest.values ≡ length (unit_at r u).forest.values
+  counted = taken_count (head_and_forest (unit_at r u)) (written_in world tables u) taken
+
   -- a reference within the unit has the number of the new place of what it names
-  reference_moves : (k n : ℕ) → k < length (unit_at r u).forest.values → meaning_at (unit_at r u).forest k ≡ InUnit n → MovesTo (unit_at r u).forest (places_at places u) ((unit_at r u).head.at + n) ((places_at places u).start + slice_index new.held.items k)
+  reference_moves : (k n : ℕ) → k < length (written_in world tables u).forest.values → meaning_at (written_in world tables u).forest k ≡ InUnit n → MovesTo (unit_at r u).forest (places_at places u) ((unit_at r u).head.at + n) ((places_at places u).start + slice_index new.held.items k)
   reference_moves k n inside means =
       let unit : UnitRead = unit_at r u in
       let owned = values_belong info unit.head (declarations unit) unit.forest is.section is.entries in
-      let (id, name, place, stands) = value_stands info abbrevs unit is owned k inside in
+      let (id, name, place, stands) = value_stands info abbrevs unit is owned k (subst (λ (z : ℕ). k < z) counted inside) in
       subst (λ (m : Meaning). IsNewValue r places new_places u id name m (slice_index new.held.items k) (made_of new.expressions.ends.items new.expressions.bytes.items k)) means (numbered.each id k name (meaning_at (unit_at r u).forest k) place stands)
 
   -- and the slots of an expression tell what they told
-  expression_moves : (k : ℕ) (bytes : List ℕ) → k < length (unit_at r u).forest.values → meaning_at (unit_at r u).forest k ≡ Expression bytes → AllZip Aims (expression_aims (operations_in (unit_at r u).forest (operations_at world.operations u) k)) (expression_aims (operations_anew (unit_at r u).forest (operations_at world.operations u) numbered.op_numbers k))
+  expression_moves : (k : ℕ) (bytes : List ℕ) → k < length (written_in world tables u).forest.values → meaning_at (written_in world tables u).forest k ≡ Expression bytes → AllZip Aims (expression_aims (operations_in (written_in world tables u).forest (operations_at world.operations u) k)) (expression_aims (operations_anew (written_in world tables u).forest (operations_at world.operations u) numbered.op_numbers k))
   expression_moves k bytes inside means =
-      let (span, at, _) = expression_span (unit_at r u).forest.section (value_at (unit_at r u).forest.values k) bytes (sym means) in
-      let are = numbered.references k span (record { inside = inside; is = at }) in
-      let outer : List ℕ = expression_bytes (meaning_at (unit_at r u).forest k) in
+      let (span, at, _) = expression_span own.section (value_at own.values k) bytes (sym means) in
+      let was = read_expr (head_and_forest (unit_at r u)) (written_in world tables u) taken k span (record { inside = inside; is = at }) in
+      let are = numbered.references k span was in
+      let outer : List ℕ = expression_bytes (meaning_at own k) in
       let moved = operations_moved r places u later outer (ops_of held k) (for_value held numbered.op_numbers k) are.count are.each in
-      expression_aims_move r places u later (operations_in (unit_at r u).forest held k) (operations_anew (unit_at r u).forest held numbered.op_numbers k) moved
+      expression_aims_move r places u later (operations_in own held k) (operations_anew own held numbered.op_numbers k) moved
 
   value_by : (m : Meaning) (new_number : ℕ) (made : List ℕ) (os news : List Operation) → ((n : ℕ) → m ≡ InUnit n → MovesTo (unit_at r u).forest (places_at places u) ((unit_at r u).head.at + n) ((places_at places u).start + new_number)) → ((bytes : List ℕ) → m ≡ Expression bytes → AllZip Aims (expression_aims os) (expression_aims news)) → AllZip Aims (value_aims m os) (value_aims (renewed new_number made m) news)
   value_by (InUnit n) new_number made os news reference expression = ((refl, reference n refl), tt)
@@ -102,34 +120,37 @@ module _ (info abbrevs : List ℕ) (world : World) (r : Linkable) (tables : List
   value_by m new_number made os news reference expression = tt
 
   -- those of the first so many values
-  pub aims_moved : (k : ℕ) → k ≤ length (unit_at r u).forest.values → AllZip (AimMoves (unit_at r u).forest (places_at places u) (unit_at r u).head.at) (aims_before (meaning_at (unit_at r u).forest) (operations_in (unit_at r u).forest (operations_at world.operations u)) k) (aims_before (λ (n : ℕ). renewed (slice_index new.held.items n) [] (meaning_at (unit_at r u).forest n)) (operations_anew (unit_at r u).forest (operations_at world.operations u) numbered.op_numbers) k)
+  pub aims_moved : (k : ℕ) → k ≤ length (written_in world tables u).forest.values → AllZip (AimMoves (unit_at r u).forest (places_at places u) (unit_at r u).head.at) (aims_before (meaning_at (written_in world tables u).forest) (operations_in (written_in world tables u).forest (operations_at world.operations u)) k) (aims_before (λ (n : ℕ). renewed (slice_index new.held.items n) [] (meaning_at (written_in world tables u).forest n)) (operations_anew (written_in world tables u).forest (operations_at world.operations u) numbered.op_numbers) k)
   aims_moved zero inside = tt
   aims_moved (suc k) inside =
-      let f : Arena = (unit_at r u).forest in
+      let f : Arena = (written_in world tables u).forest in
       zip_append Aims (aims_before (meaning_at f) (operations_in f held) k) (value_aims (meaning_at f k) (operations_in f held k)) (aims_before (λ (n : ℕ). renewed (slice_index new.held.items n) [] (meaning_at f n)) (operations_anew f held numbered.op_numbers) k) (value_aims (renewed (slice_index new.held.items k) [] (meaning_at f k)) (operations_anew f held numbered.op_numbers k)) (aims_moved k (omega (arith, inside)))
       (value_by (meaning_at f k) (slice_index new.held.items k) [] (operations_in f held k) (operations_anew f held numbered.op_numbers k) (λ n means. reference_moves k n (omega (arith, inside)) means) (λ bytes means. expression_moves k bytes (omega (arith, inside)) means))
 
-  -- so each slot of a unit that was read tells the new place of what it names
-  pub read_numbers : (spots : List Spot) → AreSpotsOf (head_and_forest (unit_at r u)) (operations_in (unit_at r u).forest (operations_at world.operations u)) spots → AreSpotNumbers (unit_at r u).forest (operations_at world.operations u) new.held.items numbered.op_numbers spots (places_at places u).start (places_at places u).entries (places_at places u).ends
+  -- what its slots name is named by those of the unit that is read
+  named_read : (aims : List Aim) (spots : List Spot) → AllZip (IsSpotFor (written_in world tables u).forest (written_in world tables u).head.at) aims spots → AllZip (IsSpotFor (unit_at r u).forest (unit_at r u).head.at) aims spots
+  named_read aims spots named =
+      zip_weaker _ _ (spot_for (unit_at r u).forest own.values (unit_at r u).head.at) aims spots (subst (λ (h : HeadAndForest). AllZip (IsSpotFor h.forest h.head.at) aims spots) taken.same named)
+
+  -- so each slot of a unit that is written tells the new place of what it names
+  pub read_numbers : (spots : List Spot) → AreSpotsOf (written_in world tables u) (operations_in (written_in world tables u).forest (operations_at world.operations u)) spots → AreSpotNumbers (written_in world tables u).forest (operations_at world.operations u) new.held.items numbered.op_numbers spots (places_at places u).start (places_at places u).entries (places_at places u).ends
   read_numbers spots named =
       let f : Arena = (unit_at r u).forest in
       let lies = units_lie info (unit_at r u).head (declarations (unit_at r u)) f is.section is.entries in
-      zip_both Aims (IsSpotFor f (unit_at r u).head.at) (IsSpotPlaced (places_at places u).start (places_at places u).entries (places_at places u).ends) (spot_placed f lies.order (places_at places u) (unit_at r u).head.at) (aims_of f (operations_in f held)) (aims_anew f held new.held.items numbered.op_numbers) spots (aims_moved (length f.values) (omega arith)) named
+      zip_both Aims (IsSpotFor f (unit_at r u).head.at) (IsSpotPlaced (places_at places u).start (places_at places u).entries (places_at places u).ends) (spot_placed f lies.order (places_at places u) (unit_at r u).head.at) (aims_of own (operations_in own held)) (aims_anew own held new.held.items numbered.op_numbers) spots (aims_moved (length own.values) (omega arith)) (named_read (aims_of own (operations_in own held)) spots named)
 
--- what is known of the unit that is held
-module _ (file : List ℕ) (world : World) (r : Reading) (tables : List NewTable) (places : List Places) (u : ℕ) (holds : Holds file world r) (p : IsPlacedBy world tables u (places_at places u)) where
-  -- its entries stand behind its first byte
-  pub entries_later : (k : ℕ) → k < length (unit_at r.links u).forest.entries → (places_at places u).start < slice_index (places_at places u).entries k
-  entries_later =
-      subst (λ (h : HeadAndForest). (k : ℕ) → k < length h.forest.entries → (places_at places u).start < slice_index (places_at places u).entries k) (held_unit file world r u holds) (placed_behind (unit_in world.units u) _ _ _ _ (places_at places u).start (places_at places u).entries (places_at places u).ends (places_at places u).end p.placed)
+-- the entries of a unit that is held stand behind its first byte
+pub entries_later : (file : List ℕ) (world : World) (r : Reading) (tables : List NewTable) (places : List Places) (u : ℕ) → Holds file world r → IsPlacedBy world tables u (places_at places u) → (k : ℕ) → k < length (unit_at r.links u).forest.entries → (places_at places u).start < slice_index (places_at places u).entries k
+entries_later file world r tables places u holds p =
+    subst (λ (h : HeadAndForest). (k : ℕ) → k < length h.forest.entries → (places_at places u).start < slice_index (places_at places u).entries k) (held_unit file world r u holds) (placed_behind (written_in world tables u) _ _ _ _ (places_at places u).start (places_at places u).entries (places_at places u).ends (places_at places u).end p.placed)
 
-  pub named_there : AreSpotsOf (head_and_forest (unit_at r.links u)) (operations_in (unit_at r.links u).forest (operations_at world.operations u)) p.spots
-  named_there = subst (λ (h : HeadAndForest). AreSpotsOf h (operations_in h.forest (operations_at world.operations u)) p.spots) (held_unit file world r u holds) p.named
+-- and its values stand for those that are read
+pub taken_read : (file : List ℕ) (world : World) (r : Reading) (tables : List NewTable) (u : ℕ) → Holds file world r → AreTaken world tables → u < length world.units → IsTakenFrom (head_and_forest (unit_at r.links u)) (written_in world tables u)
+taken_read file world r tables u holds taken known =
+    subst (λ (h : HeadAndForest). IsTakenFrom h (written_in world tables u)) (held_unit file world r u holds) (taken u known)
 
--- the same of the unit that is held
-pub spot_numbers : (file : List ℕ) (world : World) (reach : Reach) (r : Reading) (tables : List NewTable) (places : List Places) (new_places : NewPlaces) (u : ℕ) (new : NewNumbers) → IsWorldOf world.image reach world → (holds : Holds file world r) → u < length world.units → (numbered : AreNewNumbers world r.links tables places new_places u new) → (p : IsPlacedBy world tables u (places_at places u)) → AreSpotNumbers (unit_in world.units u).forest (operations_at world.operations u) new.held.items numbered.op_numbers p.spots (places_at places u).start (places_at places u).entries (places_at places u).ends
-spot_numbers file world reach r tables places new_places u new is holds known numbered p =
-    let same : unit_in world.units u ≡ head_and_forest (unit_at r.links u) = held_unit file world r u holds in
+-- the slots of a unit that is held tell the new places of what they name
+pub spot_numbers : (file : List ℕ) (world : World) (reach : Reach) (r : Reading) (tables : List NewTable) (places : List Places) (new_places : NewPlaces) (u : ℕ) (new : NewNumbers) → IsWorldOf world.image reach world → (holds : Holds file world r) → AreTaken world tables → u < length world.units → (numbered : AreNewNumbers world r.links tables places new_places u new) → (p : IsPlacedBy world tables u (places_at places u)) → AreSpotNumbers (written_in world tables u).forest (operations_at world.operations u) new.held.items numbered.op_numbers p.spots (places_at places u).start (places_at places u).entries (places_at places u).ends
+spot_numbers file world reach r tables places new_places u new is holds taken known numbered p =
     let read : IsUnitRead (debug_info world.image) (debug_abbrev world.image) (unit_at r.links u) = unit_reads file world r u reach is holds known in
-    subst (λ (h : HeadAndForest). AreSpotNumbers h.forest (operations_at world.operations u) new.held.items numbered.op_numbers p.spots (places_at places u).start (places_at places u).entries (places_at places u).ends) (sym same)
-    (read_numbers (debug_info world.image) (debug_abbrev world.image) world r.links tables places new_places u new read numbered (entries_later file world r tables places u holds p) p.spots (named_there file world r tables places u holds p))
+    read_numbers (debug_info world.image) (debug_abbrev world.image) world r.links tables places new_places u new read (taken_read file world r tables u holds taken known) numbered (entries_later file world r tables places u holds p) p.spots p.named

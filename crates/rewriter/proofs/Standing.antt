@@ -8,7 +8,7 @@ use Rattle.dw_base.specs.declared.fault.Reach.{Reach}
 use Rattle.abbrev_tables.specs.declared.decl.Spec.{Spec}
 use Rattle.abbrev_tables.specs.Listings.{Listing}
 use Rattle.entry_arena.specs.declared.entry.Entry.{Entry}
-use Rattle.entry_arena.specs.Arena.{entry_at}
+use Rattle.entry_arena.specs.Arena.{entry_at, with_values}
 use Rattle.entry_arena.specs.Trees.{listed_to}
 use Rattle.entry_arena.proofs.TreeLaws.{trees_are_walks}
 use Rattle.entry_read.specs.Units.{HeadAndForest, entries_at, declarations_of}
@@ -18,7 +18,7 @@ use Rattle.value_links.specs.Reading.{Reading, no_unit, unit_at}
 use Rattle.value_links.specs.World.{World, head_and_forest, table_at, Holds, IsWorldOf}
 use Rattle.rewriter.specs.declared.tables.NewTable.{NewTable}
 use Rattle.rewriter.specs.inside.Tables.{TableAnew, table_anew, new_table_at}
-use Rattle.rewriter.specs.inside.Placed.{AreWritable, unit_in}
+use Rattle.rewriter.specs.inside.Placed.{AreWritable, unit_in, written_in}
 use Rattle.rewriter.specs.inside.Held.{HasTable}
 
 -- some entry stands first, where there is one
@@ -29,7 +29,8 @@ filled (e ∷ more) some = omega arith
 -- a unit that can be written has an entry, so that its table has numbers
 writable_numbers : (unit : HeadAndForest) (table : Listing) (columns : List Spec) (numbers lens : List ℕ) → IsWritable unit table columns numbers lens → numbers ≢ []
 writable_numbers unit table columns numbers lens w none =
-    let walk = (trees_are_walks unit.forest.section (declarations_of table) (entries_at unit.head) (listed_to unit.forest w.held.0)).0 w.held.1.tree in
+    let held = w.held.held in
+    let walk = (trees_are_walks unit.forest.section (declarations_of table) (entries_at unit.head) (listed_to (with_values unit.forest w.held.values) held.0)).0 held.1.tree in
     let bad = w.used 0 (filled unit.forest.entries walk.some) in
     bad (ap (λ (z : List ℕ). slice_index z (entry_at unit.forest.entries 0).decl) none)
 
@@ -60,6 +61,6 @@ has_table world tables u (reach, is) new known =
     let count : length world.table_of ≡ length is.r.links.units = is.holds.tables.count in
     record { known = known; numbered = omega arith; old = is.holds.tables.inside u (omega arith); new = new }
 
-pub has_written : (world : World) (tables : List NewTable) (u : ℕ) (lens : List ℕ) → ((reach : Reach) × IsWorldOf world.image reach world) → AreWritable world tables → u < length world.units → AreLensFor (unit_in world.units u).forest lens → HasTable world tables u
+pub has_written : (world : World) (tables : List NewTable) (u : ℕ) (lens : List ℕ) → ((reach : Reach) × IsWorldOf world.image reach world) → AreWritable world tables → u < length world.units → AreLensFor (written_in world tables u).forest lens → HasTable world tables u
 has_written world tables u lens is writable known fit =
-    has_table world tables u is (writable_new tables (slice_index world.table_of u) (unit_in world.units u) (table_at world.tables (slice_index world.table_of u)).table lens (writable u lens known fit)) known
+    has_table world tables u is (writable_new tables (slice_index world.table_of u) (written_in world tables u) (table_at world.tables (slice_index world.table_of u)).table lens (writable u lens known fit)) known

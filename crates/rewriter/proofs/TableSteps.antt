@@ -7,7 +7,6 @@ use Rattle.dw_base.specs.declared.fault.NoMemory.{NoMemory}
 use Rattle.dw_base.specs.declared.fault.Reach.{Reach}
 use Rattle.abbrev_tables.specs.declared.decl.Spec.{Spec}
 use Rattle.abbrev_tables.specs.Written.{IsWritableColumn}
-use Rattle.column_forms.specs.TableColumns.{AreBestFor}
 use Rattle.entry_read.specs.Units.{HeadAndForest, IsTable}
 use Rattle.value_links.specs.declared.units.NamedTable.{NamedTable}
 use Rattle.value_links.specs.Sections.{debug_info}
@@ -16,7 +15,7 @@ use Rattle.rewriter.specs.declared.tables.NewTable.{NewTable}
 use Rattle.rewriter.specs.declared.uses.Uses.{Uses}
 use Rattle.rewriter.specs.inside.Tables.{AreColumnsChosen}
 use Rattle.rewriter.specs.inside.Counting.{AreCounted, counts_in}
-use Rattle.rewriter.specs.inside.Columns.{units_with, values_of_units, AreUnitsOf}
+use Rattle.rewriter.specs.inside.Columns.{units_with, AreUnitsOf, AreBestInside}
 use Rattle.rewriter.proofs.ColumnMeanings.{AreOfTable}
 use Rattle.rewriter.proofs.ColumnNamed.{units_of_table}
 use Rattle.rewriter.proofs.ColumnsChosen.{columns_chosen, columns_writable}
@@ -48,11 +47,11 @@ module _ (world : World) (reach : Reach) (is : IsWorldOf world.image reach world
     pub units_stand : (section : List ℕ) × AreUnitsOf units old.table named section
     units_stand = (debug_info world.image, units_there)
 
-    module _ (columns : List Spec) (best : (section : List ℕ) → AreUnitsOf units old.table named section → AreBestFor section (values_of_units units old.table.decls named) old.table.specs columns) where
-      best_there : AreBestFor (debug_info world.image) (values_of_units world.units old.table.decls (units_with world.table_of number (length world.units))) old.table.specs columns
+    module _ (columns : List Spec) (best : (section : List ℕ) → AreUnitsOf units old.table named section → AreBestInside section units old.table.decls named old.table.specs columns) where
+      best_there : AreBestInside (debug_info world.image) world.units old.table.decls (units_with world.table_of number (length world.units)) old.table.specs columns
       best_there =
-          let listed = subst (λ (ns : List ℕ). AreBestFor (debug_info world.image) (values_of_units units old.table.decls ns) old.table.specs columns) named_are (best (debug_info world.image) units_there) in
-          subst (λ (us : List HeadAndForest). AreBestFor (debug_info world.image) (values_of_units us old.table.decls (units_with world.table_of number (length world.units))) old.table.specs columns) units_are listed
+          let listed = subst (λ (ns : List ℕ). AreBestInside (debug_info world.image) units old.table.decls ns old.table.specs columns) named_are (best (debug_info world.image) units_there) in
+          subst (λ (us : List HeadAndForest). AreBestInside (debug_info world.image) us old.table.decls (units_with world.table_of number (length world.units)) old.table.specs columns) units_are listed
 
       -- the columns that are best for the values are those in their least forms
       pub chosen_there : AreColumnsChosen world.units (table_at world.tables number) columns
@@ -62,7 +61,7 @@ module _ (world : World) (reach : Reach) (is : IsWorldOf world.image reach world
       writable_there = columns_writable world.units (table_at world.tables number) (table_known world reach is number known) columns chosen_there
 
       pub renewed_there : length columns ≡ length old.table.specs
-      renewed_there = best_there.count
+      renewed_there = best_there.inside.count ∙ best_there.are.count
 
 -- the columns of a table that is written are those that were chosen
 pub chosen_still : (units : List HeadAndForest) (old : NamedTable) (columns : List Spec) (r : Result NewTable NoMemory) → AreColumnsChosen units old columns → IfOk r (λ new. new.columns.items ≡ columns) → IfOk r (λ new. AreColumnsChosen units old new.columns.items)

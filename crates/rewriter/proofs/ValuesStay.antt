@@ -1,5 +1,5 @@
 -- The values of a unit that is written anew: each stands with the number and the name that it had, and means what it meant but for a
--- new number or new bytes of an expression.
+-- new number or new bytes of an expression, where some references are taken as ones within the unit.
 use Rattle.std.proofs.Common.{◌≡◌, ◌<◌, ◌+◌, ◌∙◌, ◌++◌, ℕ, suc, List, [], ◌∷◌, length, sym, ap, subst, refl, arith}
 use Rattle.std.specs.Prelude.{slice_index}
 use Rattle.std.proofs.Math.Seq.{get_or-append_seam}
@@ -23,11 +23,12 @@ use Rattle.value_links.specs.Values.{entry_of, declaration_of, values_of, HasVal
 use Rattle.value_links.specs.World.{World}
 use Rattle.rewriter.specs.declared.tables.NewTable.{NewTable}
 use Rattle.rewriter.specs.declared.new_places.NewPlaces.{NewPlaces}
+use Rattle.rewriter.specs.inside.Taken.{MeansFor}
 use Rattle.rewriter.specs.inside.Numbers.{IsNewValue}
 use Rattle.rewriter.specs.inside.Follows.{AreReadAnew}
 use Rattle.rewriter.proofs.Meant.{read_unit_at}
 use Rattle.rewriter.proofs.MovedValues.{split_at, as_many}
-use Rattle.rewriter.proofs.MovedEntries.{renewed_by, moved, entry_moved, entries_count, same_declared, values_are, values_mean}
+use Rattle.rewriter.proofs.MovedEntries.{renewed_by, moved, entry_moved, entries_count, same_declared, taken_meaning, means_taken, as_many_values, values_are, values_mean}
 
 -- VALUES BY THEIR NUMBERS
 
@@ -115,24 +116,26 @@ module _ {file : List ℕ} {world : World} {tables : List NewTable} {places : Li
   pub new_read : (u : ℕ) → u < length r.links.units → IsUnitRead info abbrevs (unit_at s.links u)
   new_read u inside = All-get_or (IsUnitRead info abbrevs) s.links.units u no_unit (subst (λ (z : ℕ). u < z) (sym all.units.count) inside) all.units.read.each
 
-  -- a value means the old one, with its new number or the new bytes of its expression
+  -- a value means the old one, as it is taken, with its new number or the new bytes of its expression
   pub record IsMovedValue (u id name : ℕ) (old new : Meaning) : Type 0 where
+    pub taken : Meaning
+    pub took : MeansFor (unit_at r.links u).head old taken
     pub held : ℕ
     pub made : List ℕ
-    pub numbered : IsNewValue r.links places new_places u id name old held made
-    pub value : new ≡ renewed held made old
+    pub numbered : IsNewValue r.links places new_places u id name taken held made
+    pub value : new ≡ renewed held made taken
 
   values_count : (u id : ℕ) → u < length r.links.units → id < length (unit_at r.links u).forest.entries → length (values_of (unit_at s.links u) id) ≡ length (values_of (unit_at r.links u) id)
   values_count u id inside known =
       let e = entry_of (unit_at r.links u) id in
-      ap (λ (z : List Value). length z) (values_are all u id inside known) ∙ as_many (unit_at r.links u).forest.values (unit_at s.links u).forest.values e.first e.count (moved all u inside).values.count
+      ap (λ (z : List Value). length z) (values_are all u id inside known) ∙ as_many (unit_at r.links u).forest.values (unit_at s.links u).forest.values e.first e.count (as_many_values all u inside)
 
-  same_meant : (u id : ℕ) (inside : u < length r.links.units) → id < length (unit_at r.links u).forest.entries → (k : ℕ) → k < length (values_of (unit_at r.links u) id) → meant_in (unit_at s.links u).forest.section (value_at (values_of (unit_at s.links u) id) k) ≡ renewed_by (moved all u inside).numbers ((entry_of (unit_at r.links u) id).first + k) (meant_in (unit_at r.links u).forest.section (value_at (values_of (unit_at r.links u) id) k))
+  same_meant : (u id : ℕ) (inside : u < length r.links.units) → id < length (unit_at r.links u).forest.entries → (k : ℕ) → k < length (values_of (unit_at r.links u) id) → meant_in (unit_at s.links u).forest.section (value_at (values_of (unit_at s.links u) id) k) ≡ renewed_by (moved all u inside).numbers ((entry_of (unit_at r.links u) id).first + k) (taken_meaning all u ((entry_of (unit_at r.links u) id).first + k))
   same_meant u id inside known k k_in =
       ap (λ (z : List Value). meant_in (unit_at s.links u).forest.section (value_at z k)) (values_are all u id inside known) ∙ values_mean all u id inside k k_in
 
   -- what an old value becomes
-  numbered_as : (u id number name : ℕ) (meaning : Meaning) (place : ℕ) (inside : u < length r.links.units) → HasValueAt (unit_at r.links u) id number name meaning place → IsNewValue r.links places new_places u id name meaning (slice_index (moved all u inside).numbers.held.items number) (made_of (moved all u inside).numbers.expressions.ends.items (moved all u inside).numbers.expressions.bytes.items number)
+  numbered_as : (u id number name : ℕ) (meaning : Meaning) (place : ℕ) (inside : u < length r.links.units) → HasValueAt (unit_at r.links u) id number name meaning place → IsNewValue r.links places new_places u id name (taken_meaning all u number) (slice_index (moved all u inside).numbers.held.items number) (made_of (moved all u inside).numbers.expressions.ends.items (moved all u inside).numbers.expressions.bytes.items number)
   numbered_as u id number name meaning place inside h = (moved all u inside).numbered.each id number name meaning place h
 
   pub value_went : (u id number name : ℕ) (meaning : Meaning) (place : ℕ) → u < length r.links.units → HasValueAt (unit_at r.links u) id number name meaning place → (new : Meaning) × (now : ℕ) × HasValueAt (unit_at s.links u) id number name new now × IsMovedValue u id name meaning new
@@ -140,12 +143,11 @@ module _ {file : List ℕ} {world : World} {tables : List NewTable} {places : Li
       let v = value_of (unit_at r.links u) id number name meaning place h in
       let held : ℕ = slice_index (moved all u inside).numbers.held.items number in
       let made : List ℕ = made_of (moved all u inside).numbers.expressions.ends.items (moved all u inside).numbers.expressions.bytes.items number in
+      let taken : Meaning = taken_meaning all u number in
       let same = same_declared all u id inside v.known in
-      let means : meant_in (unit_at s.links u).forest.section (value_at (values_of (unit_at s.links u) id) v.k) ≡ renewed held made meaning =
-      same_meant u id inside v.known v.k v.value_in
-      ∙ ap (λ (z : ℕ). renewed_by (moved all u inside).numbers z (meant_in (unit_at r.links u).forest.section (value_at (values_of (unit_at r.links u) id) v.k))) (sym v.numbered)
-      ∙ ap (renewed held made) (sym v.meant) in
-      let now : IsValueOf (unit_at s.links u) id number name (renewed held made meaning) = record {
+      let means : meant_in (unit_at s.links u).forest.section (value_at (values_of (unit_at s.links u) id) v.k) ≡ renewed held made taken =
+      same_meant u id inside v.known v.k v.value_in ∙ ap (λ (z : ℕ). renewed_by (moved all u inside).numbers z (taken_meaning all u z)) (sym v.numbered) in
+      let now : IsValueOf (unit_at s.links u) id number name (renewed held made taken) = record {
         known = subst (λ (z : ℕ). id < z) (entries_count all u inside) v.known;
         k = v.k;
         column_in = subst (λ (z : ℕ). v.k < z) (sym same.named.count) v.column_in;
@@ -154,8 +156,8 @@ module _ {file : List ℕ} {world : World} {tables : List NewTable} {places : Li
         named = v.named ∙ sym (same.named.each v.k v.column_in);
         meant = sym means;
       } in
-      let (there, stands) = value_there info abbrevs (unit_at s.links u) id number name (renewed held made meaning) (new_read u inside) now in
-      (renewed held made meaning, there, stands, record { held = held; made = made; numbered = numbered_as u id number name meaning place inside h; value = refl })
+      let (there, stands) = value_there info abbrevs (unit_at s.links u) id number name (renewed held made taken) (new_read u inside) now in
+      (renewed held made taken, there, stands, record { taken = taken; took = means_taken all u id number name meaning place inside h; held = held; made = made; numbered = numbered_as u id number name meaning place inside h; value = refl })
 
   pub value_came : (u id number name : ℕ) (meaning : Meaning) (place : ℕ) → u < length r.links.units → HasValueAt (unit_at s.links u) id number name meaning place → (old : Meaning) × (was : ℕ) × HasValueAt (unit_at r.links u) id number name old was × IsMovedValue u id name old meaning
   value_came u id number name meaning place inside h =
@@ -178,5 +180,6 @@ module _ {file : List ℕ} {world : World} {tables : List NewTable} {places : Li
         meant = refl;
       } in
       let (there, stands) = value_there (debug_info file) (debug_abbrev file) (unit_at r.links u) id number name old (old_read u inside) was in
-      let value : meaning ≡ renewed held made old = v.meant ∙ same_meant u id inside known v.k value_in ∙ ap (λ (z : ℕ). renewed_by (moved all u inside).numbers z old) (sym numbered) in
-      (old, there, stands, record { held = held; made = made; numbered = numbered_as u id number name old there inside stands; value = value })
+      let taken : Meaning = taken_meaning all u number in
+      let value : meaning ≡ renewed held made taken = v.meant ∙ same_meant u id inside known v.k value_in ∙ ap (λ (z : ℕ). renewed_by (moved all u inside).numbers z (taken_meaning all u z)) (sym numbered) in
+      (old, there, stands, record { taken = taken; took = means_taken all u id number name old there inside stands; held = held; made = made; numbered = numbered_as u id number name old there inside stands; value = value })

@@ -21,11 +21,14 @@ use Rattle.value_links.specs.Tidy.{AreTidyExpressions}
 use Rattle.value_links.specs.World.{World}
 use Rattle.rewriter.specs.declared.tables.NewTable.{NewTable}
 use Rattle.rewriter.specs.declared.new_places.NewPlaces.{NewPlaces}
+use Rattle.rewriter.specs.inside.Taken.{MeansFor}
+use Rattle.rewriter.specs.inside.Placed.{written_in}
 use Rattle.rewriter.specs.inside.Numbers.{IsNewValue, IsNewExpression}
 use Rattle.rewriter.specs.inside.Follows.{AreReadAnew, ExpressionsAreWide, ExpressionsAreTidy}
 use Rattle.rewriter.proofs.Meant.{owners, values_size, value_same}
-use Rattle.rewriter.proofs.MovedEntries.{moved}
+use Rattle.rewriter.proofs.MovedEntries.{moved, taken_meaning, means_taken, written_count, as_many_values}
 use Rattle.rewriter.proofs.NewExpressions.{expression_span}
+use Rattle.rewriter.proofs.InwardMeanings.{was_taken}
 use Rattle.rewriter.proofs.ValuesStay.{IsValueOf, value_there, old_read}
 
 -- MEANINGS
@@ -78,22 +81,35 @@ stands_somewhere info abbrevs unit number is inside =
 -- EXPRESSIONS THAT ARE WRITTEN ANEW
 
 module _ {file : List ℕ} {world : World} {tables : List NewTable} {places : List Places} {new_places : NewPlaces} {info abbrevs : List ℕ} {r s : Reading} (all : AreReadAnew file world tables places new_places info abbrevs r s) where
+  -- what is written for a value with a number
+  taken_there : (u number : ℕ) → u < length r.links.units → number < length (unit_at r.links u).forest.values → MeansFor (unit_at r.links u).head (meant_in (unit_at r.links u).forest.section (value_at (unit_at r.links u).forest.values number)) (taken_meaning all u number)
+  taken_there u number inside known =
+      let v = stands_somewhere _ _ (unit_at r.links u) number (old_read all u inside) known in
+      means_taken all u v.id number v.name (meant_in (unit_at r.links u).forest.section (value_at (unit_at r.links u).forest.values number)) v.place inside v.stands
+
+  -- an expression is taken as it is
+  expression_kept : (u number : ℕ) → u < length r.links.units → number < length (unit_at r.links u).forest.values → (bytes : List ℕ) → meant_in (unit_at r.links u).forest.section (value_at (unit_at r.links u).forest.values number) ≡ Expression bytes → taken_meaning all u number ≡ Expression bytes
+  expression_kept u number inside known bytes meant = subst (λ (z : Meaning). MeansFor (unit_at r.links u).head z (taken_meaning all u number)) meant (taken_there u number inside known)
+
   -- an expression is written anew
   new_expression : (u number : ℕ) (inside : u < length r.links.units) → number < length (unit_at r.links u).forest.values → (bytes : List ℕ) → meant_in (unit_at r.links u).forest.section (value_at (unit_at r.links u).forest.values number) ≡ Expression bytes → IsNewExpression r.links places u bytes (made_of (moved all u inside).numbers.expressions.ends.items (moved all u inside).numbers.expressions.bytes.items number)
   new_expression u number inside known bytes meant =
       let m = moved all u inside in
       let v = stands_somewhere _ _ (unit_at r.links u) number (old_read all u inside) known in
-      let is : IsNewValue r.links places new_places u v.id v.name (meant_in (unit_at r.links u).forest.section (value_at (unit_at r.links u).forest.values number)) (slice_index m.numbers.held.items number) (made_of m.numbers.expressions.ends.items m.numbers.expressions.bytes.items number) = m.numbered.each v.id number v.name (meant_in (unit_at r.links u).forest.section (value_at (unit_at r.links u).forest.values number)) v.place v.stands in
-      subst (λ (z : Meaning). IsNewValue r.links places new_places u v.id v.name z (slice_index m.numbers.held.items number) (made_of m.numbers.expressions.ends.items m.numbers.expressions.bytes.items number)) meant is
+      let is : IsNewValue r.links places new_places u v.id v.name (taken_meaning all u number) (slice_index m.numbers.held.items number) (made_of m.numbers.expressions.ends.items m.numbers.expressions.bytes.items number) = m.numbered.each v.id number v.name (meant_in (unit_at r.links u).forest.section (value_at (unit_at r.links u).forest.values number)) v.place v.stands in
+      subst (λ (z : Meaning). IsNewValue r.links places new_places u v.id v.name z (slice_index m.numbers.held.items number) (made_of m.numbers.expressions.ends.items m.numbers.expressions.bytes.items number)) (expression_kept u number inside known bytes meant) is
 
   expressions_wide : AreExpressionsWithin s.links Wide
   expressions_wide u number span now_in is =
       let inside : u < length r.links.units = subst (λ (z : ℕ). u < z) all.units.count now_in in
       let m = moved all u inside in
-      let known : number < length (unit_at r.links u).forest.values = subst (λ (z : ℕ). number < z) m.values.count is.inside in
+      let known : number < length (unit_at r.links u).forest.values = subst (λ (z : ℕ). number < z) (as_many_values all u inside) is.inside in
+      let among : number < length (written_in world tables u).forest.values = subst (λ (z : ℕ). number < z) m.values.count is.inside in
       let now : meant_in (unit_at s.links u).forest.section (value_at (unit_at s.links u).forest.values number) ≡ Expression (bytes_in (unit_at s.links u).forest.section span) = ap (meant_in (unit_at s.links u).forest.section) is.is in
-      let (old, meant, made) = was_expression (slice_index m.numbers.held.items number) (made_of m.numbers.expressions.ends.items m.numbers.expressions.bytes.items number) (bytes_in (unit_at s.links u).forest.section span) (meant_in (unit_at r.links u).forest.section (value_at (unit_at r.links u).forest.values number)) (sym (m.values.each number known) ∙ now) in
-      let e = new_expression u number inside known old meant in
+      let (old, meant, made) = was_expression (slice_index m.numbers.held.items number) (made_of m.numbers.expressions.ends.items m.numbers.expressions.bytes.items number) (bytes_in (unit_at s.links u).forest.section span) (taken_meaning all u number) (sym (m.values.each number among) ∙ now) in
+      let was : meant_in (unit_at r.links u).forest.section (value_at (unit_at r.links u).forest.values number) ≡ Expression old =
+      was_taken (unit_at r.links u).head _ (Expression old) (subst (MeansFor (unit_at r.links u).head _) meant (taken_there u number inside known)) (λ k same. absurd (cc (same))) in
+      let e = new_expression u number inside known old was in
       (with_refs (refs_among e.ops e.numbers) (all_meant old e.ops), subst (IsExpression Wide (with_refs (refs_among e.ops e.numbers) (all_meant old e.ops))) made e.written.written.expression)
 
   expressions_tidy : AreTidyExpressions r.links s.links
@@ -102,12 +118,12 @@ module _ {file : List ℕ} {world : World} {tables : List NewTable} {places : Li
       let bytes : List ℕ = bytes_in (unit_at r.links u).forest.section old in
       let made : List ℕ = made_of m.numbers.expressions.ends.items m.numbers.expressions.bytes.items number in
       let meant : meant_in (unit_at r.links u).forest.section (value_at (unit_at r.links u).forest.values number) ≡ Expression bytes = ap (meant_in (unit_at r.links u).forest.section) is.is in
-      let now : meant_in (unit_at s.links u).forest.section (value_at (unit_at s.links u).forest.values number) ≡ Expression made = m.values.each number is.inside ∙ ap (renewed (slice_index m.numbers.held.items number) made) meant in
+      let now : meant_in (unit_at s.links u).forest.section (value_at (unit_at s.links u).forest.values number) ≡ Expression made = m.values.each number (subst (λ (z : ℕ). number < z) (sym (written_count all u inside)) is.inside) ∙ ap (renewed (slice_index m.numbers.held.items number) made) (expression_kept u number inside is.inside bytes meant) in
       let e = new_expression u number inside is.inside bytes meant in
       let (span, there, same) = expression_span (unit_at s.links u).forest.section (value_at (unit_at s.links u).forest.values number) made (sym now) in
       record {
         new = span;
-        stands = record { inside = subst (λ (z : ℕ). number < z) (sym m.values.count) is.inside; is = there };
+        stands = record { inside = subst (λ (z : ℕ). number < z) (sym (as_many_values all u inside)) is.inside; is = there };
         refs = refs_among e.ops e.numbers;
         ops = e.ops;
         spelled = e.spelled;

@@ -19,7 +19,7 @@ use Rattle.value_links.specs.World.{World, IsWorldOf}
 use Rattle.rewriter.specs.declared.tables.NewTable.{NewTable}
 use Rattle.rewriter.specs.declared.new_places.NewPlaces.{NewPlaces}
 use Rattle.rewriter.specs.inside.Tables.{AreTablesWritten}
-use Rattle.rewriter.specs.inside.Placed.{places_at, unit_in}
+use Rattle.rewriter.specs.inside.Placed.{places_at, written_in}
 use Rattle.rewriter.specs.inside.Held.{table_for, IsUnitBehind}
 use Rattle.rewriter.proofs.Standing.{held_count}
 use Rattle.rewriter.proofs.Final.{table_known, unit_reads}
@@ -49,4 +49,4 @@ unit_to world reach tables places new_places abbrevs section u is written known 
     let old : slice_index world.table_of u < length world.tables = is.holds.tables.inside u (omega arith) in
     let table = written.each (slice_index world.table_of u) old in
     let anew = behind.written (declarations_of table.listing) table.renumbered in
-    (one_place (unit_in world.units u) (table_for world u) _ _ (lens_anew (unit_in world.units u).forest (new_values behind.numbers)) (places_at places u).start _ _ _ _ (length section) (places_at places u).end (table_coded world reach u is known) anew.placed behind.placed).2
+    (one_place (written_in world tables u) (table_for world u) _ _ (lens_anew (written_in world tables u).forest (new_values behind.numbers)) (places_at places u).start _ _ _ _ (length section) (places_at places u).end (table_coded world reach u is known) anew.placed behind.placed).2

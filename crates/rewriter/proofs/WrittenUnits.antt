@@ -24,13 +24,14 @@ use Rattle.value_links.specs.World.{World, head_and_forest, table_at, Holds, IsW
 use Rattle.rewriter.specs.declared.tables.NewTable.{NewTable}
 use Rattle.rewriter.specs.declared.new_places.NewPlaces.{NewPlaces}
 use Rattle.rewriter.specs.inside.Tables.{new_table_at, IsTableWritten, AreTablesWritten}
-use Rattle.rewriter.specs.inside.Placed.{PlacesAnew, places_anew, places_at, unit_in, PlacesFollow, ArePlacesOf}
+use Rattle.rewriter.specs.inside.Placed.{PlacesAnew, places_anew, places_at, unit_in, written_in, AreTaken, PlacesFollow, ArePlacesOf}
 use Rattle.rewriter.specs.inside.Numbers.{AreNewNumbers}
 use Rattle.rewriter.specs.inside.Units.{IsUnitMoved, AreUnitsWritten}
 use Rattle.rewriter.specs.inside.Held.{table_for, IsUnitBehind, StandAnew}
 use Rattle.rewriter.proofs.HeadsStay.{head_stays}
 use Rattle.rewriter.proofs.UnitsStay.{unit_stays, moved_stay, short_stays, ends_stay, written_fills, written_read}
 use Rattle.rewriter.proofs.Standing.{held_count, held_unit}
+use Rattle.rewriter.proofs.TakenLaws.{taken_count}
 use Rattle.rewriter.proofs.Final.{table_known, unit_once}
 use Rattle.rewriter.proofs.Written.{one_place, table_coded}
 
@@ -82,7 +83,7 @@ sums_same f (x ∷ xs) (y ∷ ys) size each =
     let more : sum_by f xs ≡ sum_by f ys = sums_same f xs ys (let e : length (x ∷ xs) ≡ length (y ∷ ys) = size in omega arith) (λ u inside. each (suc u) (let i : u < length xs = inside in omega arith)) in
     sum_by-cons f x xs ∙ ap (λ (n : ℕ). n + sum_by f xs) here ∙ ap (λ (n : ℕ). f y + n) more ∙ sym (sum_by-cons f y ys)
 
-module _ (world : World) (reach : Reach) (tables : List NewTable) (places : List Places) (new_places : NewPlaces) (abbrevs info : List ℕ) (whole : ℕ) (is : IsWorldOf world.image reach world) (written : AreTablesWritten world abbrevs tables) (are : ArePlacesOf world tables places whole) (file : List ℕ) (r : Reading) (holds : Holds file world r) where
+module _ (world : World) (reach : Reach) (tables : List NewTable) (places : List Places) (new_places : NewPlaces) (abbrevs info : List ℕ) (whole : ℕ) (is : IsWorldOf world.image reach world) (written : AreTablesWritten world abbrevs tables) (are : ArePlacesOf world tables places whole) (taken : AreTaken world tables) (file : List ℕ) (r : Reading) (holds : Holds file world r) where
   -- A unit is read of the new section, and is the old one with a number, moved.
   record IsUnitAnew (u : ℕ) (new : UnitRead) : Type 0 where
     pub read : IsUnitRead info abbrevs new
@@ -104,7 +105,7 @@ module _ (world : World) (reach : Reach) (tables : List NewTable) (places : List
     anew : IsTableWritten world.units abbrevs (table_at world.tables (slice_index world.table_of u)) (new_table_at tables (slice_index world.table_of u))
     anew = written.each (slice_index world.table_of u) (is.holds.tables.inside u valid_known)
 
-    w : IsWrittenAnew (unit_in world.units u) (table_for world u) (new_table_at tables (slice_index world.table_of u)).columns (new_table_at tables (slice_index world.table_of u)).numbers (declarations_of anew.listing) behind.numbers.table behind.numbers.type_offset (new_values behind.numbers) (places_at places u).start (take (places_at places u).end info)
+    w : IsWrittenAnew (written_in world tables u) (table_for world u) (new_table_at tables (slice_index world.table_of u)).columns (new_table_at tables (slice_index world.table_of u)).numbers (declarations_of anew.listing) behind.numbers.table behind.numbers.type_offset (new_values behind.numbers) (places_at places u).start (take (places_at places u).end info)
     w = behind.written (declarations_of anew.listing) anew.renumbered
 
     numbered : AreNewNumbers world r.links tables places new_places u behind.numbers
@@ -120,7 +121,7 @@ module _ (world : World) (reach : Reach) (tables : List NewTable) (places : List
     unit_read =
         let inside : behind.numbers.table < length abbrevs = subst (λ (n : ℕ). n < length abbrevs) (sym numbered.table_at) anew.inside in
         let stands : IsTableAt abbrevs behind.numbers.table anew.listing = subst (λ (n : ℕ). IsTableAt abbrevs n anew.listing) (sym numbered.table_at) anew.stands in
-        let first = written_read (unit_in world.units u) (table_for world u) anew.listing (new_table_at tables (slice_index world.table_of u)).columns (new_table_at tables (slice_index world.table_of u)).numbers behind.numbers.table behind.numbers.type_offset (new_values behind.numbers) (places_at places u).start (take (places_at places u).end info) (drop (places_at places u).end info) abbrevs w inside stands in
+        let first = written_read (written_in world tables u) (table_for world u) anew.listing (new_table_at tables (slice_index world.table_of u)).columns (new_table_at tables (slice_index world.table_of u)).numbers behind.numbers.table behind.numbers.type_offset (new_values behind.numbers) (places_at places u).start (take (places_at places u).end info) (drop (places_at places u).end info) abbrevs w inside stands in
         subst (λ (z : List ℕ). IsUnitRead z abbrevs (read_in z)) joined first
 
     head_there : IsHead info w.head
@@ -135,12 +136,11 @@ module _ (world : World) (reach : Reach) (tables : List NewTable) (places : List
         let below : (places_at places u).start ≤ length (take (places_at places u).end info) = omega arith in
         omega (arith, at, len, size, below)
 
-    values_there : AreMovedValues (unit_at r.links u).forest (new_values behind.numbers) info (listed_to (read_in info).forest 0)
+    values_there : AreMovedValues (written_in world tables u).forest (new_values behind.numbers) info (listed_to (read_in info).forest 0)
     values_there =
-        let stay : AreMovedValues (unit_in world.units u).forest (new_values behind.numbers) (take (places_at places u).end info ++ drop (places_at places u).end info) w.forest = moved_stay (take (places_at places u).end info) (drop (places_at places u).end info) w.head (declarations_of anew.listing) w.forest w.is_unit (unit_in world.units u).forest (new_values behind.numbers) w.values in
-        let here : AreMovedValues (unit_in world.units u).forest (new_values behind.numbers) info w.forest = subst (λ (z : List ℕ). AreMovedValues (unit_in world.units u).forest (new_values behind.numbers) z w.forest) joined stay in
-        let same : AreMovedValues (unit_at r.links u).forest (new_values behind.numbers) info w.forest = subst (λ (h : HeadAndForest). AreMovedValues h.forest (new_values behind.numbers) info w.forest) held_as here in
-        record { count = same.count; each = same.each }
+        let stay : AreMovedValues (written_in world tables u).forest (new_values behind.numbers) (take (places_at places u).end info ++ drop (places_at places u).end info) w.forest = moved_stay (take (places_at places u).end info) (drop (places_at places u).end info) w.head (declarations_of anew.listing) w.forest w.is_unit (written_in world tables u).forest (new_values behind.numbers) w.values in
+        let here : AreMovedValues (written_in world tables u).forest (new_values behind.numbers) info w.forest = subst (λ (z : List ℕ). AreMovedValues (written_in world tables u).forest (new_values behind.numbers) z w.forest) joined stay in
+        record { count = here.count; each = here.each }
 
     short_there : (id : ℕ) → id < length w.forest.entries → StandsShort info (declarations_of anew.listing) w.forest.values (entry_at w.forest.entries id)
     short_there id inside =
@@ -153,13 +153,13 @@ module _ (world : World) (reach : Reach) (tables : List NewTable) (places : List
 
     filled_there : IsUnit info w.head (declarations_of anew.listing) (listed_to (read_in info).forest (end_of w.head))
     filled_there =
-        let fills : end_of w.head ≡ w.forest.place = written_fills (unit_in world.units u) (table_for world u) (new_table_at tables (slice_index world.table_of u)).columns (new_table_at tables (slice_index world.table_of u)).numbers (declarations_of anew.listing) behind.numbers.table behind.numbers.type_offset (new_values behind.numbers) (places_at places u).start (take (places_at places u).end info) w in
+        let fills : end_of w.head ≡ w.forest.place = written_fills (written_in world tables u) (table_for world u) (new_table_at tables (slice_index world.table_of u)).columns (new_table_at tables (slice_index world.table_of u)).numbers (declarations_of anew.listing) behind.numbers.table behind.numbers.type_offset (new_values behind.numbers) (places_at places u).start (take (places_at places u).end info) w in
         let stays : IsUnit (take (places_at places u).end info ++ drop (places_at places u).end info) w.head (declarations_of anew.listing) w.forest = unit_stays (take (places_at places u).end info) (drop (places_at places u).end info) w.head (declarations_of anew.listing) w.forest w.is_unit fills in
         let here : IsUnit info w.head (declarations_of anew.listing) w.forest = subst (λ (z : List ℕ). IsUnit z w.head (declarations_of anew.listing) w.forest) joined stays in
         subst (λ (place : ℕ). IsUnit info w.head (declarations_of anew.listing) (listed_to (read_in info).forest place)) (sym fills) here
 
     placed_there : (map (λ (e : Entry). e.at) w.forest.entries ≡ (places_at places u).entries) × (map (λ (e : ChainEnd). e.at) w.forest.ends ≡ (places_at places u).ends) × (length (take (places_at places u).end info) ≡ (places_at places u).end)
-    placed_there = one_place (unit_in world.units u) (table_for world u) (new_table_at tables (slice_index world.table_of u)).columns (new_table_at tables (slice_index world.table_of u)).numbers (lens_anew (unit_in world.units u).forest (new_values behind.numbers)) (places_at places u).start (map (λ (e : Entry). e.at) w.forest.entries) (places_at places u).entries (map (λ (e : ChainEnd). e.at) w.forest.ends) (places_at places u).ends (length (take (places_at places u).end info)) (places_at places u).end (table_coded world reach u is known) w.placed behind.placed
+    placed_there = one_place (written_in world tables u) (table_for world u) (new_table_at tables (slice_index world.table_of u)).columns (new_table_at tables (slice_index world.table_of u)).numbers (lens_anew (written_in world tables u).forest (new_values behind.numbers)) (places_at places u).start (map (λ (e : Entry). e.at) w.forest.entries) (places_at places u).entries (map (λ (e : ChainEnd). e.at) w.forest.ends) (places_at places u).ends (length (take (places_at places u).end info)) (places_at places u).end (table_coded world reach u is known) w.placed behind.placed
 
     moved_there : IsUnitMoved world r.links tables places new_places u (read_in info)
     moved_there = record {
@@ -198,7 +198,7 @@ module _ (world : World) (reach : Reach) (tables : List NewTable) (places : List
     values_kept u inside =
         let known : u < length world.units = subst (λ (n : ℕ). u < n) g.count inside in
         let moved : IsUnitMoved world r.links tables places new_places u (unit_among g.units u) = (g.each u known).moved in
-        moved.values.count ∙ ap (λ (x : UnitRead). length x.forest.values) (unit_once file world.image world r is.r u holds is.holds known)
+        moved.values.count ∙ taken_count (unit_in world.units u) (written_in world tables u) (taken u known) ∙ ap (λ (h : HeadAndForest). length h.forest.values) (held_unit world.image world is.r u is.holds)
 
     within : AreWithin g.units
     within =

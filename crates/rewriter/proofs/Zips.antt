@@ -11,6 +11,12 @@ module _ {A B : Type 0} where
   zip_weaker P Q each (a ∷ xs) [] zip = absurd zip
   zip_weaker P Q each (a ∷ xs) (b ∷ ys) (first, zip) = (each a b first, zip_weaker P Q each xs ys zip)
 
+  pub zip_from : (R : A → B → Type 0) (xs : List A) (ys : List B) (d : A) (e : B) → length ys ≡ length xs → ((k : ℕ) → k < length xs → R (get_or xs k d) (get_or ys k e)) → AllZip R xs ys
+  zip_from R [] [] d e same each = tt
+  zip_from R [] (b ∷ ys) d e same each = absurd (omega (arith, same))
+  zip_from R (a ∷ xs) [] d e same each = absurd (omega (arith, same))
+  zip_from R (a ∷ xs) (b ∷ ys) d e same each = (each 0 (omega arith), zip_from R xs ys d e (omega (arith, same)) (λ k inside. each (suc k) (omega (arith, inside))))
+
   -- what holds of the first ones tells what holds of the second ones
   pub zip_all : (P : A → B → Type 0) (Q : A → Type 0) (R : B → Type 0) → ((a : A) (b : B) → P a b → Q a → R b) → (xs : List A) (ys : List B) → AllZip P xs ys → All Q xs → All R ys
   zip_all P Q R each [] [] zip all = All-nil R

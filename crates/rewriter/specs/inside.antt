@@ -19,6 +19,7 @@ pub mod Rewritten
 pub mod Runs
 pub mod Sections
 pub mod Tables
+pub mod Taken
 pub mod Units
 pub mod ViewsAnew
 pub mod ViewsKept

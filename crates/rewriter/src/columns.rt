@@ -3,8 +3,9 @@ ghost use Rattle.std.specs.Prelude.{◌≡◌, ◌<◌, ◌^◌, ℕ, List, [], 
 ghost use Rattle.std.specs.List.{All};
 ghost use Rattle.column_forms.specs.TableColumns.{AreBestFor};
 ghost use Rattle.entry_read.specs.Units.{declarations_of, IsTable, IsUnitHeld};
-ghost use Rattle.rewriter.specs.inside.Columns.{AreNamers, values_of_units, HaveRoomFor, AddsEntries, AreUnitsOf};
+ghost use Rattle.rewriter.specs.inside.Columns.{AreNamers, values_of_units, HaveRoomFor, AddsEntries, AreUnitsOf, AreBestInside};
 
+use crate::inside_columns::{has_section_refs, see_columns, take_inside};
 use abbrev_tables::{Spec, Table};
 use column_forms::Tallies;
 use dw_base::NoMemory;
@@ -76,9 +77,9 @@ fn add_unit(
     Ok(())
 }
 
-/// The columns of a table, each in the form in which its values take the fewest bytes, over all entries of these units, which
-/// have the table. `units` are all units, and `named` are the numbers of those. The only error is want of memory.
-pub fn choose_columns(
+// The columns of a table, each in the form in which its values take the fewest bytes as they were read, over all entries of these units,
+// which have the table. `units` are all units, and `named` are the numbers of those.
+fn best_columns(
     alloc: Global,
     units: &Vec<Unit<'_>>,
     named: &Vec<u32>,
@@ -94,4 +95,25 @@ pub fn choose_columns(
         add_unit(alloc, &mut tallies, table, &units[*number as usize])?;
     }
     Ok(tallies.best(alloc, specs)?)
+}
+
+/// The columns of a table, each in the form in which its values take the fewest bytes, over all entries of these units, which
+/// have the table. Where a column of DW_FORM_ref_addr has values, and all name places in their own units, it gets DW_FORM_ref_udata.
+/// `units` are all units, and `named` are the numbers of those. The only error is want of memory.
+pub fn choose_columns(
+    alloc: Global,
+    units: &Vec<Unit<'_>>,
+    named: &Vec<u32>,
+    table: &Table,
+) -> Result<Vec<Spec>, NoMemory>
+    requires table { IsTable table.now }
+    requires named { (section : List ℕ) × AreUnitsOf units.now.items table.now named.now.items section }
+    ensures { IfOk result (λ columns. (section : List ℕ) → AreUnitsOf units.now.items table.now named.now.items section → AreBestInside section units.now.items table.now.decls named.now.items table.now.specs columns.items) }
+{
+    let mut columns = best_columns(alloc, units, named, table)?;
+    if has_section_refs(&columns) {
+        let seen = see_columns(alloc, units, named, table)?;
+        take_inside(&mut columns, &seen);
+    }
+    Ok(columns)
 }

@@ -9,6 +9,7 @@ mod assemble_tests;
 mod certificate_tests;
 mod columns;
 mod file;
+mod inside_columns;
 mod list_expressions;
 mod list_slots;
 mod lists;
@@ -26,6 +27,7 @@ mod sections;
 mod spots;
 mod table_maps;
 mod tables;
+mod taken;
 #[cfg(test)]
 mod test_file;
 #[cfg(test)]

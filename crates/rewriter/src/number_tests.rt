@@ -1,6 +1,7 @@
 // What references and section offsets become, worked out by hand.
 use crate::numbers::new_numbers;
 use crate::places::place_units;
+use crate::taken::{taken_unit, written_unit};
 use crate::test_file::{FILE, new_places_of, tables_of, world_of};
 use dw_base::NoMemory;
 use std::alloc::Global;
@@ -16,7 +17,17 @@ fn numbers_of(alloc: Global, unit: u32) -> Result<NewNumbers, NoMemory> {
     let tables = tables_of(alloc, &world)?;
     let places = place_units(alloc, &world, &tables.tables)?.places;
     let new_places = new_places_of(alloc, &world)?;
-    new_numbers(alloc, &world, &tables.tables, &places, &new_places, unit)
+    let taken = taken_unit(alloc, &world, &tables.tables, unit as usize)?;
+    let own = written_unit(&world, &tables.tables, &taken, unit as usize);
+    new_numbers(
+        alloc,
+        &world,
+        own,
+        &tables.tables,
+        &places,
+        &new_places,
+        unit,
+    )
 }
 
 // Of the compilation unit: the root's program; the base type, which stands at 17 as before; and the code 0, from 31 to 24. Of the

@@ -4,6 +4,7 @@ ghost use Rattle.dw_base.specs.declared.fault.Reach.{Reach};
 ghost use Rattle.dw_base.specs.declared.fault.Reach.TheVariants.{Narrow};
 ghost use Rattle.entry_arena.specs.declared.entry.Target.{Target};
 ghost use Rattle.entry_arena.specs.Arena.{entry_at, chain_end_at, HasChainEnd};
+ghost use Rattle.entry_read.specs.Units.{HeadAndForest};
 ghost use Rattle.list_write.specs.Written.{moved_at};
 ghost use Rattle.value_links.specs.Reading.{Reading};
 ghost use Rattle.value_links.specs.Linked.{IsTargetAt};
@@ -12,7 +13,7 @@ ghost use Rattle.value_links.specs.inside.Checks.{IsNoExpr};
 ghost use Rattle.rewriter.specs.declared.new_places.NewPlaces.{NewPlaces as AnyPlaces};
 ghost use Rattle.rewriter.specs.inside.NewPlaces.{moved_lists, ViewsRise, AreViewsMoved};
 ghost use Rattle.rewriter.specs.inside.Tables.{AreTablesWritten};
-ghost use Rattle.rewriter.specs.inside.Placed.{unit_in, places_anew, places_at, ArePlacesOf};
+ghost use Rattle.rewriter.specs.inside.Placed.{unit_in, written_in, places_anew, places_at, AreTaken, ArePlacesOf};
 ghost use Rattle.rewriter.specs.inside.Numbers.{MovesTo, AreNewNumbers};
 ghost use Rattle.rewriter.specs.inside.Held.{HavePlaces, AllHavePlaces, AreNewPlaces, MeansSomething, IsLinkFor, IsNumberOf, EntryMeans, entry_in, name_in, value_in, AreNumbersOf, UnitMeans, AreNumbered, IsEntryPlaced, IsCounted, IsReferenceOf, AreOperationsNumbered, HasType, IsTypeMoved};
 
@@ -248,7 +249,7 @@ fn new_number(
 
 // The name of an attribute of an entry.
 pub(crate) fn name_of(world: &World<'_>, unit: u32, id: u32, column: u32) -> u64
-    requires entry { EntryMeans world.now unit id }
+    requires entry { (own : HeadAndForest) × EntryMeans world.now own unit id }
     requires column { column < (entry_in world.now unit id).count }
     ensures { result ≡ name_in world.now unit id column }
 {
@@ -258,34 +259,35 @@ pub(crate) fn name_of(world: &World<'_>, unit: u32, id: u32, column: u32) -> u64
     named.table.columns(entry.decl)[column as usize].name
 }
 
-// Its value.
-pub(crate) fn value_of(world: &World<'_>, unit: u32, id: u32, column: u32) -> Value
-    requires entry { EntryMeans world.now unit id }
+// Its value, in its unit as it is written.
+pub(crate) fn value_of(world: &World<'_>, own: &Unit<'_>, unit: u32, id: u32, column: u32) -> Value
+    requires entry { EntryMeans world.now own.now unit id }
     requires column { column < (entry_in world.now unit id).count }
-    ensures { result ≡ value_in world.now unit id column }
+    ensures { result ≡ value_in world.now own.now unit id column }
 {
-    let forest = world.units()[unit as usize].forest();
-    forest.values()[forest.entry(id).first as usize + column as usize]
+    let first = world.units()[unit as usize].forest().entry(id).first;
+    own.forest().values()[first as usize + column as usize]
 }
 
 // Appends the new numbers of an entry's values.
 fn push_numbers(
     held: &mut Vec<u64>,
     world: &World<'_>,
+    own: &Unit<'_>,
     places: &Vec<Places>,
     new_places: &NewPlaces,
     unit: u32,
     id: u32,
 ) -> Result<(), NoMemory>
-    requires entry { EntryMeans world.now unit id }
+    requires entry { EntryMeans world.now own.now unit id }
     requires placed { AllHavePlaces world.now places.now.items }
     requires new_places { AreNewPlaces world.now new_places.now }
-    ensures { OnOk result (AreNumbersOf world.now places.now.items new_places.now unit id held.old.items held.new.items) }
+    ensures { OnOk result (AreNumbersOf world.now own.now places.now.items new_places.now unit id held.old.items held.new.items) }
 {
     let count = world.units()[unit as usize].forest().entry(id).count;
     for column in 0..count {
         let name = name_of(world, unit, id, column);
-        let value = value_of(world, unit, id, column);
+        let value = value_of(world, own, unit, id, column);
         let number = new_number(world, places, new_places, unit, id, name, value);
         held.push(number)?;
     }
@@ -296,19 +298,20 @@ fn push_numbers(
 fn new_held(
     alloc: Global,
     world: &World<'_>,
+    own: &Unit<'_>,
     places: &Vec<Places>,
     new_places: &NewPlaces,
     unit: u32,
 ) -> Result<Vec<u64>, NoMemory>
-    requires unit { UnitMeans world.now unit }
+    requires unit { UnitMeans world.now own.now unit }
     requires placed { AllHavePlaces world.now places.now.items }
     requires new_places { AreNewPlaces world.now new_places.now }
-    ensures { IfOk result (λ held. AreNumbered world.now places.now.items new_places.now unit held.items) }
+    ensures { IfOk result (λ held. AreNumbered world.now own.now places.now.items new_places.now unit held.items) }
 {
     let count = world.units()[unit as usize].forest().len();
     let mut held: Vec<u64> = Vec::new(alloc);
     for id in 0..count {
-        push_numbers(&mut held, world, places, new_places, unit, id)?;
+        push_numbers(&mut held, world, own, places, new_places, unit, id)?;
     }
     Ok(held)
 }
@@ -394,11 +397,12 @@ fn new_type_offset(unit: &Unit<'_>, places: &Places) -> u64
 }
 
 /// The new numbers of the unit with a number: the new places of all that its references and section offsets name, and its expressions
-/// with those that their operations name. `places` are those of the units, and `new_places` those of what section offsets name. Each
+/// with those that their operations name. `own` is the unit as it is written, `places` are those of the units, and `new_places` those of what section offsets name. Each
 /// number fits the 32 bits of an offset. The only error is want of memory.
 pub fn new_numbers(
     alloc: Global,
     world: &World<'_>,
+    own: &Unit<'_>,
     tables: &Vec<NewTable>,
     places: &Vec<Places>,
     new_places: &NewPlaces,
@@ -407,21 +411,23 @@ pub fn new_numbers(
     requires world { IsWorldOf world.now.image Narrow world.now }
     requires unit { unit < length world.now.units }
     requires tables { (abbrevs : List ℕ) × (length abbrevs < 2 ^ 32) × AreTablesWritten world.now abbrevs tables.now.items }
+    requires own { own.now ≡ written_in world.now tables.now.items unit }
+    requires taken { AreTaken world.now tables.now.items }
     requires places { (size : ℕ) × ArePlacesOf world.now tables.now.items places.now.items size }
     requires new_places { AreNewPlaces world.now new_places.now }
     ensures numbers { IfOk result (λ new. (file : List ℕ) (r : Reading) → Holds file world.now r → AreNewNumbers world.now r.links tables.now.items places.now.items new_places.now unit new) }
 {
-    let held = new_held(alloc, world, places, new_places, unit)?;
+    let held = new_held(alloc, world, own, places, new_places, unit)?;
     let numbers = op_numbers(alloc, world, places, unit)?;
-    let own = &world.units()[unit as usize];
+    let old = &world.units()[unit as usize];
     let operations = &world.operations()[unit as usize];
-    let expressions = write_expressions(alloc, own, operations, &numbers)?;
+    let expressions = write_expressions(alloc, old, operations, &numbers)?;
     let new = &places[unit as usize];
     let table = world.table_numbers()[unit as usize] as usize;
     Ok(NewNumbers {
         end: new.end,
         table: tables[table].at,
-        type_offset: new_type_offset(own, new),
+        type_offset: new_type_offset(old, new),
         held,
         expressions,
     })

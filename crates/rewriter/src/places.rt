@@ -4,13 +4,14 @@ ghost use Rattle.dw_base.specs.declared.fault.Reach.TheVariants.{Narrow};
 ghost use Rattle.unit_write.specs.Most.{most_bytes};
 ghost use Rattle.value_links.specs.World.{IsWorldOf};
 ghost use Rattle.rewriter.specs.inside.Owned.{AreOwnedIn};
-ghost use Rattle.rewriter.specs.inside.Placed.{unit_in, AreWritable, ArePlacesOf, AreRanksOf};
+ghost use Rattle.rewriter.specs.inside.Placed.{unit_in, AreTaken, AreWritable, ArePlacesOf, AreRanksOf};
 ghost use Rattle.rewriter.specs.inside.Held.{IsPlacedFrom};
 
 use crate::list_slots::list_slots;
 use crate::owned::owned_lists;
 use crate::spots::spots_of;
 use crate::tables::NewTable;
+use crate::taken::{taken_unit, written_unit};
 use certificates::{Proof, put_record};
 use dw_base::NoMemory;
 use std::alloc::Global;
@@ -39,6 +40,7 @@ fn place_numbered(
     requires world { IsWorldOf world.now.image Narrow world.now }
     requires known { number < length world.now.units }
     requires owned { AreOwnedIn world.now number owned.now }
+    requires taken { AreTaken world.now tables.now.items }
     requires writable { AreWritable world.now tables.now.items }
     requires room { start + most_bytes (unit_in world.now.units number) < 2 ^ 31 }
     ensures placed { IfOk result (IsPlacedFrom world.now tables.now.items number start records.old.items records.new.items) }
@@ -46,9 +48,10 @@ fn place_numbered(
 {
     // A law, which costs nothing: the unit has few slots.
     slots_fit();
-    let unit = &world.units()[number];
+    let taken = taken_unit(alloc, world, tables, number)?;
+    let unit = written_unit(world, tables, &taken, number);
     let operations = &world.operations()[number];
-    let spots = spots_of(alloc, world, number as u32)?;
+    let spots = spots_of(alloc, world, unit, number as u32)?;
     let lists = list_slots(alloc, world, number as u32, owned)?;
     let table = world.table_numbers()[number] as usize;
     let decls = &world.tables()[table].table;
@@ -84,6 +87,7 @@ pub fn place_units(
     tables: &Vec<NewTable>,
 ) -> Result<PlacedUnits, NoMemory>
     requires world { IsWorldOf world.now.image Narrow world.now }
+    requires taken { AreTaken world.now tables.now.items }
     requires writable { AreWritable world.now tables.now.items }
     ensures placed { IfOk result (λ units. (size : ℕ) × ArePlacesOf world.now tables.now.items units.places.items size) }
     ensures records { IfOk result (λ units. AreRanksOf world.now tables.now.items units.places.items units.records.items) }

@@ -52,22 +52,22 @@ pub struct Anew {
     pub certificate: Vec<u8>,
 }
 
-// A record file of these records: of line number programs, of range lists, of location lists and of units.
+// A record file of these records, which are given back: of line number programs, of range lists, of location lists and of units.
 fn certificate_of(
     alloc: Global,
-    lines: &[u8],
-    ranges: &[u8],
-    locations: &[u8],
-    units: &[u8],
+    lines: Vec<u8>,
+    ranges: Vec<u8>,
+    locations: Vec<u8>,
+    units: Vec<u8>,
 ) -> Result<Vec<u8>, NoMemory>
-    ensures { IfOk result (λ certificate. certificate.items ≡ magic ++ (lines.now ++ (ranges.now ++ (locations.now ++ units.now)))) }
+    ensures { IfOk result (λ certificate. certificate.items ≡ magic ++ (lines.items ++ (ranges.items ++ (locations.items ++ units.items)))) }
 {
     let mut certificate = Vec::new(alloc);
     certificate.extend_from_slice(&MAGIC)?;
-    certificate.extend_from_slice(lines)?;
-    certificate.extend_from_slice(ranges)?;
-    certificate.extend_from_slice(locations)?;
-    certificate.extend_from_slice(units)?;
+    certificate.extend_from_slice(&lines)?;
+    certificate.extend_from_slice(&ranges)?;
+    certificate.extend_from_slice(&locations)?;
+    certificate.extend_from_slice(&units)?;
     Ok(certificate)
 }
 
@@ -103,10 +103,10 @@ pub fn write_sections(alloc: Global, world: &World<'_>) -> Result<Anew, NoMemory
     } = write_kind(alloc, world, &maps, &places, ListKind::Locations)?;
     let certificate = certificate_of(
         alloc,
-        &lines.records,
-        &range_records,
-        &location_records,
-        &unit_records,
+        lines.records,
+        range_records,
+        location_records,
+        unit_records,
     )?;
     let new_places = NewPlaces {
         programs: lines.starts,

@@ -10,12 +10,14 @@ ghost use Rattle.expr_ops.specs.Slots.{op_aim, expression_aims};
 ghost use Rattle.form_codec.specs.declared.value.Value.{Value as AnyValue};
 ghost use Rattle.unit_write.specs.Slots.{AreSpotsOf, IsSpotAt, IsSpotFor};
 ghost use Rattle.value_links.specs.World.{IsWorldOf};
+ghost use Rattle.rewriter.specs.inside.Taken.{IsTakenFrom};
 ghost use Rattle.rewriter.specs.inside.Placed.{unit_in, operations_for};
 ghost use Rattle.rewriter.specs.inside.Held.{MeansSomething, EntryMeans, entry_in, OperationNames, AddsSpots, AreSpotsUpTo};
 
 use crate::numbers::{end_number, link_of, name_of, place_in, value_of};
 use dw_base::NoMemory;
 use entry_arena::Target;
+use entry_read::Unit;
 use expr_ops::{Op, has_slot};
 use form_codec::Value;
 use std::alloc::Global;
@@ -87,18 +89,20 @@ fn push_expression_spots(
 fn push_value_spots(
     spots: &mut Vec<Spot>,
     world: &World<'_>,
+    own: &Unit<'_>,
     unit: u32,
     id: u32,
     column: u32,
 ) -> Result<(), NoMemory>
     requires world { IsWorldOf world.now.image Narrow world.now }
-    requires entry { EntryMeans world.now unit id }
+    requires own { IsTakenFrom (unit_in world.now.units unit) own.now }
+    requires entry { EntryMeans world.now own.now unit id }
     requires column { column < (entry_in world.now unit id).count }
     requires short { length (unit_in world.now.units unit).forest.section < 2 ^ 32 }
-    requires before { AreSpotsUpTo (unit_in world.now.units unit) (operations_for world.now unit) spots.old.items ((entry_in world.now unit id).first + column) }
-    ensures { OnOk result (AreSpotsUpTo (unit_in world.now.units unit) (operations_for world.now unit) spots.new.items ((entry_in world.now unit id).first + column + 1)) }
+    requires before { AreSpotsUpTo own.now (operations_for world.now own.now unit) spots.old.items ((entry_in world.now unit id).first + column) }
+    ensures { OnOk result (AreSpotsUpTo own.now (operations_for world.now own.now unit) spots.new.items ((entry_in world.now unit id).first + column + 1)) }
 {
-    match value_of(world, unit, id, column) {
+    match value_of(world, own, unit, id, column) {
         Value::LocalRef(old) => {
             let name = name_of(world, unit, id, column);
             spots.push(spot_of(world, unit, id, name, old))?;
@@ -114,30 +118,43 @@ fn push_value_spots(
 }
 
 // Appends what the slots of an entry name.
-fn push_spots(spots: &mut Vec<Spot>, world: &World<'_>, unit: u32, id: u32) -> Result<(), NoMemory>
+fn push_spots(
+    spots: &mut Vec<Spot>,
+    world: &World<'_>,
+    own: &Unit<'_>,
+    unit: u32,
+    id: u32,
+) -> Result<(), NoMemory>
     requires world { IsWorldOf world.now.image Narrow world.now }
-    requires entry { EntryMeans world.now unit id }
+    requires own { IsTakenFrom (unit_in world.now.units unit) own.now }
+    requires entry { EntryMeans world.now own.now unit id }
     requires short { length (unit_in world.now.units unit).forest.section < 2 ^ 32 }
-    requires before { AreSpotsUpTo (unit_in world.now.units unit) (operations_for world.now unit) spots.old.items (entry_in world.now unit id).first }
-    ensures { OnOk result (AreSpotsUpTo (unit_in world.now.units unit) (operations_for world.now unit) spots.new.items ((entry_in world.now unit id).first + (entry_in world.now unit id).count)) }
+    requires before { AreSpotsUpTo own.now (operations_for world.now own.now unit) spots.old.items (entry_in world.now unit id).first }
+    ensures { OnOk result (AreSpotsUpTo own.now (operations_for world.now own.now unit) spots.new.items ((entry_in world.now unit id).first + (entry_in world.now unit id).count)) }
 {
     let count = world.units()[unit as usize].forest().entry(id).count;
     for column in 0..count {
-        push_value_spots(spots, world, unit, id, column)?;
+        push_value_spots(spots, world, own, unit, id, column)?;
     }
     Ok(())
 }
 
-/// What the slots of a unit name, in their order. The only error is want of memory.
-pub fn spots_of(alloc: Global, world: &World<'_>, unit: u32) -> Result<Vec<Spot>, NoMemory>
+/// What the slots of the unit with a number name, in their order. `own` is the unit as it is written. The only error is want of memory.
+pub fn spots_of(
+    alloc: Global,
+    world: &World<'_>,
+    own: &Unit<'_>,
+    unit: u32,
+) -> Result<Vec<Spot>, NoMemory>
     requires world { IsWorldOf world.now.image Narrow world.now }
     requires unit { unit < length world.now.units }
-    ensures { IfOk result (λ spots. AreSpotsOf (unit_in world.now.units unit) (operations_for world.now unit) spots.items) }
+    requires own { IsTakenFrom (unit_in world.now.units unit) own.now }
+    ensures { IfOk result (λ spots. AreSpotsOf own.now (operations_for world.now own.now unit) spots.items) }
 {
     let count = world.units()[unit as usize].forest().len();
     let mut spots: Vec<Spot> = Vec::new(alloc);
     for id in 0..count {
-        push_spots(&mut spots, world, unit, id)?;
+        push_spots(&mut spots, world, own, unit, id)?;
     }
     Ok(spots)
 }

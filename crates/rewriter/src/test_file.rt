@@ -3,7 +3,7 @@ ghost use Rattle.std.specs.Prelude.{◌<◌, ◌-◌, ◌^◌, length, IfOk};
 ghost use Rattle.dw_base.specs.declared.fault.Reach.TheVariants.{Narrow};
 ghost use Rattle.value_links.specs.World.{IsWorldOf};
 ghost use Rattle.rewriter.specs.inside.Tables.{AreTablesWritten};
-ghost use Rattle.rewriter.specs.inside.Placed.{AreWritable};
+ghost use Rattle.rewriter.specs.inside.Placed.{AreTaken, AreWritable};
 ghost use Rattle.rewriter.specs.inside.Held.{AreListPlaces, AreNewPlaces};
 
 use crate::new_places::{ListPlaces, NewPlaces};
@@ -116,6 +116,7 @@ pub fn tables_of(alloc: Global, world: &World<'_>) -> Result<Tables, NoMemory>
     requires world { IsWorldOf world.now.image Narrow world.now }
     ensures written { IfOk result (λ tables. AreTablesWritten world.now tables.bytes.items tables.tables.items) }
     ensures narrow { IfOk result (λ tables. length tables.bytes.items < 2 ^ 32) }
+    ensures taken { IfOk result (λ tables. AreTaken world.now tables.tables.items) }
     ensures writable { IfOk result (λ tables. AreWritable world.now tables.tables.items) }
 {
     // A law, which costs nothing: what was read of a unit can be written.

@@ -6,13 +6,14 @@ ghost use Rattle.fixed_width.specs.InitialLengths.{least_reserved};
 ghost use Rattle.value_links.specs.Reading.{UnitRead, Reading};
 ghost use Rattle.value_links.specs.World.{IsWorldOf, Holds};
 ghost use Rattle.rewriter.specs.inside.Tables.{AreTablesWritten};
-ghost use Rattle.rewriter.specs.inside.Placed.{places_at, AreWritable, ArePlacesOf};
+ghost use Rattle.rewriter.specs.inside.Placed.{places_at, AreTaken, AreWritable, ArePlacesOf};
 ghost use Rattle.rewriter.specs.inside.Units.{AreUnitsWritten};
 ghost use Rattle.rewriter.specs.inside.Held.{AreNewPlaces, IsUnitBehind};
 
 use crate::new_places::NewPlaces;
 use crate::numbers::new_numbers;
 use crate::tables::Tables;
+use crate::taken::{taken_unit, written_unit};
 use dw_base::NoMemory;
 use std::alloc::Global;
 use unit_write::{Places, layouts_hold, write_unit};
@@ -32,6 +33,7 @@ fn write_numbered(
     requires known { number < length world.now.units }
     requires tables { AreTablesWritten world.now tables.now.bytes.items tables.now.tables.items }
     requires narrow { length tables.now.bytes.items < 2 ^ 32 }
+    requires taken { AreTaken world.now tables.now.tables.items }
     requires writable { AreWritable world.now tables.now.tables.items }
     requires places { (size : ℕ) × ArePlacesOf world.now tables.now.tables.items places.now.items size }
     requires new_places { AreNewPlaces world.now new_places.now }
@@ -41,9 +43,18 @@ fn write_numbered(
 {
     // A law, which costs nothing: the slots have the sizes by which the unit has its places.
     layouts_hold();
-    let new = new_numbers(alloc, world, &tables.tables, places, new_places, number)?;
+    let taken = taken_unit(alloc, world, &tables.tables, number as usize)?;
+    let unit = written_unit(world, &tables.tables, &taken, number as usize);
+    let new = new_numbers(
+        alloc,
+        world,
+        unit,
+        &tables.tables,
+        places,
+        new_places,
+        number,
+    )?;
     let table = world.table_numbers()[number as usize] as usize;
-    let unit = &world.units()[number as usize];
     let old = &world.tables()[table];
     let anew = &tables.tables[table];
     write_unit(info, unit, &old.table, &anew.columns, &anew.numbers, &new)?;
@@ -70,6 +81,7 @@ pub fn write_units(
     requires world { IsWorldOf world.now.image Narrow world.now }
     requires tables { AreTablesWritten world.now tables.now.bytes.items tables.now.tables.items }
     requires narrow { length tables.now.bytes.items < 2 ^ 32 }
+    requires taken { AreTaken world.now tables.now.tables.items }
     requires writable { AreWritable world.now tables.now.tables.items }
     requires places { (size : ℕ) × ArePlacesOf world.now tables.now.tables.items places.now.items size }
     requires new_places { AreNewPlaces world.now new_places.now }

@@ -1,11 +1,12 @@
 -- The items of a unit that are written anew: they are walked in the new section, and each is the old one with new numbers.
-use Rattle.std.proofs.Common.{◌≡◌, ◌≢◌, ◌≤◌, ◌<◌, ◌+◌, ◌-◌, ℕ, zero, suc, List, [], ◌∷◌, ◌++◌, length, drop, get_or, ◌∙◌, sym, ap, refl, subst, arith, inl, inr}
+use Rattle.std.proofs.Common.{◌≡◌, ◌≢◌, ◌≤◌, ◌<◌, ◌+◌, ◌-◌, ℕ, zero, suc, List, [], ◌∷◌, ◌++◌, length, take, drop, get_or, ◌∙◌, sym, ap, refl, subst, arith, inl, inr}
 use Rattle.std.specs.Prelude.{map, if◌then◌else◌, Bool}
 use Rattle.std.specs.List.{All, AllZip}
 use Rattle.std.proofs.lemmas.List.{append-nil, append_assoc, length-append, length-map, length-drop, length-take-le, get_or_append_left, get_or-append-add, get_or-map, get_or-take, get_or-drop}
 use Rattle.std.proofs.lemmas.List.Elements.{All-nil, All-cons}
 use Rattle.std.proofs.lemmas.Bool.{cases_lt}
 use Rattle.std.proofs.Common.{add-one, add-zero}
+use Rattle.std.proofs.Math.Seq.{take-add}
 use Rattle.leb_codec.specs.Leb.{Uleb, ShortestUnsigned, least_unsigned_len}
 use Rattle.leb_codec.proofs.SpellingLaws.{leb_one}
 use Rattle.form_codec.specs.declared.value.Value.{Value}
@@ -15,7 +16,7 @@ use Rattle.abbrev_tables.specs.Tables.{Declared}
 use Rattle.abbrev_tables.specs.Listings.{Listing, declared_in}
 use Rattle.entry_arena.specs.declared.entry.Entry.{Entry}
 use Rattle.entry_arena.specs.declared.entry.ChainEnd.{ChainEnd}
-use Rattle.entry_arena.specs.Arena.{Arena, entry_at, value_at}
+use Rattle.entry_arena.specs.Arena.{Arena, entry_at, value_at, with_values}
 use Rattle.entry_arena.specs.Trees.{Listed, listed_to, nothing_from, declared_at, bytes_between, SpellsBetween, ValuesBetween, AddsEntry, AddsEnd}
 use Rattle.entry_arena.specs.Walks.{Item, IsGoing, Walks, opened}
 use Rattle.entry_arena.specs.Walks.Item.{AnEntry, AnEnd}
@@ -162,9 +163,13 @@ no_entries : (entries : List Entry) → length entries ≡ 0 → entries ≡ []
 no_entries [] e = refl
 no_entries (x ∷ entries) e = absurd (omega arith)
 
-module _ (table : Listing) (columns : List Spec) (numbers : List ℕ) (anew : NewValues) (f : Arena) (ds : List Declared) (section : List ℕ) (renumbered : IsRenumbered table columns numbers ds) (new_ones : AreNew anew (length f.values)) (valued : (id : ℕ) → id < length f.entries → (entry_at f.entries id).first + (entry_at f.entries id).count ≤ length f.values) where
+module _ (table : Listing) (columns : List Spec) (numbers : List ℕ) (anew : NewValues) (f : Arena) (ds : List Declared) (section : List ℕ) (renumbered : IsRenumbered table columns numbers ds) (new_ones : AreNew anew (length f.values)) (valued : (id : ℕ) → id < length f.entries → (entry_at f.entries id).first + (entry_at f.entries id).count ≤ length f.values) (read : List Value) where
+  -- what is listed of the old section, with the values that are written in place of as many that were read
+  abbrev pub as_written : Listed → Listed
+  as_written now = record { entries = now.entries; values = take (length now.values) f.values; ends = now.ends; place = now.place }
+
   abbrev Moved : Listed → Listed → Type 0
-  Moved old new = IsMoved numbers anew f.section section old new
+  Moved old new = IsMoved numbers anew f.section section (as_written old) new
 
   abbrev number_of : ℕ → ℕ
   number_of number = get_or numbers number 0 - 1
@@ -183,16 +188,22 @@ module _ (table : Listing) (columns : List Spec) (numbers : List ℕ) (anew : Ne
     listed : next.values ≡ new.values ++ values
     short : (more : List Value) → StandsShort section ds (next.values ++ more) entry
 
-  entry_stands : (depth number id : ℕ) (old mid new : Listed) (to : ℕ) (bytes : List ℕ) → Moved old new → (adds : AddsEntry f.section (declarations_of table) depth number old mid) → entry_at f.entries id ≡ record { at = old.place; len = mid.place - old.place; depth = depth; decl = number; first = length old.values; count = length adds.values } → values_in f id ≡ adds.values → get_or numbers number 0 ≢ 0 → PutsEntry table columns numbers anew f id bytes → new.place ≤ to → to ≤ length section → bytes_between section new.place to ≡ bytes → EntryStands depth number mid new to
-  entry_stands depth number id old mid new to bytes moved adds here values_are used p order inside whole =
+  entry_stands : (depth number id : ℕ) (old mid new : Listed) (to : ℕ) (bytes : List ℕ) → Moved old new → (adds : AddsEntry f.section (declarations_of table) depth number old mid) → entry_at f.entries id ≡ record { at = old.place; len = mid.place - old.place; depth = depth; decl = number; first = length old.values; count = length adds.values } → id < length f.entries → get_or numbers number 0 ≢ 0 → PutsEntry table columns numbers anew f id bytes → new.place ≤ to → to ≤ length section → bytes_between section new.place to ≡ bytes → EntryStands depth number mid new to
+  entry_stands depth number id old mid new to bytes moved adds here known_id used p order inside whole =
       let e : Entry = record { at = old.place; len = mid.place - old.place; depth = depth; decl = number; first = length old.values; count = length adds.values } in
       let decl : (entry_at f.entries id).decl ≡ number = ap (λ (z : Entry). z.decl) here in
       let known : number < length table.decls = subst (λ (z : ℕ). number < z) (length-map table.decls (declared_in table.specs)) adds.known in
       let there = renumbered.each number known used in
       let cs : List Spec = columns_of table columns number in
-      let vs : List Value = adds.values in
-      let i : ℕ = length old.values in
-      let put : PutsValues f.section anew i cs vs p.rest = values_as f.section f.section anew (entry_at f.entries id).first i (columns_of table columns (entry_at f.entries id).decl) cs (values_in f id) vs p.rest refl (ap (λ (z : Entry). z.first) here) (ap (columns_of table columns) decl) values_are p.valued in
+      let vs : List Value = values_in f id in
+      let olds : List Value = take (length old.values) f.values in
+      let i : ℕ = length olds in
+      let first : (entry_at f.entries id).first ≡ length old.values = ap (λ (z : Entry). z.first) here in
+      let count : (entry_at f.entries id).count ≡ length adds.values = ap (λ (z : Entry). z.count) here in
+      let own : length vs ≡ length adds.values = count_in f id (valued id known_id) ∙ count in
+      let before_values : i ≡ length old.values = length-take-le (length old.values) f.values (let within = valued id known_id in omega (arith, within, first)) in
+      let parts_are : take (length mid.values) f.values ≡ olds ++ vs = ap (λ (n : ℕ). take n f.values) (ap length adds.listed ∙ length-append old.values adds.values) ∙ take-add (length old.values) (length adds.values) f.values ∙ ap (λ (n : ℕ). olds ++ take n (drop (length old.values) f.values)) (sym count) ∙ ap (λ (n : ℕ). olds ++ take (entry_at f.entries id).count (drop n f.values)) (sym first) in
+      let put : PutsValues f.section anew i cs vs p.rest = values_as f.section f.section anew (entry_at f.entries id).first i (columns_of table columns (entry_at f.entries id).decl) cs vs vs p.rest refl (first ∙ sym before_values) (ap (columns_of table columns) decl) refl p.valued in
       let parts : bytes_between section new.place to ≡ p.code ++ p.rest = whole ∙ p.whole in
       let c = cut section new.place to p.code p.rest order inside parts in
       let before : c.mid ≤ to = c.before in
@@ -224,9 +235,9 @@ module _ (table : Listing) (columns : List Spec) (numbers : List ℕ) (anew : Ne
         ended = refl;
         at = refl;
         moved = record {
-          entries = subst (λ (z : List Entry). AllZip (IsMovedEntry numbers) z (new.entries ++ entry ∷ [])) (sym adds.entered) (zip_push (IsMovedEntry numbers) old.entries new.entries e entry moved.entries (record { depth = refl; decl = refl; first = moved.count; count = r.count }));
-          count = length-append new.values v.values ∙ ap (λ n. n + length v.values) moved.count ∙ ap (λ n. length old.values + n) r.count ∙ sym (length-append old.values vs) ∙ sym (ap length adds.listed);
-          values = subst (λ (z : List Value). (k : ℕ) → k < length z → meant_in section (value_at (new.values ++ v.values) k) ≡ renewed_at anew k (meant_in f.section (value_at z k))) (sym adds.listed) (values_more anew f.section section old.values new.values vs v.values moved.count moved.values r);
+          entries = subst (λ (z : List Entry). AllZip (IsMovedEntry numbers) z (new.entries ++ entry ∷ [])) (sym adds.entered) (zip_push (IsMovedEntry numbers) old.entries new.entries e entry moved.entries (record { depth = refl; decl = refl; first = moved.count ∙ before_values; count = r.count ∙ own }));
+          count = length-append new.values v.values ∙ ap (λ n. n + length v.values) moved.count ∙ ap (λ n. i + n) r.count ∙ sym (length-append olds vs) ∙ sym (ap length parts_are);
+          values = subst (λ (z : List Value). (k : ℕ) → k < length z → meant_in section (value_at (new.values ++ v.values) k) ≡ renewed_at anew k (meant_in f.section (value_at z k))) (sym parts_are) (values_more anew f.section section olds new.values vs v.values moved.count moved.values r);
           ends = subst (λ (z : List ChainEnd). AllZip IsMovedEnd z new.ends) (sym adds.ended) moved.ends;
         };
         values = v.values;
@@ -265,26 +276,26 @@ module _ (table : Listing) (columns : List Spec) (numbers : List ℕ) (anew : Ne
 
   module _ (start place : ℕ) (used : (id : ℕ) → id < length f.entries → get_or numbers (entry_at f.entries id).decl 0 ≢ 0) (sized : (id : ℕ) → id < length f.entries → (size : ℕ) × EntrySize table columns numbers f (lens_anew f anew) id size) where
     abbrev HasCome : ℕ → ℕ → List Item → Listed → List ℕ → List Item → Type 0
-    HasCome entries ends done now chains rest = HasWalked f.section (declarations_of table) start (listed_to f place) entries ends done now chains rest
+    HasCome entries ends done now chains rest = HasWalked f.section (declarations_of table) start (listed_to (with_values f read) place) entries ends done now chains rest
 
-    entry_next : (number entries ends : ℕ) (rest done : List Item) (now : Listed) (chains : List ℕ) → HasCome entries ends done now chains (AnEntry number ∷ rest) → EntryIsNext f.section (declarations_of table) start (listed_to f place) entries ends done now chains (AnEntry number ∷ rest)
+    entry_next : (number entries ends : ℕ) (rest done : List Item) (now : Listed) (chains : List ℕ) → HasCome entries ends done now chains (AnEntry number ∷ rest) → EntryIsNext f.section (declarations_of table) start (listed_to (with_values f read) place) entries ends done now chains (AnEntry number ∷ rest)
     entry_next number entries ends rest done now chains h =
-        elim ((walks_go_on f.section (declarations_of table) start (listed_to f place) entries ends done now chains (AnEntry number ∷ rest) h).cases) [
+        elim ((walks_go_on f.section (declarations_of table) start (listed_to (with_values f read) place) entries ends done now chains (AnEntry number ∷ rest) h).cases) [
           | inl e ↦ e
           | inr (inl e) ↦ absurd (cc (e.rest_is))
           | inr (inr w) ↦ absurd (cc (w.rest_is))
         ]
 
-    end_next : (entries ends : ℕ) (rest done : List Item) (now : Listed) (chains : List ℕ) → HasCome entries ends done now chains (AnEnd ∷ rest) → EndIsNext f.section (declarations_of table) start (listed_to f place) entries ends done now chains (AnEnd ∷ rest)
+    end_next : (entries ends : ℕ) (rest done : List Item) (now : Listed) (chains : List ℕ) → HasCome entries ends done now chains (AnEnd ∷ rest) → EndIsNext f.section (declarations_of table) start (listed_to (with_values f read) place) entries ends done now chains (AnEnd ∷ rest)
     end_next entries ends rest done now chains h =
-        elim ((walks_go_on f.section (declarations_of table) start (listed_to f place) entries ends done now chains (AnEnd ∷ rest) h).cases) [
+        elim ((walks_go_on f.section (declarations_of table) start (listed_to (with_values f read) place) entries ends done now chains (AnEnd ∷ rest) h).cases) [
           | inl e ↦ absurd (cc (e.rest_is))
           | inr (inl e) ↦ e
           | inr (inr w) ↦ absurd (cc (w.rest_is))
         ]
 
     -- after an entry
-    entry_anew : (number entries ends : ℕ) (rest done : List Item) (now new : Listed) (chains : List ℕ) (to mid : ℕ) (first : List ℕ) → (e : EntryIsNext f.section (declarations_of table) start (listed_to f place) entries ends done now chains (AnEntry number ∷ rest)) → Moved now new → (s : EntryStands (length chains) e.number e.mid new mid) → PutsEntry table columns numbers anew f entries first → mid ≡ new.place + length first → length now.entries ≡ entries → StandAnew (suc entries) rest s.next (opened (declarations_of table) e.number entries chains) to (listed_to f place) → StandAnew entries (AnEntry number ∷ rest) new chains to (listed_to f place)
+    entry_anew : (number entries ends : ℕ) (rest done : List Item) (now new : Listed) (chains : List ℕ) (to mid : ℕ) (first : List ℕ) → (e : EntryIsNext f.section (declarations_of table) start (listed_to (with_values f read) place) entries ends done now chains (AnEntry number ∷ rest)) → Moved now new → (s : EntryStands (length chains) e.number e.mid new mid) → PutsEntry table columns numbers anew f entries first → mid ≡ new.place + length first → length now.entries ≡ entries → StandAnew (suc entries) rest s.next (opened (declarations_of table) e.number entries chains) to (listed_to (with_values f read) place) → StandAnew entries (AnEntry number ∷ rest) new chains to (listed_to (with_values f read) place)
     entry_anew number entries ends rest done now new chains to mid first e moved s p size few r =
         let known : e.number < length table.decls = subst (λ (z : ℕ). e.number < z) (length-map table.decls (declared_in table.specs)) e.adds.known in
         let decl : (entry_at f.entries entries).decl ≡ e.number = ap (λ (z : Entry). z.decl) e.here in
@@ -310,7 +321,7 @@ module _ (table : Listing) (columns : List Spec) (numbers : List ℕ) (anew : Ne
         }
 
     -- the items of the rest of a walk
-    pub stand_anew : (rest done : List Item) (now new : Listed) (chains : List ℕ) (entries ends to : ℕ) (bytes : List ℕ) → HasCome entries ends done now chains rest → Moved now new → PutsItems (PutsEntry table columns numbers anew f) entries rest bytes → new.place ≤ to → to ≤ length section → bytes_between section new.place to ≡ bytes → StandAnew entries rest new chains to (listed_to f place)
+    pub stand_anew : (rest done : List Item) (now new : Listed) (chains : List ℕ) (entries ends to : ℕ) (bytes : List ℕ) → HasCome entries ends done now chains rest → Moved now new → PutsItems (PutsEntry table columns numbers anew f) entries rest bytes → new.place ≤ to → to ≤ length section → bytes_between section new.place to ≡ bytes → StandAnew entries rest new chains to (listed_to (with_values f read) place)
     stand_anew [] done now new chains entries ends to bytes h moved put order inside whole =
         let size : to - new.place ≡ 0 = sym (length_between section new.place to inside) ∙ ap length whole ∙ ap length put in
         let same : new.place ≡ to = omega arith in
@@ -338,7 +349,7 @@ module _ (table : Listing) (columns : List Spec) (numbers : List ℕ) (anew : Ne
         let before : c.mid ≤ to = c.before in
         let decl : (entry_at f.entries entries).decl ≡ e.number = ap (λ (z : Entry). z.decl) e.here in
         let some : get_or numbers e.number 0 ≢ 0 = subst (λ (z : ℕ). get_or numbers z 0 ≢ 0) decl (used entries e.inside) in
-        let s = entry_stands (length chains) e.number entries now e.mid new c.mid first moved e.adds e.here e.values_are some p c.after (omega arith) c.first in
+        let s = entry_stands (length chains) e.number entries now e.mid new c.mid first moved e.adds e.here e.inside some p c.after (omega arith) c.first in
         let next = subst (λ (n : ℕ). HasCome n ends (done ++ AnEntry e.number ∷ []) e.mid (opened (declarations_of table) e.number entries chains) e.later) (add-one entries) e.next in
         let come = subst (λ (z : List Item). HasCome (suc entries) ends (done ++ AnEntry e.number ∷ []) e.mid (opened (declarations_of table) e.number entries chains) z) same next in
         let up : s.next.place ≤ to = subst (λ (z : ℕ). z ≤ to) (sym s.place) c.before in
@@ -362,8 +373,8 @@ module _ (table : Listing) (columns : List Spec) (numbers : List ℕ) (anew : Ne
         } in
         let onward : Moved e.mid next = record {
           entries = subst (λ (z : List Entry). AllZip (IsMovedEntry numbers) z new.entries) (sym e.adds.entered) moved.entries;
-          count = moved.count ∙ sym (ap length e.adds.listed);
-          values = subst (λ (z : List Value). (k : ℕ) → k < length z → meant_in section (value_at new.values k) ≡ renewed_at anew k (meant_in f.section (value_at z k))) (sym e.adds.listed) moved.values;
+          count = moved.count ∙ sym (ap (λ (z : List Value). length (take (length z) f.values)) e.adds.listed);
+          values = subst (λ (z : List Value). (k : ℕ) → k < length z → meant_in section (value_at new.values k) ≡ renewed_at anew k (meant_in f.section (value_at z k))) (sym (ap (λ (z : List Value). take (length z) f.values) e.adds.listed)) moved.values;
           ends = subst (λ (z : List ChainEnd). AllZip IsMovedEnd z (new.ends ++ end ∷ [])) (sym e.adds.ended) (zip_push IsMovedEnd now.ends new.ends (record { entry = e.parent; at = now.place }) end moved.ends refl);
         } in
         let come = subst (λ (z : List Item). HasCome entries (ends + 1) (done ++ AnEnd ∷ []) e.mid e.outer z) same e.next in

@@ -28,6 +28,7 @@ use Rattle.unit_write.specs.Placing.{columns_of, values_in, EntrySize}
 use Rattle.unit_write.specs.Moved.{IsWritable}
 use Rattle.unit_write.specs.Slots.{AreListSlots}
 use Rattle.unit_write.proofs.Standing.{entry_declared}
+use Rattle.unit_write.proofs.TakenUnits.{held_as_read}
 
 none_of : {A : Type 0} (items : List A) (first count : ℕ) → items ≡ [] → take count (drop first items) ≡ []
 none_of items first count e = ap (λ z. take count (drop first z)) e ∙ ap (take count) (drop-nil first) ∙ take-nil count
@@ -42,7 +43,7 @@ module _ (unit : HeadAndForest) (table : Listing) (columns : List Spec) (numbers
   no_values id inside =
       let e : Entry = entry_at unit.forest.entries id in
       let s = entry_stands unit.forest.section unit.head (declarations_of table) unit.forest refl held id inside in
-      let own : (declared_at (declarations_of table) e.decl).columns ≡ [] = ap (λ z. z.columns) (declared_is table e.decl (entry_declared unit table held id inside)) ∙ none_of table.specs (decl_at table.decls e.decl).first (decl_at table.decls e.decl).count bare in
+      let own : (declared_at (declarations_of table) e.decl).columns ≡ [] = ap (λ z. z.columns) (declared_is table e.decl (entry_declared unit table (held_as_read unit table held) id inside)) ∙ none_of table.specs (decl_at table.decls e.decl).first (decl_at table.decls e.decl).count bare in
       none_valued unit.forest.section ((declared_at (declarations_of table) e.decl).columns) (values_in unit.forest id) s.values_at (e.at + e.len) own s.valued
 
   sized : (id : ℕ) → id < length unit.forest.entries → (size : ℕ) × EntrySize table columns numbers unit.forest lens id size
@@ -59,10 +60,10 @@ module _ (unit : HeadAndForest) (table : Listing) (columns : List Spec) (numbers
   pub bare_writable : IsHead unit.forest.section unit.head → length columns ≡ length table.specs → All (λ (number : ℕ). number ≢ 0) numbers → IsWritable unit table columns numbers lens
   bare_writable head renewed used = record {
     head = head;
-    held = held;
+    held = held_as_read unit table held;
     numbered = numbered;
     renewed = renewed;
-    used = λ id inside. used (entry_at unit.forest.entries id).decl 0 (let known : (entry_at unit.forest.entries id).decl < length table.decls = entry_declared unit table held id inside in omega arith);
+    used = λ id inside. used (entry_at unit.forest.entries id).decl 0 (let known : (entry_at unit.forest.entries id).decl < length table.decls = entry_declared unit table (held_as_read unit table held) id inside in omega arith);
     sized = sized;
   }
 

@@ -1,3 +1,4 @@
+pub mod TakenUnits
 pub mod Bare
 pub mod ValueLaws
 pub mod EndLaws

@@ -1,6 +1,7 @@
 -- What is written of a value, and of an entry, has few bytes more than what was read of it.
-use Rattle.std.proofs.Common.{◌≡◌, ◌≤◌, ◌<◌, ◌+◌, ◌-◌, ◌*◌, ◌^◌, ℕ, List, [], ◌∷◌, ◌++◌, length, Bool, true, false, suc, take, drop, get_or, ◌∙◌, sym, ap, refl, subst, arith}
+use Rattle.std.proofs.Common.{◌≡◌, ◌≤◌, ◌<◌, ◌+◌, ◌-◌, ◌*◌, ◌^◌, ℕ, List, [], ◌∷◌, ◌++◌, length, Bool, true, false, suc, take, drop, get_or, ◌∙◌, sym, ap, refl, subst, arith, inl, inr}
 use Rattle.std.specs.Prelude.{ℤ, pos, negsuc, nat_le, if◌then◌else◌, slice_index, FitsSigned}
+use Rattle.std.specs.List.{AllZip}
 use Rattle.std.specs.Int.{w64}
 use Prim.Native.Nat.{min}
 use Rattle.std.proofs.lemmas.Int.{ints}
@@ -32,12 +33,15 @@ use Rattle.entry_arena.specs.Arena.{Arena, entry_at, value_at}
 use Rattle.entry_arena.specs.Trees.{Listed, AddsEntry, SpellsBetween, ValuesBetween, bytes_between, declared_at}
 use Rattle.entry_arena.proofs.Between.{length_between}
 use Rattle.entry_arena.proofs.StepLaws.{code_rises}
+use Rattle.entry_read.specs.declared.head.UnitHead.{UnitHead}
 use Rattle.entry_read.specs.Short.{IsWritten}
 use Rattle.entry_read.specs.Slots.{is_local}
+use Rattle.unit_write.specs.Taken.{StandsFor}
 use Rattle.unit_write.specs.Lens.{AreLensFor}
 use Rattle.unit_write.specs.Values.{renewed, HasOwnSize, HasSize, HaveSize}
 use Rattle.unit_write.specs.Placing.{columns_of, values_in, among_values, EntrySize}
 use Rattle.unit_write.specs.inside.Puts.{is_expr}
+use Rattle.unit_write.proofs.TakenUnits.{taken_or_same}
 
 -- the bytes that a value has whatever its form
 abbrev pub own_len : Meaning → ℕ
@@ -170,9 +174,9 @@ other_most column m size code constant old other h s =
 abbrev IsFewOf : Value → ℕ → Type 0
 IsFewOf v len = ((span : Span) → v ≡ value.Expr span → len ≤ 3 * span.len + 10) × ((n : ℕ) → v ≡ value.LocalRef n → len ≤ 10)
 
--- at most three times the bytes of a value that stands in a section, and ten more
-value_most : (section : List ℕ) (column : Spec) (v : Value) (len size code : ℕ) (constant : ℤ) (from to : ℕ) → IsFewOf v len → HasSize column (meant_in section v) len size → SpellsBetween (SpellsValue code constant (meant_in section v)) section from to → IsPlaced v from to → size + 3 * from ≤ 3 * to + 10
-value_most section column (value.Expr span) len size code constant from to few h spelled placed =
+-- at most three times the bytes of a value that stands in a section, and ten more, where it is written itself
+own_most : (section : List ℕ) (column : Spec) (v : Value) (len size code : ℕ) (constant : ℤ) (from to : ℕ) → IsFewOf v len → HasSize column (meant_in section v) len size → SpellsBetween (SpellsValue code constant (meant_in section v)) section from to → IsPlaced v from to → size + 3 * from ≤ 3 * to + 10
+own_most section column (value.Expr span) len size code constant from to few h spelled placed =
     let most : len ≤ 3 * span.len + 10 = few.0 span refl in
     let same : size ≡ len = h.1 in
     let held : length (bytes_in section span) ≤ length (bytes_between section from to) = spelled_len (shape_of spelled.spelled.form constant) (Expression (bytes_in section span)) (bytes_between section from to) spelled.spelled.spelled in
@@ -182,29 +186,43 @@ value_most section column (value.Expr span) len size code constant from to few h
     let own : length (bytes_in section span) ≡ span.len = length_part span.at span.len section (omega arith) in
     let order : from ≤ to = spelled.order in
     omega arith
-value_most section column (value.LocalRef n) len size code constant from to few h spelled placed =
+own_most section column (value.LocalRef n) len size code constant from to few h spelled placed =
     let most : len ≤ 10 = few.1 n refl in
     let same : size ≡ len = h.1 in
     let order : from ≤ to = spelled.order in
     omega arith
-value_most section column v len size code constant from to few h spelled placed =
+own_most section column v len size code constant from to few h spelled placed =
     let most : size ≤ length (bytes_between section from to) + 10 = other_most column (meant_in section v) size code constant (bytes_between section from to) refl h spelled.spelled in
     let old : length (bytes_between section from to) ≡ to - from = length_between section from to spelled.inside in
     let order : from ≤ to = spelled.order in
     omega arith
 
+-- and where a reference within the unit is written in its place
+value_most : (section : List ℕ) (head : UnitHead) (column : Spec) (v w : Value) (len size code : ℕ) (constant : ℤ) (from to : ℕ) → StandsFor head v w → IsFewOf w len → HasSize column (meant_in section w) len size → SpellsBetween (SpellsValue code constant (meant_in section v)) section from to → IsPlaced v from to → size + 3 * from ≤ 3 * to + 10
+value_most section head column v w len size code constant from to stands few h spelled placed = elim (taken_or_same head v w stands) [
+  | inl same ↦
+      own_most section column v len size code constant from to (subst (λ (z : Value). IsFewOf z len) same few) (subst (λ (z : Value). HasSize column (meant_in section z) len size) same h) spelled placed
+  | inr (n, m, old, new) ↦
+      let most : len ≤ 10 = few.1 m new in
+      let is : size ≡ len = (subst (λ (z : Value). HasSize column (meant_in section z) len size) new h).1 in
+      let order : from ≤ to = spelled.order in
+      omega arith
+]
+
 -- and so for values that stand in a section
-pub values_most : (section : List ℕ) (cs ds : List Spec) (vs : List Value) (lens : List ℕ) (size from to : ℕ) → ((k : ℕ) → k < length vs → IsFewOf (value_at vs k) (get_or lens k 0)) → HaveSize section cs vs lens size → ValuesBetween section ds vs from to → size + 3 * from ≤ 3 * to + 10 * length vs
-values_most section [] [] [] [] size from to few p q = omega (arith, p, q)
-values_most section [] [] [] (n ∷ lens) size from to few p q = absurd p
-values_most section [] (d ∷ ds) [] lens size from to few p q = absurd q
-values_most section [] ds (v ∷ vs) lens size from to few p q = absurd p
-values_most section (c ∷ cs) ds [] lens size from to few p q = absurd p
-values_most section (c ∷ cs) [] (v ∷ vs) lens size from to few p q = absurd q
-values_most section (c ∷ cs) ds (v ∷ vs) [] size from to few p q = absurd p
-values_most section (c ∷ cs) (d ∷ ds) (v ∷ vs) (n ∷ lens) size from to few (first, rest, has, have, sum) (next, spelled, placed, more) =
-    let here : first + 3 * from ≤ 3 * next + 10 = value_most section c v n first d.form d.constant from next (few 0 (omega arith)) has spelled placed in
-    let others : rest + 3 * next ≤ 3 * to + 10 * length vs = values_most section cs ds vs lens rest next to (λ k lt. few (suc k) (omega arith)) have more in
+pub values_most : (section : List ℕ) (head : UnitHead) (cs ds : List Spec) (vs ws : List Value) (lens : List ℕ) (size from to : ℕ) → AllZip (StandsFor head) vs ws → ((k : ℕ) → k < length ws → IsFewOf (value_at ws k) (get_or lens k 0)) → HaveSize section cs ws lens size → ValuesBetween section ds vs from to → size + 3 * from ≤ 3 * to + 10 * length vs
+values_most section head [] [] [] [] [] size from to zip few p q = omega (arith, p, q)
+values_most section head [] [] [] [] (n ∷ lens) size from to zip few p q = absurd p
+values_most section head [] (d ∷ ds) [] [] lens size from to zip few p q = absurd q
+values_most section head cs ds [] (w ∷ ws) lens size from to zip few p q = absurd zip
+values_most section head cs ds (v ∷ vs) [] lens size from to zip few p q = absurd zip
+values_most section head [] ds (v ∷ vs) (w ∷ ws) lens size from to zip few p q = absurd p
+values_most section head (c ∷ cs) ds [] [] lens size from to zip few p q = absurd p
+values_most section head (c ∷ cs) [] (v ∷ vs) (w ∷ ws) lens size from to zip few p q = absurd q
+values_most section head (c ∷ cs) ds (v ∷ vs) (w ∷ ws) [] size from to zip few p q = absurd p
+values_most section head (c ∷ cs) (d ∷ ds) (v ∷ vs) (w ∷ ws) (n ∷ lens) size from to (stands, zip) few (first, rest, has, have, sum) (next, spelled, placed, more) =
+    let here : first + 3 * from ≤ 3 * next + 10 = value_most section head c v w n first d.form d.constant from next stands (few 0 (omega arith)) has spelled placed in
+    let others : rest + 3 * next ≤ 3 * to + 10 * length vs = values_most section head cs ds vs ws lens rest next to zip (λ k lt. few (suc k) (omega arith)) have more in
     omega (arith, sum)
 
 -- the values of an entry get few
@@ -225,13 +243,12 @@ few_in f lens first count k few lt =
     )
 
 -- an entry takes at most three times its bytes, four more, and ten for each value, where its new code has no more than five
-pub entry_most : (f : Arena) (table : Listing) (columns : List Spec) (numbers lens : List ℕ) (ds : List Declared) (depth number id size : ℕ) (now mid : Listed) → AreLensFor f lens → least_unsigned_len (slice_index numbers (entry_at f.entries id).decl) ≤ 5 → (adds : AddsEntry f.section ds depth number now mid) → values_in f id ≡ adds.values → EntrySize table columns numbers f lens id size → size + 3 * now.place ≤ 3 * mid.place + 4 + 10 * length adds.values
-entry_most f table columns numbers lens ds depth number id size now mid few five adds same sized =
+pub entry_most : (f : Arena) (head : UnitHead) (table : Listing) (columns : List Spec) (numbers lens : List ℕ) (ds : List Declared) (depth number id size : ℕ) (now mid : Listed) → AreLensFor f lens → least_unsigned_len (slice_index numbers (entry_at f.entries id).decl) ≤ 5 → (adds : AddsEntry f.section ds depth number now mid) → AllZip (StandsFor head) adds.values (values_in f id) → EntrySize table columns numbers f lens id size → size + 3 * now.place ≤ 3 * mid.place + 4 + 10 * length adds.values
+entry_most f head table columns numbers lens ds depth number id size now mid few five adds stand sized =
     let cs : List Spec = columns_of table columns (entry_at f.entries id).decl in
     let own : List ℕ = among_values f lens id in
-    let valued = subst (λ (z : List Value). HaveSize f.section cs z own sized.0) same sized.1 in
-    let each = subst (λ (z : List Value). (k : ℕ) → k < length z → IsFewOf (value_at z k) (get_or own k 0)) same (λ k lt. few_in f lens (entry_at f.entries id).first (entry_at f.entries id).count k few lt) in
-    let rest : sized.0 + 3 * adds.values_at ≤ 3 * mid.place + 10 * length adds.values = values_most f.section cs ((declared_at ds number).columns) adds.values own sized.0 adds.values_at mid.place each valued adds.valued in
+    let each = λ (k : ℕ) (lt : k < length (values_in f id)). few_in f lens (entry_at f.entries id).first (entry_at f.entries id).count k few lt in
+    let rest : sized.0 + 3 * adds.values_at ≤ 3 * mid.place + 10 * length adds.values = values_most f.section head cs ((declared_at ds number).columns) adds.values (values_in f id) own sized.0 adds.values_at mid.place stand each sized.1 adds.valued in
     let code : now.place < adds.values_at = code_rises f.section ((declared_at ds number).code) now.place adds.values_at adds.coded in
     let sum = sized.2 in
     omega (arith, five, sum)

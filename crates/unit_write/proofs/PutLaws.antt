@@ -1,20 +1,17 @@
 -- Bytes that are written one after the other.
 use Rattle.std.proofs.Common.{◌≡◌, ◌≤◌, ◌<◌, ◌+◌, ℕ, ◌^◌, zero, suc, List, [], ◌∷◌, ◌++◌, length, drop, get_or, drop-cons, add-one, add-zero, ◌∙◌, sym, ap, refl, subst, arith}
 use Rattle.std.proofs.lemmas.List.{append-nil, append_assoc, drop_all, get_or_read_under}
-use Rattle.std.proofs.lemmas.List.Elements.{All-from_get_or}
 use Rattle.form_codec.specs.declared.value.Value.TheVariants as value
-use Rattle.std.specs.List.{All}
 use Rattle.spelled.specs.Spelled.{Appends}
 use Rattle.leb_codec.specs.Digits.{Extends}
 use Rattle.leb_codec.specs.Leb.{Uleb, ShortestUnsigned, least_unsigned_len}
 use Rattle.form_codec.specs.declared.form.Width.TheVariants.{Two, Four}
 use Rattle.form_codec.specs.declared.value.Value.{Value}
-use Rattle.form_codec.specs.Values.{meant_in, LiesIn}
+use Rattle.form_codec.specs.Values.{meant_in}
 use Rattle.form_codec.specs.Written.{low_bytes}
 use Rattle.abbrev_tables.specs.declared.decl.Spec.{Spec}
 use Rattle.abbrev_tables.specs.Listings.{Listing, spec_at}
 use Rattle.entry_arena.specs.Arena.{Arena, entry_at, value_at}
-use Rattle.entry_arena.specs.Order.{IsInOrder}
 use Rattle.unit_write.specs.Placing.{columns_of, values_in}
 use Rattle.entry_read.specs.Short.{IsWritten}
 use Rattle.unit_write.specs.Values.{renewed, HasSize, HaveSize}
@@ -98,9 +95,6 @@ size_at section (c ∷ cs) (v ∷ vs) (n ∷ lens) size (suc place) h lt = size_
 
 pub extends_more : (old mid new : List ℕ) → Extends old mid → Extends mid new → Extends old new
 extends_more old mid new (a, e) (b, g) = (a ++ b, g ∙ ap (λ z. z ++ b) e ∙ append_assoc old a b)
-
-pub values_lie : (f : Arena) → IsInOrder f → All (LiesIn (length f.section)) f.values
-values_lie f order = All-from_get_or (LiesIn (length f.section)) f.values (value.Addr 0) order.spans.inside
 
 pub values_as : (s t : List ℕ) (anew : NewValues) (i k : ℕ) (cs ds : List Spec) (vs ws : List Value) (rest : List ℕ) → s ≡ t → i ≡ k → cs ≡ ds → vs ≡ ws → PutsValues s anew i cs vs rest → PutsValues t anew k ds ws rest
 values_as s t anew i k cs ds vs ws rest e h f g p =

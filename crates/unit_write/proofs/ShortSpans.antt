@@ -1,5 +1,5 @@
 -- The expressions of a unit are no longer than the unit.
-use Rattle.std.proofs.Common.{◌≡◌, ◌≤◌, ◌<◌, ◌+◌, ◌-◌, ◌^◌, ℕ, zero, suc, List, [], ◌∷◌, length, get_or, replicate, take, drop, ◌∙◌, ap, refl, arith}
+use Rattle.std.proofs.Common.{◌≡◌, ◌≤◌, ◌<◌, ◌+◌, ◌-◌, ◌^◌, ℕ, zero, suc, List, [], ◌∷◌, length, get_or, replicate, take, drop, ◌∙◌, ap, refl, subst, arith}
 use Rattle.std.proofs.lemmas.List.{get_or-take, get_or-drop, length-drop, length-take-le, length-replicate}
 use Rattle.spelled.proofs.Parts.{length_part}
 use Rattle.dw_base.specs.declared.fault.Span.{Span}
@@ -16,16 +16,18 @@ use Rattle.entry_arena.specs.Standing.{StandsAs}
 use Rattle.entry_arena.specs.Trees.{ValuesBetween, bytes_between, listed_to}
 use Rattle.entry_arena.specs.Walks.{IsWhole}
 use Rattle.entry_arena.proofs.Between.{length_between}
-use Rattle.entry_arena.proofs.TreeLaws.{trees_are_walks}
 use Rattle.entry_arena.proofs.WalkPlaces.{walked_orderly}
-use Rattle.entry_read.specs.Units.{HeadAndForest, entries_at, end_of, declarations_of, IsUnitHeld}
+use Rattle.entry_read.specs.Units.{HeadAndForest, entries_at, end_of, declarations_of}
 use Rattle.entry_read.proofs.OwnerLaws.{values_belong}
-use Rattle.entry_read.proofs.PlaceLaws.{units_lie, entry_stands}
+use Rattle.entry_read.proofs.PlaceLaws.{units_lie}
+use Rattle.unit_write.specs.Taken.{IsHeldFor}
 use Rattle.unit_write.specs.Lens.{AreLensFor}
 use Rattle.unit_write.specs.Most.{most_bytes}
 use Rattle.unit_write.specs.Moved.{IsWritable}
 use Rattle.unit_write.specs.inside.Marks.{AreShort}
 use Rattle.unit_write.proofs.MostLaws.{spelled_len}
+use Rattle.unit_write.proofs.Standing.{as_read, whole_walk, read_stands}
+use Rattle.unit_write.proofs.TakenUnits.{same_expression, as_many, taken_at}
 
 abbrev expr_len : Value → ℕ
 expr_len (value.Expr span) = span.len
@@ -61,44 +63,46 @@ span_between section (c ∷ cs) (v ∷ vs) from to (suc j) span (next, spelled, 
     let rest : next + span.len ≤ to = span_between section cs vs next to j span more (omega arith) is in
     omega arith
 
-module _ (unit : HeadAndForest) (table : Listing) (held : IsUnitHeld unit.forest.section unit.head (declarations_of table) unit.forest) (room : most_bytes unit < 2 ^ 31) where
+module _ (unit : HeadAndForest) (table : Listing) (held : IsHeldFor unit table) (room : most_bytes unit < 2 ^ 31) where
   end : ℕ
-  end = held.0
+  end = held.held.0
 
-  whole : IsWhole unit.forest.section (declarations_of table) (entries_at unit.head) (listed_to unit.forest end)
+  whole : IsWhole unit.forest.section (declarations_of table) (entries_at unit.head) (listed_to (as_read unit table held) end)
   unfolding end
-  whole = (trees_are_walks unit.forest.section (declarations_of table) (entries_at unit.head) (listed_to unit.forest held.0)).0 held.1.tree
+  whole = whole_walk unit table held
 
   entries_end : ComesAfterAll unit.forest.entries unit.forest.ends end
-  entries_end = (walked_orderly unit.forest.section (declarations_of table) (entries_at unit.head) whole.items (listed_to unit.forest end) [] whole.walked).after
+  entries_end = (walked_orderly unit.forest.section (declarations_of table) (entries_at unit.head) whole.items (listed_to (as_read unit table held) end) [] whole.walked).after
 
   pub are_short : AreShort unit.forest
   unfolding end
   are_short k span is =
-      let f : Arena = unit.forest in
-      let owner = (values_belong f.section unit.head (declarations_of table) f refl held).owned k is.inside in
+      let f : Arena = as_read unit table held in
+      let known : k < length f.values = subst (λ (n : ℕ). k < n) (as_many unit table held) is.inside in
+      let there : value_at f.values k ≡ value.Expr span = same_expression unit.head (value_at f.values k) (value_at unit.forest.values k) span (taken_at unit table held k is.inside) is.is in
+      let owner = (values_belong f.section unit.head (declarations_of table) f refl held.held).owned k known in
       let id : ℕ = owner.0 in
       let inside : id < length f.entries = owner.1 in
       let first : ℕ = (entry_at f.entries id).first in
       let count : ℕ = (entry_at f.entries id).count in
       let from : first ≤ k = owner.2 in
       let below : k < first + count = owner.3 in
-      let lies = units_lie f.section unit.head (declarations_of table) f refl held in
+      let lies = units_lie f.section unit.head (declarations_of table) f refl held.held in
       let begins : entries_at unit.head ≤ (entry_at f.entries id).at = (lies.entries id (entry_at f.entries id).at (inside, refl)).0 in
-      let ends : (entry_at f.entries id).at + (entry_at f.entries id).len ≤ held.0 = entries_end.entered id inside in
-      let within : held.0 ≤ end_of unit.head = held.1.inside in
-      let stands : StandsAs f.section (declarations_of table) f.values (entry_at f.entries id) = entry_stands f.section unit.head (declarations_of table) f refl held id inside in
+      let ends : (entry_at f.entries id).at + (entry_at f.entries id).len ≤ held.held.0 = entries_end.entered id inside in
+      let within : held.held.0 ≤ end_of unit.head = held.held.1.inside in
+      let stands : StandsAs f.section (declarations_of table) f.values (entry_at f.entries id) = read_stands unit table held id inside in
       let code : (entry_at f.entries id).at ≤ stands.values_at = stands.coded.order in
       let all : first + count ≤ length f.values = lies.order.valued.inside id inside in
       let left : length (drop first f.values) ≡ length f.values - first = length-drop first f.values in
       let size : length (take count (drop first f.values)) ≡ count = length-take-le count (drop first f.values) (omega arith) in
       let e : first + (k - first) ≡ k = omega arith in
-      let here : value_at (take count (drop first f.values)) (k - first) ≡ value.Expr span = get_or-take count (drop first f.values) (k - first) _ (omega arith) ∙ get_or-drop first f.values (k - first) _ ∙ ap (value_at f.values) e ∙ is.is in
+      let here : value_at (take count (drop first f.values)) (k - first) ≡ value.Expr span = get_or-take count (drop first f.values) (k - first) _ (omega arith) ∙ get_or-drop first f.values (k - first) _ ∙ ap (value_at f.values) e ∙ there in
       let fits : stands.values_at + span.len ≤ (entry_at f.entries id).at + (entry_at f.entries id).len = span_between f.section _ (take count (drop first f.values)) stands.values_at _ (k - first) span stands.valued (omega arith) here in
       omega (arith, room, begins, ends, within, code, fits)
 
 -- a unit that can be written with any lengths is held
-pub held_of : (unit : HeadAndForest) (table : Listing) (columns : List Spec) (numbers : List ℕ) → ((lens : List ℕ) → AreLensFor unit.forest lens → IsWritable unit table columns numbers lens) → IsUnitHeld unit.forest.section unit.head (declarations_of table) unit.forest
+pub held_of : (unit : HeadAndForest) (table : Listing) (columns : List Spec) (numbers : List ℕ) → ((lens : List ℕ) → AreLensFor unit.forest lens → IsWritable unit table columns numbers lens) → IsHeldFor unit table
 held_of unit table columns numbers writable = (writable (replicate (length unit.forest.values) 0) (record {
   each = length-replicate (length unit.forest.values) 0;
   few = λ k span is. let none : get_or (replicate (length unit.forest.values) 0) k 0 ≡ 0 = zero_at (length unit.forest.values) k in omega arith;

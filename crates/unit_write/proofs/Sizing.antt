@@ -145,7 +145,7 @@ module _ (table : Listing) (columns : List Spec) (numbers : List ℕ) (f : Arena
       let first = subst (λ (z : List Spec). IsAfterValues z vs ns values_at to) c valued in
       let second = subst (λ (z : List Value). IsAfterValues cs z ns values_at to) v first in
       let named = subst (λ (z : List ℕ). IsAfterValues cs (values_in f id) z values_at to) n second in
-      let all : to ≡ values_at + sized.0 = named f.section sized.0 few (valued_between f.section small stands.0 (values_in f id) stands.1 stands.2 stands.3) sized.1 in
+      let all : to ≡ values_at + sized.0 = named f.section sized.0 few (stands small) sized.1 in
       let sum : size ≡ least_unsigned_len (slice_index numbers (entry_at f.entries id).decl) + sized.0 = sized.2 in
       omega arith
 
@@ -158,7 +158,7 @@ module _ (table : Listing) (columns : List Spec) (numbers : List ℕ) (f : Arena
       let room : HaveRoom cs (values_in f id) own_lens values_at = record {
         section = f.section;
         few = few;
-        valued = valued_between f.section small stands.0 (values_in f id) stands.1 stands.2 stands.3;
+        valued = stands small;
         size = sized.0;
         sized = sized.1;
         below =

@@ -15,7 +15,7 @@ use Rattle.abbrev_tables.specs.Listings.{Listing}
 use Rattle.expr_ops.specs.Expressions.{Operation}
 use Rattle.expr_ops.specs.Slots.{Aim}
 use Rattle.expr_ops.specs.Slots.Aim.{Place, Length}
-use Rattle.entry_arena.specs.Arena.{Arena, entry_at}
+use Rattle.entry_arena.specs.Arena.{Arena, entry_at, with_values}
 use Rattle.entry_arena.specs.Order.{HaveValues}
 use Rattle.entry_arena.specs.Trees.{nothing_from, listed_to}
 use Rattle.entry_arena.specs.Walks.{Item}
@@ -131,19 +131,19 @@ module _ (unit : HeadAndForest) (table : Listing) (columns : List Spec) (numbers
   bare = marked.placed
 
   follow : EndsFollow 0 bare.whole.items counts
-  follow = marked.entries (declarations_of table) (entries_at unit.head) bare.place bare.whole
+  follow = marked.entries bare.values (declarations_of table) (entries_at unit.head) bare.place bare.whole
 
   rises : Rises 0 (0 + (entries_at unit.head - unit.head.at)) counts es ds marks.places.end
   rises = places_rise (EntrySize table columns numbers unit.forest marked.lens) (entry_some table columns numbers unit.forest marked.lens) 0 (0 + (entries_at unit.head - unit.head.at)) bare.whole.items counts es ds marks.places.end follow bare.placed
 
   all_entries : length unit.forest.entries ≡ length es
   all_entries =
-      let e : length unit.forest.entries ≡ 0 + length es = (walk_many unit.forest.section (declarations_of table) (EntrySize table columns numbers unit.forest marked.lens) 0 (0 + (entries_at unit.head - unit.head.at)) bare.whole.items es ds marks.places.end (nothing_from (entries_at unit.head)) (listed_to unit.forest bare.place) [] [] bare.whole.walked bare.placed).0 in
+      let e : length unit.forest.entries ≡ 0 + length es = (walk_many unit.forest.section (declarations_of table) (EntrySize table columns numbers unit.forest marked.lens) 0 (0 + (entries_at unit.head - unit.head.at)) bare.whole.items es ds marks.places.end (nothing_from (entries_at unit.head)) (listed_to (with_values unit.forest bare.values) bare.place) [] [] bare.whole.walked bare.placed).0 in
       omega arith
 
   all_ends : length unit.forest.ends ≡ length ds
   all_ends =
-      let e : length unit.forest.ends ≡ 0 + length ds = (walk_many unit.forest.section (declarations_of table) (EntrySize table columns numbers unit.forest marked.lens) 0 (0 + (entries_at unit.head - unit.head.at)) bare.whole.items es ds marks.places.end (nothing_from (entries_at unit.head)) (listed_to unit.forest bare.place) [] [] bare.whole.walked bare.placed).1 in
+      let e : length unit.forest.ends ≡ 0 + length ds = (walk_many unit.forest.section (declarations_of table) (EntrySize table columns numbers unit.forest marked.lens) 0 (0 + (entries_at unit.head - unit.head.at)) bare.whole.items es ds marks.places.end (nothing_from (entries_at unit.head)) (listed_to (with_values unit.forest bare.values) bare.place) [] [] bare.whole.walked bare.placed).1 in
       omega arith
 
   -- so many entries stand before it
@@ -211,7 +211,7 @@ module _ (unit : HeadAndForest) (table : Listing) (columns : List Spec) (numbers
     weight_to id = weight unit.forest ops sizes (values_before unit.forest id)
 
     placed : ArePlaced (EntrySize table columns numbers unit.forest lens) 0 bare.whole.items (start + (entries_at unit.head - unit.head.at)) xs ys to
-    placed = subst (λ (z : List Item). ArePlaced (EntrySize table columns numbers unit.forest lens) 0 z (start + (entries_at unit.head - unit.head.at)) xs ys to) (same_items unit.forest (declarations_of table) (entries_at unit.head) full.place bare.place full.whole bare.whole) full.placed
+    placed = subst (λ (z : List Item). ArePlaced (EntrySize table columns numbers unit.forest lens) 0 z (start + (entries_at unit.head - unit.head.at)) xs ys to) (same_items unit.forest (declarations_of table) (entries_at unit.head) full.place bare.place full.values bare.values full.whole bare.whole) full.placed
 
     up : Rises 0 (start + (entries_at unit.head - unit.head.at)) counts xs ys to
     up = places_rise (EntrySize table columns numbers unit.forest lens) (entry_some table columns numbers unit.forest lens) 0 (start + (entries_at unit.head - unit.head.at)) bare.whole.items counts xs ys to follow placed

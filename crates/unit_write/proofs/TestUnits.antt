@@ -26,6 +26,7 @@ use Rattle.unit_write.proofs.Anew.{count_in}
 use Rattle.unit_write.specs.Sizes.{IsExpr}
 use Rattle.unit_write.specs.inside.Puts.{is_expr}
 use Rattle.unit_write.proofs.Sizing.{valued_between}
+use Rattle.unit_write.proofs.TakenUnits.{held_as_read}
 
 -- something can be written for a value, whatever section it stands in and however many bytes it takes as an expression or a reference
 abbrev pub IsSizedIn : Spec → Value → Type 0
@@ -57,7 +58,7 @@ own_lens f lens id each inside =
 pub sized_writable : (unit : HeadAndForest) (table : Listing) (columns : List Spec) (numbers lens : List ℕ) → length lens ≡ length unit.forest.values → IsHead unit.forest.section unit.head → IsUnitHeld unit.forest.section unit.head (declarations_of table) unit.forest → length numbers ≡ length table.decls → length columns ≡ length table.specs → All (λ (n : ℕ). n ≢ 0) numbers → AreBytes unit.forest.section → length unit.forest.section < 2 ^ 63 → ((id : ℕ) → id < length unit.forest.entries → ((entry_at unit.forest.entries id).decl < length table.decls) × AreSizedIn (columns_of table columns (entry_at unit.forest.entries id).decl) (values_in unit.forest id)) → IsWritable unit table columns numbers lens
 sized_writable unit table columns numbers lens count head held numbered renewed used small few each = record {
   head = head;
-  held = held;
+  held = held_as_read unit table held;
   numbered = numbered;
   renewed = renewed;
   used = λ id inside. used (entry_at unit.forest.entries id).decl 0 (let known : (entry_at unit.forest.entries id).decl < length table.decls = (each id inside).0 in omega arith);

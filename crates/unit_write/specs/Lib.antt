@@ -1,4 +1,5 @@
 pub mod Values
+pub mod Taken
 pub mod NewExpressions
 pub mod Placing
 pub mod Moved

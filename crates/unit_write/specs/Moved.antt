@@ -1,6 +1,7 @@
 -- A unit that is written anew behind other bytes of .debug_info.
 use Rattle.std.specs.Prelude.{◌≡◌, ◌≢◌, ◌<◌, ◌+◌, ◌-◌, ℕ, List, length, map, slice_index}
 use Rattle.std.specs.List.{All, AllZip}
+use Rattle.form_codec.specs.declared.value.Value.{Value}
 use Rattle.form_codec.specs.Values.{meant_in}
 use Rattle.abbrev_tables.specs.declared.decl.Spec.{Spec}
 use Rattle.abbrev_tables.specs.Tables.{Declared}
@@ -12,9 +13,10 @@ use Rattle.entry_arena.specs.Trees.{Listed}
 use Rattle.entry_arena.specs.Walks.{IsWhole}
 use Rattle.entry_read.specs.declared.head.UnitHead.{UnitHead}
 use Rattle.entry_read.specs.Heads.{IsHead}
-use Rattle.entry_read.specs.Units.{HeadAndForest, entries_at, declarations_of, IsUnit, IsUnitHeld}
+use Rattle.entry_read.specs.Units.{HeadAndForest, entries_at, declarations_of, IsUnit}
 use Rattle.entry_read.specs.Short.{StandsShort, EndsShort}
 use Rattle.unit_write.specs.declared.write.NewNumbers.{NewNumbers}
+use Rattle.unit_write.specs.Taken.{IsHeldFor}
 use Rattle.unit_write.specs.Values.{renewed}
 use Rattle.unit_write.specs.NewExpressions.{lens_of, made_of, new_lens}
 use Rattle.unit_write.specs.Placing.{EntrySize, ArePlaced}
@@ -50,21 +52,23 @@ pub record AreMovedValues (f : Arena) (anew : NewValues) (section : List ℕ) (n
   pub count : length new.values ≡ length f.values
   pub each : (k : ℕ) → k < length f.values → meant_in section (value_at new.values k) ≡ renewed (slice_index anew.held k) (made_of anew.ends anew.expressions k) (meant_in f.section (value_at f.values k))
 
--- What is needed of a unit that is to be written: it is held of its section, by the declarations of a table; the declaration of
--- each entry is used; and something can be written for each value in its new column, where expressions and references within the unit
--- are taken to have so many bytes.
+-- What is needed of a unit that is to be written: it is held of its section, by the declarations of a table, where some references may
+-- be taken as ones within the unit; the declaration of each entry is used; and something can be written for each value in its new
+-- column, where expressions and references within the unit are taken to have so many bytes.
 pub record IsWritable (unit : HeadAndForest) (table : Listing) (columns : List Spec) (numbers lens : List ℕ) : Type 0 where
   pub head : IsHead unit.forest.section unit.head
-  pub held : IsUnitHeld unit.forest.section unit.head (declarations_of table) unit.forest
+  pub held : IsHeldFor unit table
   pub numbered : length numbers ≡ length table.decls
   pub renewed : length columns ≡ length table.specs
   pub used : (id : ℕ) → id < length unit.forest.entries → slice_index numbers (entry_at unit.forest.entries id).decl ≢ 0
   pub sized : (id : ℕ) → id < length unit.forest.entries → (size : ℕ) × EntrySize table columns numbers unit.forest lens id size
 
--- The places of a unit's entries and codes 0, and where it begins and ends, in a new section.
+-- The places of a unit's entries and codes 0, and where it begins and ends, in a new section. They stand in the order in which they stand
+-- in the old one, where these are the values.
 pub record IsPlacedAt (unit : HeadAndForest) (table : Listing) (columns : List Spec) (numbers lens : List ℕ) (start : ℕ) (entries ends : List ℕ) (to : ℕ) : Type 0 where
   pub place : ℕ
-  pub whole : IsWhole unit.forest.section (declarations_of table) (entries_at unit.head) (record { entries = unit.forest.entries; values = unit.forest.values; ends = unit.forest.ends; place = place })
+  pub values : List Value
+  pub whole : IsWhole unit.forest.section (declarations_of table) (entries_at unit.head) (record { entries = unit.forest.entries; values = values; ends = unit.forest.ends; place = place })
   pub placed : ArePlaced (EntrySize table columns numbers unit.forest lens) 0 whole.items (start + (entries_at unit.head - unit.head.at)) entries ends to
 
 -- The new head: where the unit stands now, the new place of its table and of its type's entry, and all else as it was.

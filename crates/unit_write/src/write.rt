@@ -5,6 +5,7 @@ ghost use Rattle.spelled.specs.Spelled.{Appends};
 ghost use Rattle.leb_codec.specs.Digits.{Extends};
 ghost use Rattle.form_codec.specs.Values.{LiesIn};
 ghost use Rattle.abbrev_tables.specs.Tables.{Declared};
+ghost use Rattle.entry_arena.specs.Arena.{with_values};
 ghost use Rattle.entry_arena.specs.Trees.{listed_to};
 ghost use Rattle.entry_arena.specs.Walks.{IsWhole};
 ghost use Rattle.fixed_width.specs.InitialLengths.{least_reserved};
@@ -175,7 +176,7 @@ fn put_items(
 ) -> Result<(), NoMemory>
     requires writable { IsWritable unit.now decls.now specs.now numbers.now (lens_anew unit.now.forest (new_values new.now)) }
     requires new { AreNew (new_values new.now) (length unit.now.forest.values) }
-    ensures ok { (ds : List Declared) (start place : ℕ) (whole : IsWhole unit.now.forest.section ds start (listed_to unit.now.forest place)) → OnOk result (Appends (PutsItems (PutsEntry decls.now specs.now numbers.now (new_values new.now) unit.now.forest) 0) whole.items out.old.items out.new.items) }
+    ensures ok { (values : List Value) (ds : List Declared) (start place : ℕ) (whole : IsWhole unit.now.forest.section ds start (listed_to (with_values unit.now.forest values) place)) → OnOk result (Appends (PutsItems (PutsEntry decls.now specs.now numbers.now (new_values new.now) unit.now.forest) 0) whole.items out.old.items out.new.items) }
     ensures grows { Extends out.old.items out.new.items }
 {
     let mut items = Items::new();

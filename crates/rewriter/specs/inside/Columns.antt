@@ -1,15 +1,23 @@
 -- Inner contracts: the values of the columns of a table, as they are gathered, unit by unit, and in a unit entry by entry.
-use Rattle.std.specs.Prelude.{◌≡◌, ◌≤◌, ◌<◌, ◌+◌, ◌-◌, ◌^◌, ◌&&◌, ℕ, zero, suc, Bool, List, [], ◌∷◌, ◌++◌, length, map, slice_index, slice_index_or, nat_eq, nat_le, nat_lt, if◌then◌else◌, flat_map, Option}
+use Rattle.std.specs.Prelude.{◌≡◌, ◌≤◌, ◌<◌, ◌+◌, ◌-◌, ◌^◌, ◌&&◌, ◌++◌, ◌⊎◌, pos, ℕ, zero, suc, Bool, List, [], ◌∷◌, length, map, slice_index, slice_index_or, nat_eq, nat_le, nat_lt, if◌then◌else◌, flat_map, Option}
 use Rattle.std.specs.List.{sum_by}
+use Rattle.form_codec.specs.declared.form.Form.TheVariants.{RefAddr, RefUdata}
 use Rattle.form_codec.specs.declared.value.Value.{Value}
+use Rattle.form_codec.specs.Forms.{Meaning, code_of}
+use Rattle.form_codec.specs.Values.{meant_in}
 use Rattle.abbrev_tables.specs.declared.decl.Decl.{Decl}
-use Rattle.abbrev_tables.specs.Listings.{Listing, decl_at}
+use Rattle.abbrev_tables.specs.declared.decl.Spec.{Spec}
+use Rattle.abbrev_tables.specs.Listings.{Listing, decl_at, spec_at}
 use Rattle.column_forms.specs.Tallies.{Tallying}
-use Rattle.column_forms.specs.TableColumns.{AreTalliesOf}
+use Rattle.column_forms.specs.TableColumns.{AreTalliesOf, AreBestFor}
 use Rattle.entry_arena.specs.declared.entry.Entry.{Entry}
 use Rattle.entry_arena.specs.Arena.{value_at}
+use Rattle.entry_read.specs.declared.head.UnitHead.{UnitHead}
 use Rattle.entry_read.specs.Units.{HeadAndForest, declarations_of, IsUnitHeld, entry_limit}
+use Rattle.value_links.specs.Uses.{are_inside}
 use Rattle.rewriter.specs.declared.columns.Namers.{Namers}
+use Rattle.rewriter.specs.declared.inside_columns.Seen.{Seen}
+use Rattle.rewriter.specs.declared.inside_columns.Seen.TheVariants.{Nothing, Inside, Outside}
 use Rattle.rewriter.specs.inside.Placed.{unit_in}
 
 -- the numbers of those of the first so many units that have the table with a number, in their order
@@ -68,3 +76,57 @@ pub record AreUnitsOf (units : List HeadAndForest) (table : Listing) (named : Li
 pub record AreGathered (units : List HeadAndForest) (table : Listing) (named some : List ℕ) (tallies : List (Option Tallying)) : Type 0 where
   pub count : length tallies ≡ length table.specs
   pub tallied : (section : List ℕ) → AreUnitsOf units table named section → AreTalliesOf section (values_of_units units table.decls some) tallies
+
+-- REFERENCES TO PLACES IN THEIR OWN UNITS
+
+-- what values of a unit mean, each with the header of the unit
+abbrev pub with_head : HeadAndForest → List Value → List (UnitHead × Meaning)
+with_head unit values = map (λ (v : Value). (unit.head, meant_in unit.forest.section v)) values
+
+-- the values that a column has in listed units
+abbrev pub meanings_of_units : List HeadAndForest → List Decl → List ℕ → ℕ → List (UnitHead × Meaning)
+meanings_of_units units decls named k = flat_map (λ (u : ℕ). with_head (unit_in units u) (values_in_column decls (unit_in units u).forest.values (unit_in units u).forest.entries k)) named
+
+-- what is held of a column with these values
+abbrev pub seen_of : List (UnitHead × Meaning) → Seen
+seen_of [] = Nothing
+seen_of (v ∷ vs) = if are_inside (v ∷ vs) then Inside else Outside
+
+abbrev pub seen_at : List Seen → ℕ → Seen
+seen_at seen k = slice_index_or seen k Nothing
+
+-- so many columns are seen, which have these values, each column by its number
+pub record AreSeen (count : ℕ) (values : ℕ → List (UnitHead × Meaning)) (seen : List Seen) : Type 0 where
+  pub size : length seen ≡ count
+  pub each : (k : ℕ) → k < length seen → seen_at seen k ≡ seen_of (values k)
+
+-- the values of some entries of a unit are seen, each in its column
+pub record SeesEntries (decls : List Decl) (unit : HeadAndForest) (entries : List Entry) (old new : List Seen) : Type 0 where
+  pub count : length new ≡ length old
+  pub seen : (before : ℕ → List (UnitHead × Meaning)) → AreSeen (length old) before old → AreSeen (length old) (λ (k : ℕ). before k ++ with_head unit (values_in_column decls unit.forest.values entries k)) new
+
+-- the values of a row are seen in columns, from one on
+pub record SeesRow (first : ℕ) (row : List (UnitHead × Meaning)) (before after : ℕ → List (UnitHead × Meaning)) : Type 0 where
+  pub each : (j : ℕ) (d : UnitHead × Meaning) → j < length row → after (first + j) ≡ before (first + j) ++ slice_index_or row j d ∷ []
+  pub others : (k : ℕ) → (k < first) ⊎ (first + length row ≤ k) → after k ≡ before k
+
+-- a column of references within units
+abbrev pub inside_column : Spec → Spec
+inside_column column = record { name = column.name; form = code_of RefUdata; constant = pos 0 }
+
+-- A column of DW_FORM_ref_addr becomes one of these where all its values, and it has some, name places in their own units.
+abbrev pub column_inside : List (UnitHead × Meaning) → Spec → Spec
+column_inside [] column = column
+column_inside (v ∷ vs) column = if are_inside (v ∷ vs) && nat_eq column.form (code_of RefAddr) then inside_column column else column
+
+-- this is done with each column
+pub record AreInside (values : ℕ → List (UnitHead × Meaning)) (old new : List Spec) : Type 0 where
+  pub count : length new ≡ length old
+  pub each : (k : ℕ) → k < length old → spec_at new k ≡ column_inside (values k) (spec_at old k)
+
+-- The columns of a table are the best for the values of listed units, and then references to places in their own units are taken as ones
+-- within these.
+pub record AreBestInside (section : List ℕ) (units : List HeadAndForest) (decls : List Decl) (named : List ℕ) (old new : List Spec) : Type 0 where
+  pub best : List Spec
+  pub are : AreBestFor section (values_of_units units decls named) old best
+  pub inside : AreInside (meanings_of_units units decls named) best new

@@ -48,7 +48,7 @@ use Rattle.rewriter.specs.declared.new_places.MovedViews.{MovedViews}
 use Rattle.rewriter.specs.declared.new_places.NewPlaces.{NewPlaces}
 use Rattle.rewriter.specs.inside.NewPlaces.{moved_lists, moved_views_at, ViewsRise}
 use Rattle.rewriter.specs.inside.Tables.{new_table_at}
-use Rattle.rewriter.specs.inside.Placed.{PlacesAnew, places_anew, places_at, unit_in, IsPlacedBy, PlacesFollow}
+use Rattle.rewriter.specs.inside.Placed.{PlacesAnew, places_anew, places_at, unit_in, written_in, IsPlacedBy, PlacesFollow}
 use Rattle.rewriter.specs.inside.Numbers.{MovesEntry, IsNewNumber, IsNewReference, AreNewNumbers}
 
 -- the unit with a number has a table, which is also written anew
@@ -137,11 +137,12 @@ entry_in world u id = entry_at (unit_in world.units u).forest.entries id
 abbrev pub name_in : World → ℕ → ℕ → ℕ → ℕ
 name_in world u id column = (spec_at (table_for world u).specs ((decl_at (table_for world u).decls (entry_in world u id).decl).first + column)).name
 
-abbrev pub value_in : World → ℕ → ℕ → ℕ → Value
-value_in world u id column = value_at (unit_in world.units u).forest.values ((entry_in world u id).first + column)
+abbrev pub value_in : World → HeadAndForest → ℕ → ℕ → ℕ → Value
+value_in world own u id column = value_at own.forest.values ((entry_in world u id).first + column)
 
--- The entry is there with its declaration, its columns and its values, and each of these means something.
-pub record EntryMeans (world : World) (u id : ℕ) : Type 0 where
+-- The entry is there with its declaration, its columns and its values, and each of these means something. `own` is its unit as it is
+-- written.
+pub record EntryMeans (world : World) (own : HeadAndForest) (u id : ℕ) : Type 0 where
   pub unit : u < length world.units
   pub numbered : u < length world.table_of
   pub table : slice_index world.table_of u < length world.tables
@@ -149,18 +150,18 @@ pub record EntryMeans (world : World) (u id : ℕ) : Type 0 where
   pub declared : (entry_in world u id).decl < length (table_for world u).decls
   pub counted : (entry_in world u id).count ≡ (decl_at (table_for world u).decls (entry_in world u id).decl).count
   pub columns : (decl_at (table_for world u).decls (entry_in world u id).decl).first + (entry_in world u id).count ≤ length (table_for world u).specs
-  pub values : (entry_in world u id).first + (entry_in world u id).count ≤ length (unit_in world.units u).forest.values
-  pub means : (column : ℕ) → column < (entry_in world u id).count → MeansSomething world u id (name_in world u id column) (value_in world u id column)
+  pub values : (entry_in world u id).first + (entry_in world u id).count ≤ length own.forest.values
+  pub means : (column : ℕ) → column < (entry_in world u id).count → MeansSomething world u id (name_in world u id column) (value_in world own u id column)
 
 -- Numbers for the first columns of an entry follow others.
-pub record AreNumbersUpTo (world : World) (places : List Places) (new_places : NewPlaces) (u id : ℕ) (old new : List ℕ) (count : ℕ) : Type 0 where
+pub record AreNumbersUpTo (world : World) (own : HeadAndForest) (places : List Places) (new_places : NewPlaces) (u id : ℕ) (old new : List ℕ) (count : ℕ) : Type 0 where
   pub size : length new ≡ length old + count
   pub front : (k : ℕ) → k < length old → slice_index new k ≡ slice_index old k
   pub fit : (k : ℕ) → length old ≤ k → k < length new → slice_index new k < 2 ^ 32
-  pub each : (column : ℕ) → column < count → IsNumberOf world places new_places u id (name_in world u id column) (value_in world u id column) (slice_index new (length old + column))
+  pub each : (column : ℕ) → column < count → IsNumberOf world places new_places u id (name_in world u id column) (value_in world own u id column) (slice_index new (length old + column))
 
-abbrev pub AreNumbersOf : World → List Places → NewPlaces → ℕ → ℕ → List ℕ → List ℕ → Type 0
-AreNumbersOf world places new_places u id old new = AreNumbersUpTo world places new_places u id old new (entry_in world u id).count
+abbrev pub AreNumbersOf : World → HeadAndForest → List Places → NewPlaces → ℕ → ℕ → List ℕ → List ℕ → Type 0
+AreNumbersOf world own places new_places u id old new = AreNumbersUpTo world own places new_places u id old new (entry_in world u id).count
 
 -- Each value is one of an entry, and the entries have them one after the other.
 pub record HaveAllValues (f : Arena) : Type 0 where
@@ -170,10 +171,11 @@ pub record HaveAllValues (f : Arena) : Type 0 where
   pub last : (id : ℕ) → id + 1 ≡ length f.entries → (entry_at f.entries id).first + (entry_at f.entries id).count ≡ length f.values
 
 -- all entries of a unit are there, with values that mean something
-pub record UnitMeans (world : World) (u : ℕ) : Type 0 where
+pub record UnitMeans (world : World) (own : HeadAndForest) (u : ℕ) : Type 0 where
   pub known : u < length world.units
-  pub values : HaveAllValues (unit_in world.units u).forest
-  pub entries : (id : ℕ) → id < length (unit_in world.units u).forest.entries → EntryMeans world u id
+  pub values : HaveAllValues own.forest
+  pub same : own.forest.entries ≡ (unit_in world.units u).forest.entries
+  pub entries : (id : ℕ) → id < length (unit_in world.units u).forest.entries → EntryMeans world own u id
 
 -- An entry that is named in an expression of the unit `u` has a place, which isn't before what its reference counts from.
 pub record IsEntryPlaced (places : List Places) (u : ℕ) (named : Named) (other id : ℕ) : Type 0 where
@@ -202,14 +204,14 @@ abbrev pub AreOperationsNumbered : World → List Places → ℕ → List ℕ �
 AreOperationsNumbered world places u numbers = AreOperationsUpTo world places u numbers (length (operations_at world.operations u).ops)
 
 -- the new numbers of the values of the first entries
-pub record AreNumberedUpTo (world : World) (places : List Places) (new_places : NewPlaces) (u : ℕ) (held : List ℕ) (count : ℕ) : Type 0 where
-  pub size : (count < length (unit_in world.units u).forest.entries → length held ≡ (entry_in world u count).first) × (count ≡ length (unit_in world.units u).forest.entries → length held ≡ length (unit_in world.units u).forest.values)
+pub record AreNumberedUpTo (world : World) (own : HeadAndForest) (places : List Places) (new_places : NewPlaces) (u : ℕ) (held : List ℕ) (count : ℕ) : Type 0 where
+  pub size : (count < length (unit_in world.units u).forest.entries → length held ≡ (entry_in world u count).first) × (count ≡ length (unit_in world.units u).forest.entries → length held ≡ length own.forest.values)
   pub fit : (k : ℕ) → k < length held → slice_index held k < 2 ^ 32
   pub inside : (id : ℕ) → id < count → (entry_in world u id).first + (entry_in world u id).count ≤ length held
-  pub each : (id column : ℕ) → id < count → column < (entry_in world u id).count → IsNumberOf world places new_places u id (name_in world u id column) (value_in world u id column) (slice_index held ((entry_in world u id).first + column))
+  pub each : (id column : ℕ) → id < count → column < (entry_in world u id).count → IsNumberOf world places new_places u id (name_in world u id column) (value_in world own u id column) (slice_index held ((entry_in world u id).first + column))
 
-abbrev pub AreNumbered : World → List Places → NewPlaces → ℕ → List ℕ → Type 0
-AreNumbered world places new_places u held = AreNumberedUpTo world places new_places u held (length (unit_in world.units u).forest.entries)
+abbrev pub AreNumbered : World → HeadAndForest → List Places → NewPlaces → ℕ → List ℕ → Type 0
+AreNumbered world own places new_places u held = AreNumberedUpTo world own places new_places u held (length (unit_in world.units u).forest.entries)
 
 -- the reference of an operation in an expression of the unit `u` names what it may, if it has one
 abbrev pub OperationNames : World → ℕ → Op → Type 0
@@ -241,8 +243,8 @@ pub record IsTypeMoved (unit : HeadAndForest) (places : PlacesAnew) (new : ℕ) 
 pub record IsUnitBehind (world : World) (tables : List NewTable) (places : List Places) (new_places : NewPlaces) (u : ℕ) (section : List ℕ) : Type 0 where
   pub numbers : NewNumbers
   pub numbered : (file : List ℕ) (r : Reading) → Holds file world r → AreNewNumbers world r.links tables places new_places u numbers
-  pub placed : IsPlacedAt (unit_in world.units u) (table_for world u) (new_table_at tables (slice_index world.table_of u)).columns (new_table_at tables (slice_index world.table_of u)).numbers (lens_anew (unit_in world.units u).forest (new_values numbers)) (places_at places u).start (places_at places u).entries (places_at places u).ends (places_at places u).end
-  pub written : (ds : List Declared) → IsRenumbered (table_for world u) (new_table_at tables (slice_index world.table_of u)).columns (new_table_at tables (slice_index world.table_of u)).numbers ds → IsWrittenAnew (unit_in world.units u) (table_for world u) (new_table_at tables (slice_index world.table_of u)).columns (new_table_at tables (slice_index world.table_of u)).numbers ds numbers.table numbers.type_offset (new_values numbers) (places_at places u).start section
+  pub placed : IsPlacedAt (written_in world tables u) (table_for world u) (new_table_at tables (slice_index world.table_of u)).columns (new_table_at tables (slice_index world.table_of u)).numbers (lens_anew (written_in world tables u).forest (new_values numbers)) (places_at places u).start (places_at places u).entries (places_at places u).ends (places_at places u).end
+  pub written : (ds : List Declared) → IsRenumbered (table_for world u) (new_table_at tables (slice_index world.table_of u)).columns (new_table_at tables (slice_index world.table_of u)).numbers ds → IsWrittenAnew (written_in world tables u) (table_for world u) (new_table_at tables (slice_index world.table_of u)).columns (new_table_at tables (slice_index world.table_of u)).numbers ds numbers.table numbers.type_offset (new_values numbers) (places_at places u).start section
 
 -- The first units stand anew in a section, each at its place.
 pub record StandAnew (world : World) (tables : List NewTable) (places : List Places) (new_places : NewPlaces) (section : List ℕ) (count : ℕ) : Type 0 where

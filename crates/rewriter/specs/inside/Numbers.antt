@@ -18,6 +18,7 @@ use Rattle.unit_write.specs.NewExpressions.{made_of, refs_among, AreEndsFor, Are
 use Rattle.entry_arena.specs.Arena.{Arena, entry_at, chain_end_at}
 use Rattle.entry_arena.specs.Operations.{for_value, ops_of}
 use Rattle.entry_read.specs.Expressions.{IsExprAt}
+use Rattle.entry_read.specs.Slots.{meaning_at}
 use Rattle.entry_read.specs.Heads.{type_unit}
 use Rattle.unit_write.specs.declared.places.Places.{Places}
 use Rattle.unit_write.specs.declared.write.NewNumbers.{NewNumbers}
@@ -27,7 +28,7 @@ use Rattle.value_links.specs.World.{World, operations_at}
 use Rattle.rewriter.specs.declared.tables.NewTable.{NewTable}
 use Rattle.rewriter.specs.declared.new_places.NewPlaces.{NewPlaces}
 use Rattle.rewriter.specs.inside.Tables.{new_table_at}
-use Rattle.rewriter.specs.inside.Placed.{PlacesAnew, places_at}
+use Rattle.rewriter.specs.inside.Placed.{PlacesAnew, places_at, written_in}
 use Rattle.rewriter.specs.inside.NewPlaces.{IsOffsetAnew}
 
 -- an entry that stands at an old place stands at a new one
@@ -100,4 +101,4 @@ pub record AreNewNumbers (world : World) (r : Linkable) (tables : List NewTable)
   pub op_numbers : List ℕ
   pub references : (number : ℕ) (span : Span) → IsExprAt (unit_at r u).forest number span → AreNewReferences r places u (ops_of (operations_at world.operations u) number) (for_value (operations_at world.operations u) op_numbers number)
   pub expressions : AreWrittenShortest (unit_at r u).forest (operations_at world.operations u) new.expressions.ends.items op_numbers new.expressions.bytes.items
-  pub each : (id number name : ℕ) (meaning : Meaning) (place : ℕ) → HasValueAt (unit_at r u) id number name meaning place → IsNewValue r places new_places u id name meaning (slice_index new.held.items number) (made_of new.expressions.ends.items new.expressions.bytes.items number)
+  pub each : (id number name : ℕ) (meaning : Meaning) (place : ℕ) → HasValueAt (unit_at r u) id number name meaning place → IsNewValue r places new_places u id name (meaning_at (written_in world tables u).forest number) (slice_index new.held.items number) (made_of new.expressions.ends.items new.expressions.bytes.items number)

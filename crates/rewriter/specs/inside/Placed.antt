@@ -17,6 +17,7 @@ use Rattle.value_links.specs.World.{World, table_at, operations_at}
 use Rattle.rewriter.specs.declared.tables.NewTable.{NewTable}
 use Rattle.rewriter.specs.inside.Owned.{AreOwnedIn, AreListAims}
 use Rattle.rewriter.specs.inside.Tables.{new_table_at}
+use Rattle.rewriter.specs.inside.Taken.{taken_unit, IsTakenFrom}
 
 -- the places of a unit: where it begins, its entries, its codes 0, and where it ends
 pub record PlacesAnew : Type 0 where
@@ -35,25 +36,33 @@ places_at places u = slice_index_or (map places_anew places) u (record { start =
 abbrev pub unit_in : List HeadAndForest → ℕ → HeadAndForest
 unit_in units u = slice_index_or units u (record { head = record { at = 0; len = 0; kind = 0; table = 0; extra = 0; type_at = 0 }; forest = record { section = []; entries = []; values = []; ends = [] } })
 
--- the operations of each value of the unit with a number
-abbrev pub operations_for : World → ℕ → ℕ → List Operation
-operations_for world u = operations_in (unit_in world.units u).forest (operations_at world.operations u)
+-- the unit with a number as it is written by new columns of its table: references that get DW_FORM_ref_udata are taken as ones within it
+abbrev pub written_in : World → List NewTable → ℕ → HeadAndForest
+written_in world tables u = taken_unit (table_at world.tables (slice_index world.table_of u)).table (new_table_at tables (slice_index world.table_of u)).columns (unit_in world.units u)
+
+-- its values stand for those that were read
+abbrev pub AreTaken : World → List NewTable → Type 0
+AreTaken world tables = (u : ℕ) → u < length world.units → IsTakenFrom (unit_in world.units u) (written_in world tables u)
+
+-- the operations of each value of a unit with a number, as it is written
+abbrev pub operations_for : World → HeadAndForest → ℕ → ℕ → List Operation
+operations_for world unit u = operations_in unit.forest (operations_at world.operations u)
 
 -- The unit stands at these places, by the new columns and numbers of its table and the least layout of its slots and of those of the
 -- location lists that it owns. The ranks show why the layout is the least.
 pub record IsPlacedBy (world : World) (tables : List NewTable) (u : ℕ) (places : PlacesAnew) : Type 0 where
   pub spots : List Spot
-  pub named : AreSpotsOf (unit_in world.units u) (operations_for world u) spots
+  pub named : AreSpotsOf (written_in world tables u) (operations_for world (written_in world tables u) u) spots
   pub owned : List ℕ
   pub owns : AreOwnedIn world u owned
   pub more : List Aim
   pub told : AreListAims world owned more
   pub lists : List ListSlot
-  pub listed : AreListSlots (unit_in world.units u) more lists
+  pub listed : AreListSlots (written_in world tables u) more lists
   pub lens : List ℕ
   pub ranks : List ℕ
-  pub laid_out : IsLaidOut (unit_in world.units u) (table_at world.tables (slice_index world.table_of u)).table (new_table_at tables (slice_index world.table_of u)).columns (new_table_at tables (slice_index world.table_of u)).numbers (operations_for world u) more (all_spots spots lists) lens ranks
-  pub placed : IsPlacedAt (unit_in world.units u) (table_at world.tables (slice_index world.table_of u)).table (new_table_at tables (slice_index world.table_of u)).columns (new_table_at tables (slice_index world.table_of u)).numbers lens places.start places.entries places.ends places.end
+  pub laid_out : IsLaidOut (written_in world tables u) (table_at world.tables (slice_index world.table_of u)).table (new_table_at tables (slice_index world.table_of u)).columns (new_table_at tables (slice_index world.table_of u)).numbers (operations_for world (written_in world tables u) u) more (all_spots spots lists) lens ranks
+  pub placed : IsPlacedAt (written_in world tables u) (table_at world.tables (slice_index world.table_of u)).table (new_table_at tables (slice_index world.table_of u)).columns (new_table_at tables (slice_index world.table_of u)).numbers lens places.start places.entries places.ends places.end
 
 -- units stand one after the other, from a place up to another
 abbrev pub PlacesFollow : List Places → ℕ → ℕ → Type 0
@@ -70,7 +79,7 @@ pub record ArePlacesOf (world : World) (tables : List NewTable) (places : List P
 -- each unit of the world can be written by the new columns and numbers of its table, whatever sizes its slots have
 abbrev pub AreWritable : World → List NewTable → Type 0
 AreWritable world tables =
-    (u : ℕ) (lens : List ℕ) → u < length world.units → AreLensFor (unit_in world.units u).forest lens → IsWritable (unit_in world.units u) (table_at world.tables (slice_index world.table_of u)).table (new_table_at tables (slice_index world.table_of u)).columns (new_table_at tables (slice_index world.table_of u)).numbers lens
+    (u : ℕ) (lens : List ℕ) → u < length world.units → AreLensFor (written_in world tables u).forest lens → IsWritable (written_in world tables u) (table_at world.tables (slice_index world.table_of u)).table (new_table_at tables (slice_index world.table_of u)).columns (new_table_at tables (slice_index world.table_of u)).numbers lens
 
 -- the records of units have these ranks, one after the other
 pub record AreRanksOf (world : World) (tables : List NewTable) (places : List Places) (records : List ℕ) : Type 0 where

@@ -16,11 +16,12 @@ use Rattle.value_links.specs.World.{World}
 use Rattle.rewriter.specs.declared.tables.NewTable.{NewTable}
 use Rattle.rewriter.specs.declared.new_places.NewPlaces.{NewPlaces}
 use Rattle.rewriter.specs.inside.Tables.{new_table_at}
-use Rattle.rewriter.specs.inside.Placed.{places_at}
+use Rattle.rewriter.specs.inside.Placed.{places_at, written_in}
 use Rattle.rewriter.specs.inside.Numbers.{AreNewNumbers}
 
 -- The new unit is the old one at its new places, up to its end: the same header but for its length and the places in it, and the
--- same entries, values and codes 0, with new numbers of declarations, references and section offsets. No byte is too many, and none
+-- same entries, values and codes 0, with new numbers of declarations, references and section offsets, where some references are taken as
+-- ones within the unit. No byte is too many, and none
 -- follows its tree.
 pub record IsUnitMoved (world : World) (r : Linkable) (tables : List NewTable) (places : List Places) (new_places : NewPlaces) (u : ℕ) (new : UnitRead) : Type 0 where
   pub numbers : NewNumbers
@@ -33,7 +34,7 @@ pub record IsUnitMoved (world : World) (r : Linkable) (tables : List NewTable) (
   pub table_at : new.head.table ≡ (new_table_at tables (slice_index world.table_of u)).at
   pub renumbered : IsRenumbered (unit_at r u).table (new_table_at tables (slice_index world.table_of u)).columns (new_table_at tables (slice_index world.table_of u)).numbers (declarations new)
   pub entries : AllZip (IsMovedEntry (new_table_at tables (slice_index world.table_of u)).numbers) (unit_at r u).forest.entries new.forest.entries
-  pub values : AreMovedValues (unit_at r u).forest (new_values numbers) new.forest.section (listed_to new.forest 0)
+  pub values : AreMovedValues (written_in world tables u).forest (new_values numbers) new.forest.section (listed_to new.forest 0)
   pub chain_ends : AllZip IsMovedEnd (unit_at r u).forest.ends new.forest.ends
   pub short : (id : ℕ) → id < length new.forest.entries → StandsShort new.forest.section (declarations new) new.forest.values (entry_at new.forest.entries id)
   pub ends_short : All (EndsShort new.forest.section) new.forest.ends

@@ -2,6 +2,7 @@
 use Rattle.std.specs.Prelude.{◌≡◌, ◌≤◌, ◌<◌, ◌+◌, ◌*◌, ◌^◌, ℕ, zero, suc, List, [], ◌∷◌, length, sum, take, slice_index, slice_index_or, slice_range}
 use Rattle.dw_base.specs.declared.fault.Span.{Span}
 use Rattle.leb_codec.specs.Layout.{SlotForm, uleb, call}
+use Rattle.form_codec.specs.declared.value.Value.{Value}
 use Rattle.abbrev_tables.specs.declared.decl.Spec.{Spec}
 use Rattle.abbrev_tables.specs.Listings.{Listing}
 use Rattle.abbrev_tables.specs.Tables.{Declared}
@@ -13,7 +14,7 @@ use Rattle.expr_ops.specs.Expressions.{Operation}
 use Rattle.expr_ops.specs.Shortest.{fixed_length}
 use Rattle.expr_ops.specs.Slots.{Aim}
 use Rattle.expr_ops.specs.Slots.Aim.{Place, Length}
-use Rattle.entry_arena.specs.Arena.{Arena, entry_at}
+use Rattle.entry_arena.specs.Arena.{Arena, entry_at, with_values}
 use Rattle.entry_arena.specs.Trees.{listed_to}
 use Rattle.entry_arena.specs.Walks.{Item, IsWhole}
 use Rattle.entry_arena.specs.Walks.Item.{AnEntry, AnEnd}
@@ -74,10 +75,10 @@ EndsFollow id (AnEntry number ∷ items) counts = EndsFollow (suc id) items coun
 EndsFollow id (AnEnd ∷ items) (n ∷ counts) = (n ≡ id) × EndsFollow id items counts
 EndsFollow _ _ _ = ⊥
 
--- for each code 0 of a unit how many entries stand before it, whatever walk its entries and codes 0 are
+-- for each code 0 of a unit how many entries stand before it, whatever walk its entries and codes 0 are, with whatever values
 abbrev pub AreEntriesCounted : Arena → List ℕ → Type 0
 AreEntriesCounted f counts =
-    (ds : List Declared) (start place : ℕ) (whole : IsWhole f.section ds start (listed_to f place)) → EndsFollow 0 whole.items counts
+    (values : List Value) (ds : List Declared) (start place : ℕ) (whole : IsWhole f.section ds start (listed_to (with_values f values) place)) → EndsFollow 0 whole.items counts
 
 -- where all stand with no byte for any slot, and what stands before them
 pub record AreMarks (unit : HeadAndForest) (table : Listing) (columns : List Spec) (numbers : List ℕ) (ops : ℕ → List Operation) (marks : Marks) : Type 0 where

@@ -1,10 +1,12 @@
 -- What parts of the two calls give: what stands next in a unit, and where it is placed.
 use Rattle.std.specs.Prelude.{◌≡◌, ◌<◌, ◌+◌, ℕ, List, [], ◌∷◌, ◌++◌, length, Option, Some, None}
+use Rattle.std.specs.List.{All}
+use Rattle.spelled.specs.Spelled.{AreBytes}
 use Rattle.form_codec.specs.declared.value.Value.{Value}
-use Rattle.abbrev_tables.specs.declared.decl.Spec.{Spec}
+use Rattle.form_codec.specs.Values.{IsValueIn}
 use Rattle.abbrev_tables.specs.Tables.{Declared}
-use Rattle.entry_arena.specs.Arena.{Arena, entry_at, chain_end_at}
-use Rattle.entry_arena.specs.Trees.{Listed, listed_to, ValuesBetween}
+use Rattle.entry_arena.specs.Arena.{Arena, entry_at, chain_end_at, with_values}
+use Rattle.entry_arena.specs.Trees.{Listed, listed_to}
 use Rattle.entry_arena.specs.Walks.{Item}
 use Rattle.entry_arena.specs.Onward.{HasWalked, EntryIsNext, EndIsNext, IsWalked}
 use Rattle.unit_write.specs.declared.items.Items.{Items}
@@ -23,14 +25,14 @@ IsNext f ds start place items now chains rest old new None = (new ≡ old) × Is
 IsNext f ds start place items now chains rest old new (Some (TheEntry id)) = (id ≡ old.entries) × (new ≡ record { entries = old.entries + 1; ends = old.ends }) × EntryIsNext f.section ds start (listed_to f place) old.entries old.ends items now chains rest
 IsNext f ds start place items now chains rest old new (Some TheEnd) = (new ≡ record { entries = old.entries; ends = old.ends + 1 }) × EndIsNext f.section ds start (listed_to f place) old.entries old.ends items now chains rest
 
--- whatever walk it is
+-- whatever walk it is, and whatever values the section has where others are taken for them
 abbrev pub GoesOn : Arena → Items → Items → Option Next → Type 0
 GoesOn f old new next =
-    (ds : List Declared) (start place : ℕ) (items : List Item) (now : Listed) (chains : List ℕ) (rest : List Item) → HasWalked f.section ds start (listed_to f place) old.entries old.ends items now chains rest → IsNext f ds start place items now chains rest old new next
+    (values : List Value) (ds : List Declared) (start place : ℕ) (items : List Item) (now : Listed) (chains : List ℕ) (rest : List Item) → HasWalked f.section ds start (listed_to (with_values f values) place) old.entries old.ends items now chains rest → IsNext (with_values f values) ds start place items now chains rest old new next
 
--- the values of some columns, which stand somewhere in the section
+-- the values lie in the section, which is one of bytes
 abbrev pub AreStanding : List ℕ → List Value → Type 0
-AreStanding section values = (columns : List Spec) × (from : ℕ) × (to : ℕ) × ValuesBetween section columns values from to
+AreStanding section values = AreBytes section → All (IsValueIn section) values
 
 -- What stands next is held.
 abbrev pub HasItem : Arena → Next → Type 0

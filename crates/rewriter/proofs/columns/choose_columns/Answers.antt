@@ -1,45 +1,33 @@
-use Rattle.std.proofs.Common.{◌≡◌, ◌≤◌, ◌<◌, ◌∙◌, ℕ, List, length, take, get_or, ap, subst}
-use Rattle.std.proofs.lemmas.List.{take_all}
+use Rattle.std.proofs.Common.{◌≡◌, ◌∙◌, List, length, sym, ap, subst, refl}
 use Rattle.abbrev_tables.specs.declared.decl.Spec.{Spec}
-use Rattle.column_forms.specs.TableColumns.{AreTalliesOf, AreBestFor}
-use Rattle.rewriter.specs.inside.Columns.{values_of_units}
-use Rattle.rewriter.proofs.ColumnUnits.{unit_held, unit_room, gathered_more, gathered_none}
+use Rattle.rewriter.specs.declared.inside_columns.Seen.{Seen}
+use Rattle.rewriter.specs.inside.Columns.{AreInside, AreSeen, meanings_of_units}
+use Rattle.rewriter.proofs.ColumnsSeen.{seen_as, none_taken}
+use Rattle.rewriter.proofs.columns.choose_columns.Goals.{then-has_section_refs+in_ok-seen, else-has_section_refs}
 use Rattle.rewriter.proofs.columns.choose_columns.Goals as goal
 
-pub loop-number-init : goal.loop-number-init
-loop-number-init c = gathered_none c.args.units.now.items c.args.table.now c.args.named.now.items c.in_ok-tallies.tallies (c.in_ok-tallies.ensures.count ∙ ap length c.specs-specs.ensures) c.in_ok-tallies.ensures.none
-
-pub add_unit-requires-clause-unit : goal.add_unit-requires-clause-unit
-add_unit-requires-clause-unit c =
-    let n : ℕ = c.loop-number.number-index in
-    let number : ℕ = get_or c.deref-number-items.result.now n 0 in
-    let listed : c.deref-number-items.result.now ≡ c.args.named.now.items = c.deref-number-items.ensures.value in
-    let inside : n < length c.args.named.now.items = subst (λ (z : List ℕ). n < length z) listed c.loop-number-test.true in
-    unit_held c.args.units.now.items c.args.table.now c.args.named.now.items c.requires.named.0 c.requires.named.1 n inside number (ap (λ (z : List ℕ). get_or z n 0) listed) c.index.result.now c.index.ensures
-
-pub add_unit-requires-clause-room : goal.add_unit-requires-clause-room
-add_unit-requires-clause-room c =
-    let n : ℕ = c.loop-number.number-index in
-    let number : ℕ = get_or c.deref-number-items.result.now n 0 in
-    let listed : c.deref-number-items.result.now ≡ c.args.named.now.items = c.deref-number-items.ensures.value in
-    let inside : n < length c.args.named.now.items = subst (λ (z : List ℕ). n < length z) listed c.loop-number-test.true in
-    unit_room c.args.units.now.items c.args.table.now c.args.named.now.items c.requires.named.0 c.requires.named.1 n inside number (ap (λ (z : List ℕ). get_or z n 0) listed) c.index.result.now c.index.ensures c.loop-number.tallies c.loop-number.tallies c.loop-number.invariant
-
-pub loop-number-preserved : goal.loop-number-preserved
-loop-number-preserved c =
-    let n : ℕ = c.loop-number.number-index in
-    let number : ℕ = get_or c.deref-number-items.result.now n 0 in
-    let listed : c.deref-number-items.result.now ≡ c.args.named.now.items = c.deref-number-items.ensures.value in
-    let inside : n < length c.args.named.now.items = subst (λ (z : List ℕ). n < length z) listed c.loop-number-test.true in
-    gathered_more c.args.units.now.items c.args.table.now c.args.named.now.items c.requires.named.0 c.requires.named.1 n inside number (ap (λ (z : List ℕ). get_or z n 0) listed) c.index.result.now c.index.ensures c.loop-number.tallies c.add_unit.new.tallies c.loop-number.invariant c.in_ok-add_unit.ensures.added
+pub take_inside-requires : goal.take_inside-requires
+take_inside-requires c =
+    ap length c.deref-then-has_section_refs.ensures.value ∙ c.in_ok-seen.ensures.size ∙ sym (c.in_ok-columns.ensures c.requires.named.0 c.requires.named.1).count
 
 pub returns : goal.returns
 returns c = λ section are.
-    let units = c.args.units.now.items in
-    let decls = c.args.table.now.decls in
-    let named = c.args.named.now.items in
-    let listed : c.deref-number-items.result.now ≡ named = c.deref-number-items.ensures.value in
-    let past : length named ≤ c.loop-number.number-index = subst (λ (z : List ℕ). length z ≤ c.loop-number.number-index) listed c.loop-number-test.false in
-    let all : take c.loop-number.number-index named ≡ named = take_all c.loop-number.number-index named past in
-    let tallied = subst (λ (z : List ℕ). AreTalliesOf section (values_of_units units decls z) c.loop-number.tallies) all (c.loop-number.invariant.tallied section are) in
-    subst (λ (z : List Spec). AreBestFor section (values_of_units units decls named) z c.in_ok-best.field-0.items) c.specs-specs.ensures (c.in_ok-best.ensures section (values_of_units units decls named) tallied)
+    let best : List Spec = c.in_ok-columns.columns.items in
+    let are_best = c.in_ok-columns.ensures section are in
+    let specs : List Spec = c.args.table.now.specs in
+    let meanings = meanings_of_units c.args.units.now.items c.args.table.now.decls c.args.named.now.items in
+    record {
+      best = best;
+      are = are_best;
+      inside = elim c.if-has_section_refs.branch [
+        | then-has_section_refs+in_ok-seen w ↦
+            let listed = seen_as (length specs) (length best) meanings meanings w.in_ok-seen.seen.items (sym are_best.count) (λ k. refl) w.in_ok-seen.ensures in
+            let seen = subst (λ (z : List Seen). AreSeen (length best) meanings z) (sym w.deref-then-has_section_refs.ensures.value) listed in
+            subst (λ (z : List Spec). AreInside meanings best z) (sym (ap (λ columns. columns.items) w.columns-is)) (w.take_inside.ensures meanings seen)
+        | else-has_section_refs w ↦
+            let listed : c.deref.result.now ≡ best = c.deref.ensures.value in
+            let none = none_taken meanings c.deref.result.now (c.has_section_refs.ensures w.if-has_section_refs.false) in
+            let still = subst (λ (z : List Spec). AreInside meanings z z) listed none in
+            subst (λ (z : List Spec). AreInside meanings best z) (sym (ap (λ columns. columns.items) w.columns-is)) still
+      ];
+    }

@@ -20,7 +20,7 @@ pub loop-column-preserved : goal.loop-column-preserved
 loop-column-preserved c =
     let named = subst (λ (n : ℕ). IsNumberOf c.args.world.now c.args.places.now.items c.args.new_places.now c.args.unit c.args.id n c.value_of-value.result c.new_number-number.result) c.name_of-name.ensures c.new_number-number.ensures.number in
     let is = subst (λ (v : Value). IsNumberOf c.args.world.now c.args.places.now.items c.args.new_places.now c.args.unit c.args.id (name_in c.args.world.now c.args.unit c.args.id c.loop-column.column) v c.new_number-number.result) c.value_of-value.ensures named in
-    subst (λ (z : List ℕ). AreNumbersUpTo c.args.world.now c.args.places.now.items c.args.new_places.now c.args.unit c.args.id c.args.held.now.items z (c.loop-column.column + 1)) (sym c.in_ok-push.ensures.items) (numbers_more c.args.world.now c.args.places.now.items c.args.new_places.now c.args.unit c.args.id c.args.held.now.items c.loop-column.held.items c.loop-column.column c.new_number-number.result c.loop-column.invariant c.new_number-number.ensures.fits is)
+    subst (λ (z : List ℕ). AreNumbersUpTo c.args.world.now c.args.own.now c.args.places.now.items c.args.new_places.now c.args.unit c.args.id c.args.held.now.items z (c.loop-column.column + 1)) (sym c.in_ok-push.ensures.items) (numbers_more c.args.world.now c.args.own.now c.args.places.now.items c.args.new_places.now c.args.unit c.args.id c.args.held.now.items c.loop-column.held.items c.loop-column.column c.new_number-number.result c.loop-column.invariant c.new_number-number.ensures.fits is)
 
 pub returns : goal.returns
 returns c =
@@ -30,4 +30,4 @@ returns c =
     let past : c.entry-count.result.count ≤ c.loop-column.column = c.loop-column-test.false in
     let most : c.loop-column.column ≤ c.entry-count.result.count = c.loop-column.auto.column-end in
     let same : c.loop-column.column ≡ (entry_in c.args.world.now c.args.unit c.args.id).count = omega arith in
-    subst (AreNumbersUpTo c.args.world.now c.args.places.now.items c.args.new_places.now c.args.unit c.args.id c.args.held.now.items c.loop-column.held.items) same c.loop-column.invariant
+    subst (AreNumbersUpTo c.args.world.now c.args.own.now c.args.places.now.items c.args.new_places.now c.args.unit c.args.id c.args.held.now.items c.loop-column.held.items) same c.loop-column.invariant

@@ -1,17 +1,16 @@
-use Rattle.std.proofs.Common.{◌≡◌, ◌≤◌, ◌<◌, ◌+◌, ◌^◌, ℕ, List, length, slice_index, sym, ap, subst, arith}
+use Rattle.std.proofs.Common.{◌≡◌, ◌≤◌, ◌<◌, ◌+◌, ◌^◌, ℕ, List, length, slice_index, sym, ap, refl, subst, arith}
 use Rattle.std.specs.Prelude.{IfOk}
 use Rattle.std.proofs.lemmas.Grind.{common_steps}
 use Rattle.dw_base.specs.declared.fault.Reach.TheVariants.{Narrow}
 use Rattle.entry_arena.specs.Operations.{HeldOps}
-use Rattle.entry_read.specs.Units.{HeadAndForest}
 use Rattle.slot_layout.specs.Rows.{most_slots}
 use Rattle.unit_write.specs.declared.slots.ListSlot.{ListSlot}
 use Rattle.unit_write.specs.Slots.{AreListSlots}
-use Rattle.unit_write.specs.Most.{most_bytes}
 use Rattle.rewriter.specs.inside.Placed.{unit_in}
 use Rattle.rewriter.proofs.UnitRoom.{units_are_few}
-use Rattle.rewriter.proofs.Links.{own_is}
+use Rattle.rewriter.proofs.Meant.{taken_is}
 use Rattle.rewriter.proofs.Final.{named_is, new_table_is}
+use Rattle.rewriter.proofs.TakenLaws.{taken_operations, taken_list_slots, taken_most}
 use Rattle.rewriter.proofs.OpNumbers.{operations_count, operations_read}
 use Rattle.rewriter.proofs.UnitExpressions.{number_read, operations_there}
 use Rattle.rewriter.proofs.PlacedUnits.{has_tables, spots_few, writable_however, spots_there, all_placed_back}
@@ -57,70 +56,69 @@ index-new-requires c =
 
 pub lay_out-requires-clause-operations : goal.lay_out-requires-clause-operations
 lay_out-requires-clause-operations c =
-    let own = own_is c.args.world.now c.args.number c.units.result.now.items c.index-unit.result.now c.requires.known c.units.ensures c.index-unit.ensures in
+    let world = c.args.world.now in
     let operations = operations_read c.args.world.now c.args.number c.operations.result.now.items c.index-operations.result.now (operations_count c.args.world.now (Narrow, c.requires.world) c.args.number c.requires.known) c.operations.ensures c.index-operations.ensures in
-    operations_there c.args.world.now c.args.number c.index-unit.result.now c.index-operations.result.now c.requires.world c.requires.known own operations
+    let taken = taken_is world c.args.tables.now.items c.args.number c.written_unit-unit.result.now c.requires.taken c.requires.known c.written_unit-unit.ensures in
+    taken_operations (unit_in world.units c.args.number) c.written_unit-unit.result.now taken Narrow c.index-operations.result.now (operations_there world c.args.number (unit_in world.units c.args.number) c.index-operations.result.now c.requires.world c.requires.known refl operations)
 
 pub lay_out-requires-clause-writable : goal.lay_out-requires-clause-writable
 lay_out-requires-clause-writable c =
-    let own = own_is c.args.world.now c.args.number c.units.result.now.items c.index-unit.result.now c.requires.known c.units.ensures c.index-unit.ensures in
     let operations = operations_read c.args.world.now c.args.number c.operations.result.now.items c.index-operations.result.now (operations_count c.args.world.now (Narrow, c.requires.world) c.args.number c.requires.known) c.operations.ensures c.index-operations.ensures in
     let has = has_tables c.args.world.now c.args.tables.now.items c.args.number c.requires.world c.requires.writable c.requires.known in
     let old = named_is c.args.world.now c.args.number c.tables.result.now.items c.table_numbers.result.now.items c.index.result.now c.index-2.result.now has.numbered has.old c.tables.ensures c.table_numbers.ensures c.index.ensures c.index-2.ensures in
     let new = new_table_is c.args.world.now c.args.tables.now.items c.args.number c.table_numbers.result.now.items c.index.result.now c.index-new.result.now has c.table_numbers.ensures c.index.ensures c.index-new.ensures in
-    writable_however c.args.world.now c.args.tables.now.items c.args.number c.index-unit.result.now c.index-operations.result.now c.index-2.result.now c.index-new.result.now own operations old new c.requires.writable c.requires.known
+    writable_however c.args.world.now c.args.tables.now.items c.args.number c.written_unit-unit.result.now c.index-operations.result.now c.index-2.result.now c.index-new.result.now c.written_unit-unit.ensures operations old new c.requires.writable c.requires.known
 
 pub lay_out-requires-clause-room : goal.lay_out-requires-clause-room
 lay_out-requires-clause-room c =
-    let own = own_is c.args.world.now c.args.number c.units.result.now.items c.index-unit.result.now c.requires.known c.units.ensures c.index-unit.ensures in
-    let room = subst (λ (h : HeadAndForest). c.args.start + most_bytes h < 2 ^ 31) (sym own) c.requires.room in
-    omega (arith, room)
+    let taken = taken_is c.args.world.now c.args.tables.now.items c.args.number c.written_unit-unit.result.now c.requires.taken c.requires.known c.written_unit-unit.ensures in
+    let most = taken_most (unit_in c.args.world.now.units c.args.number) c.written_unit-unit.result.now taken in
+    omega (arith, most, c.requires.room)
 
 pub lay_out-requires-clause-few : goal.lay_out-requires-clause-few
 lay_out-requires-clause-few c =
-    let few = spots_few c.args.world.now c.args.number c.requires.world c.requires.known c.in_ok-spots.spots.items c.in_ok-lists.lists.items c.slots_fit.ensures c.in_ok-spots.ensures c.in_ok-lists.ensures.few in
+    let taken = taken_is c.args.world.now c.args.tables.now.items c.args.number c.written_unit-unit.result.now c.requires.taken c.requires.known c.written_unit-unit.ensures in
+    let few = spots_few c.args.world.now c.args.number c.written_unit-unit.result.now c.requires.world c.requires.known taken c.in_ok-spots.spots.items c.in_ok-lists.lists.items c.slots_fit.ensures c.in_ok-spots.ensures c.in_ok-lists.ensures.few in
     subst (λ (z : List ListSlot). length c.in_ok-spots.spots.items + length z ≤ most_slots) (sym c.deref.ensures.value) few
 
 pub lay_out-requires-clause-lists : goal.lay_out-requires-clause-lists
 lay_out-requires-clause-lists c =
-    let own = own_is c.args.world.now c.args.number c.units.result.now.items c.index-unit.result.now c.requires.known c.units.ensures c.index-unit.ensures in
+    let taken = taken_is c.args.world.now c.args.tables.now.items c.args.number c.written_unit-unit.result.now c.requires.taken c.requires.known c.written_unit-unit.ensures in
     let (more, told, are) = c.in_ok-lists.ensures.slots in
-    (more, subst (λ (z : List ListSlot). AreListSlots c.index-unit.result.now more z) (sym c.deref.ensures.value) (subst (λ (h : HeadAndForest). AreListSlots h more c.in_ok-lists.lists.items) (sym own) are))
+    (more, subst (AreListSlots c.written_unit-unit.result.now more) (sym c.deref.ensures.value) (taken_list_slots (unit_in c.args.world.now.units c.args.number) c.written_unit-unit.result.now taken more c.in_ok-lists.lists.items are))
 
 pub lay_out-requires-clause-spots : goal.lay_out-requires-clause-spots
 lay_out-requires-clause-spots c =
-    let own = own_is c.args.world.now c.args.number c.units.result.now.items c.index-unit.result.now c.requires.known c.units.ensures c.index-unit.ensures in
     let operations = operations_read c.args.world.now c.args.number c.operations.result.now.items c.index-operations.result.now (operations_count c.args.world.now (Narrow, c.requires.world) c.args.number c.requires.known) c.operations.ensures c.index-operations.ensures in
     let has = has_tables c.args.world.now c.args.tables.now.items c.args.number c.requires.world c.requires.writable c.requires.known in
     let old = named_is c.args.world.now c.args.number c.tables.result.now.items c.table_numbers.result.now.items c.index.result.now c.index-2.result.now has.numbered has.old c.tables.ensures c.table_numbers.ensures c.index.ensures c.index-2.ensures in
     let new = new_table_is c.args.world.now c.args.tables.now.items c.args.number c.table_numbers.result.now.items c.index.result.now c.index-new.result.now has c.table_numbers.ensures c.index.ensures c.index-new.ensures in
-    spots_there c.args.world.now c.args.tables.now.items c.args.number c.index-unit.result.now c.index-operations.result.now c.index-2.result.now c.index-new.result.now own operations old new c.in_ok-spots.spots.items c.in_ok-spots.ensures
+    spots_there c.args.world.now c.args.tables.now.items c.args.number c.written_unit-unit.result.now c.index-operations.result.now c.index-2.result.now c.index-new.result.now c.written_unit-unit.ensures operations old new c.in_ok-spots.spots.items c.in_ok-spots.ensures
 
 pub place_unit-requires-clause-writable : goal.place_unit-requires-clause-writable
 place_unit-requires-clause-writable c =
-    let own = own_is c.args.world.now c.args.number c.units.result.now.items c.index-unit.result.now c.requires.known c.units.ensures c.index-unit.ensures in
     let operations = operations_read c.args.world.now c.args.number c.operations.result.now.items c.index-operations.result.now (operations_count c.args.world.now (Narrow, c.requires.world) c.args.number c.requires.known) c.operations.ensures c.index-operations.ensures in
     let has = has_tables c.args.world.now c.args.tables.now.items c.args.number c.requires.world c.requires.writable c.requires.known in
     let old = named_is c.args.world.now c.args.number c.tables.result.now.items c.table_numbers.result.now.items c.index.result.now c.index-2.result.now has.numbered has.old c.tables.ensures c.table_numbers.ensures c.index.ensures c.index-2.ensures in
     let new = new_table_is c.args.world.now c.args.tables.now.items c.args.number c.table_numbers.result.now.items c.index.result.now c.index-new.result.now has c.table_numbers.ensures c.index.ensures c.index-new.ensures in
-    writable_however c.args.world.now c.args.tables.now.items c.args.number c.index-unit.result.now c.index-operations.result.now c.index-2.result.now c.index-new.result.now own operations old new c.requires.writable c.requires.known c.in_ok-laid.laid.lens.items c.in_ok-laid.ensures.lens
+    writable_however c.args.world.now c.args.tables.now.items c.args.number c.written_unit-unit.result.now c.index-operations.result.now c.index-2.result.now c.index-new.result.now c.written_unit-unit.ensures operations old new c.requires.writable c.requires.known c.in_ok-laid.laid.lens.items c.in_ok-laid.ensures.lens
 
 pub place_unit-requires-clause-room : goal.place_unit-requires-clause-room
 place_unit-requires-clause-room c =
-    let own = own_is c.args.world.now c.args.number c.units.result.now.items c.index-unit.result.now c.requires.known c.units.ensures c.index-unit.ensures in
-    let room = subst (λ (h : HeadAndForest). c.args.start + most_bytes h < 2 ^ 31) (sym own) c.requires.room in
-    omega (arith, room)
+    let taken = taken_is c.args.world.now c.args.tables.now.items c.args.number c.written_unit-unit.result.now c.requires.taken c.requires.known c.written_unit-unit.ensures in
+    let most = taken_most (unit_in c.args.world.now.units c.args.number) c.written_unit-unit.result.now taken in
+    omega (arith, most, c.requires.room)
 
 pub returns-clause-placed : goal.returns-clause-placed
 returns-clause-placed c =
-    let own = own_is c.args.world.now c.args.number c.units.result.now.items c.index-unit.result.now c.requires.known c.units.ensures c.index-unit.ensures in
     let operations = operations_read c.args.world.now c.args.number c.operations.result.now.items c.index-operations.result.now (operations_count c.args.world.now (Narrow, c.requires.world) c.args.number c.requires.known) c.operations.ensures c.index-operations.ensures in
     let has = has_tables c.args.world.now c.args.tables.now.items c.args.number c.requires.world c.requires.writable c.requires.known in
     let old = named_is c.args.world.now c.args.number c.tables.result.now.items c.table_numbers.result.now.items c.index.result.now c.index-2.result.now has.numbered has.old c.tables.ensures c.table_numbers.ensures c.index.ensures c.index-2.ensures in
     let new = new_table_is c.args.world.now c.args.tables.now.items c.args.number c.table_numbers.result.now.items c.index.result.now c.index-new.result.now has c.table_numbers.ensures c.index.ensures c.index-new.ensures in
     let (more, told, are) = c.in_ok-lists.ensures.slots in
-    let listed = subst (AreListSlots (unit_in c.args.world.now.units c.args.number) more) (sym c.deref.ensures.value) are in
-    all_placed_back c.args.world.now c.args.tables.now.items c.args.number c.index-unit.result.now c.index-operations.result.now c.index-2.result.now c.index-new.result.now own operations old new c.in_ok-laid.laid.lens.items c.in_ok-laid.laid.ranks.items c.args.start c.args.records.now.items c.put_record.new.out.items c.place_unit.result
+    let taken = taken_is c.args.world.now c.args.tables.now.items c.args.number c.written_unit-unit.result.now c.requires.taken c.requires.known c.written_unit-unit.ensures in
+    let listed = subst (AreListSlots c.written_unit-unit.result.now more) (sym c.deref.ensures.value) (taken_list_slots (unit_in c.args.world.now.units c.args.number) c.written_unit-unit.result.now taken more c.in_ok-lists.lists.items are) in
+    all_placed_back c.args.world.now c.args.tables.now.items c.args.number c.written_unit-unit.result.now c.index-operations.result.now c.index-2.result.now c.index-new.result.now c.written_unit-unit.ensures operations old new c.in_ok-laid.laid.lens.items c.in_ok-laid.laid.ranks.items c.args.start c.args.records.now.items c.put_record.new.out.items c.place_unit.result
     (record {
       spots = c.in_ok-spots.spots.items;
       named = c.in_ok-spots.ensures;
@@ -130,11 +128,16 @@ returns-clause-placed c =
       told = told;
       lists = c.deref.result.now;
       listed = listed;
-      laid_out = c.in_ok-laid.ensures.laid_out more (subst (λ (h : HeadAndForest). AreListSlots h more c.deref.result.now) (sym own) listed);
+      laid_out = c.in_ok-laid.ensures.laid_out more listed;
     })
     c.in_ok-put_record.ensures c.place_unit.ensures.start c.place_unit.ensures.fits c.place_unit.ensures.placed
 
 pub returns-clause-most : goal.returns-clause-most
 returns-clause-most c =
-    let own = own_is c.args.world.now c.args.number c.units.result.now.items c.index-unit.result.now c.requires.known c.units.ensures c.index-unit.ensures in
-    subst (λ (h : HeadAndForest). IfOk c.place_unit.result (λ places. places.end ≤ c.args.start + most_bytes h)) own c.place_unit.ensures.most
+    let taken = taken_is c.args.world.now c.args.tables.now.items c.args.number c.written_unit-unit.result.now c.requires.taken c.requires.known c.written_unit-unit.ensures in
+    let most = taken_most (unit_in c.args.world.now.units c.args.number) c.written_unit-unit.result.now taken in
+    subst (λ (m : ℕ). IfOk c.place_unit.result (λ places. places.end ≤ c.args.start + m)) most c.place_unit.ensures.most
+
+pub spots_of-requires-clause-own : goal.spots_of-requires-clause-own
+spots_of-requires-clause-own c =
+    taken_is c.args.world.now c.args.tables.now.items c.args.number c.written_unit-unit.result.now c.requires.taken c.requires.known c.written_unit-unit.ensures

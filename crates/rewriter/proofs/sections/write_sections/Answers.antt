@@ -1,8 +1,11 @@
 use Rattle.std.proofs.Common.{◌∙◌, length, sym, ap, refl, arith}
 use Rattle.rewriter.proofs.Arranged.{all_placed}
 use Rattle.rewriter.proofs.ListsRead.{list_places, views_held_count, view_places}
-use Rattle.rewriter.proofs.SectionsAnew.{parts_of, recorded_of, are_anew, are_for, writable, places_are_new, places_fit}
+use Rattle.rewriter.proofs.SectionsAnew.{parts_of, recorded_of, are_anew, are_for, taken, writable, places_are_new, places_fit}
 use Rattle.rewriter.proofs.sections.write_sections.Goals as goal
+
+pub place_units-requires-clause-taken : goal.place_units-requires-clause-taken
+place_units-requires-clause-taken c = taken c.args.world.now c.requires.world c.in_ok-tables.tables.bytes.items c.in_ok-tables.tables.tables.items c.in_ok-tables.ensures.written
 
 pub place_units-requires-clause-writable : goal.place_units-requires-clause-writable
 place_units-requires-clause-writable c =
@@ -23,6 +26,9 @@ moved_views-requires c =
 
 pub write_units-requires-clause-narrow : goal.write_units-requires-clause-narrow
 write_units-requires-clause-narrow c = let fits = c.in_ok-tables.ensures.fits in omega (arith, fits)
+
+pub write_units-requires-clause-taken : goal.write_units-requires-clause-taken
+write_units-requires-clause-taken c = taken c.args.world.now c.requires.world c.in_ok-tables.tables.bytes.items c.in_ok-tables.tables.tables.items c.in_ok-tables.ensures.written
 
 pub write_units-requires-clause-writable : goal.write_units-requires-clause-writable
 write_units-requires-clause-writable c =
@@ -45,7 +51,7 @@ pub returns-clause-anew : goal.returns-clause-anew
 returns-clause-anew c =
     λ r read holds.
     let parts = parts_of holds c.in_ok-lines.ensures.stand (c.in_ok-ranges.ensures.written r holds) (c.in_ok-locations.ensures.written r holds) (rw c.views.ensures at c.in_ok-moved_views.ensures) c.in_ok-tables.ensures.written c.in_ok-places.ensures.placed.1.count c.in_ok-places.ensures.placed.1.each (c.in_ok-info.ensures.written c.args.world.now.image r holds) c.in_ok-aranges.ensures.tiled c.in_ok-aranges.ensures.others c.in_ok-aranges.ensures.size in
-    let recorded = recorded_of c.in_ok-certificate.ensures c.deref.ensures.value c.deref-2.ensures.value c.deref-3.ensures.value c.deref-4.ensures.value c.in_ok-lines.ensures.records (c.in_ok-ranges.ensures.recorded r holds) (c.in_ok-locations.ensures.recorded r holds) c.in_ok-places.ensures.records in
+    let recorded = recorded_of c.in_ok-certificate.ensures c.in_ok-lines.ensures.records (c.in_ok-ranges.ensures.recorded r holds) (c.in_ok-locations.ensures.recorded r holds) c.in_ok-places.ensures.records in
     are_anew parts read c.ranges_written.ensures c.locations_written.ensures _ _ refl refl refl refl refl refl recorded
 
 pub returns-clause-sections : goal.returns-clause-sections

@@ -2,7 +2,7 @@ use Rattle.std.proofs.Common.{◌≡◌, ◌<◌, ◌≤◌, ◌+◌, ◌∙◌,
 use Rattle.entry_arena.specs.Arena.{Arena, entry_at}
 use Rattle.entry_arena.specs.declared.entry.Entry.{Entry}
 use Rattle.entry_read.specs.Units.{HeadAndForest}
-use Rattle.rewriter.specs.inside.Placed.{unit_in, operations_for}
+use Rattle.rewriter.specs.inside.Placed.{operations_for}
 use Rattle.rewriter.specs.inside.Held.{entry_in, AreSpotsUpTo}
 use Rattle.rewriter.proofs.Links.{own_is}
 use Rattle.rewriter.proofs.spots.push_spots.Goals as goal
@@ -18,7 +18,7 @@ push_value_spots-requires-clause-column c =
 pub loop-column-preserved : goal.loop-column-preserved
 loop-column-preserved c =
     let next : (entry_in c.args.world.now c.args.unit c.args.id).first + c.loop-column.column + 1 ≡ (entry_in c.args.world.now c.args.unit c.args.id).first + (c.loop-column.column + 1) = omega arith in
-    subst (AreSpotsUpTo (unit_in c.args.world.now.units c.args.unit) (operations_for c.args.world.now c.args.unit) c.push_value_spots.new.spots.items) next c.in_ok-push_value_spots.ensures
+    subst (AreSpotsUpTo c.args.own.now (operations_for c.args.world.now c.args.own.now c.args.unit) c.push_value_spots.new.spots.items) next c.in_ok-push_value_spots.ensures
 
 pub returns : goal.returns
 returns c =
@@ -28,4 +28,4 @@ returns c =
     let past : c.entry-count.result.count ≤ c.loop-column.column = c.loop-column-test.false in
     let most : c.loop-column.column ≤ c.entry-count.result.count = c.loop-column.auto.column-end in
     let all : c.loop-column.column ≡ (entry_in c.args.world.now c.args.unit c.args.id).count = omega arith in
-    subst (λ n. AreSpotsUpTo (unit_in c.args.world.now.units c.args.unit) (operations_for c.args.world.now c.args.unit) c.loop-column.spots.items ((entry_in c.args.world.now c.args.unit c.args.id).first + n)) all c.loop-column.invariant
+    subst (λ n. AreSpotsUpTo c.args.own.now (operations_for c.args.world.now c.args.own.now c.args.unit) c.loop-column.spots.items ((entry_in c.args.world.now c.args.unit c.args.id).first + n)) all c.loop-column.invariant

@@ -29,4 +29,4 @@ pub returns-clause-written : goal.returns-clause-written
 returns-clause-written c = λ file r holds.
     let same : c.loop-number.number ≡ length c.args.world.now.units = grind (arith, common_steps) in
     let stand = subst (StandAnew c.args.world.now c.args.tables.now.tables.items c.args.places.now.items c.args.new_places.now c.loop-number.info.items) same c.loop-number.invariant in
-    units_written c.args.world.now Narrow c.args.tables.now.tables.items c.args.places.now.items c.args.new_places.now c.args.tables.now.bytes.items c.loop-number.info.items c.requires.places.0 c.requires.world c.requires.tables c.requires.places.1 file r holds stand
+    units_written c.args.world.now Narrow c.args.tables.now.tables.items c.args.places.now.items c.args.new_places.now c.args.tables.now.bytes.items c.loop-number.info.items c.requires.places.0 c.requires.world c.requires.tables c.requires.places.1 c.requires.taken file r holds stand

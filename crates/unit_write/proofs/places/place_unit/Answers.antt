@@ -22,7 +22,7 @@ loop-next-preserved c =
     let unit = c.args.unit.now in
     let h = c.loop-next.invariant in
     let on = subst (λ (f : Arena). GoesOn f c.loop-next.items c.next.new.self (Some c.in-Some.next)) c.forest.ensures c.in-Some.ensures.next in
-    let n = on (declarations_of c.args.decls.now) (entries_at unit.head) h.place h.done h.now h.chains h.rest h.walked in
+    let n = on h.values (declarations_of c.args.decls.now) (entries_at unit.head) h.place h.done h.now h.chains h.rest h.walked in
     placing_next unit c.args.decls.now c.args.specs.now.items c.args.numbers.now.items c.args.lens.now.items c.args.start c.loop-next.items c.next.new.self c.loop-next.places c.place_next.new.places c.in-Some.next h n c.requires.writable c.requires.lens c.numbers_are_small.ensures c.in_ok-place_next.ensures.put c.in_ok-place_next.ensures.start
 
 pub returns-clause-placed : goal.returns-clause-placed
@@ -30,7 +30,7 @@ returns-clause-placed c =
     let unit = c.args.unit.now in
     let h = c.loop-next.invariant in
     let on = subst (λ (f : Arena). GoesOn f c.loop-next.items c.next.new.self None) c.forest.ensures c.in_default.ensures.next in
-    let n = on (declarations_of c.args.decls.now) (entries_at unit.head) h.place h.done h.now h.chains h.rest h.walked in
+    let n = on h.values (declarations_of c.args.decls.now) (entries_at unit.head) h.place h.done h.now h.chains h.rest h.walked in
     placing_all unit c.args.decls.now c.args.specs.now.items c.args.numbers.now.items c.args.lens.now.items c.args.start c.loop-next.items c.next.new.self c.loop-next.places h n c.requires.writable
 
 pub place_next-requires-clause-room : goal.place_next-requires-clause-room
@@ -38,7 +38,7 @@ place_next-requires-clause-room c =
     let unit = c.args.unit.now in
     let h = c.loop-next.invariant in
     let on = subst (λ (f : Arena). GoesOn f c.loop-next.items c.next.new.self (Some c.in-Some.next)) c.forest.ensures c.in-Some.ensures.next in
-    let n = on (declarations_of c.args.decls.now) (entries_at unit.head) h.place h.done h.now h.chains h.rest h.walked in
+    let n = on h.values (declarations_of c.args.decls.now) (entries_at unit.head) h.place h.done h.now h.chains h.rest h.walked in
     placing_room unit c.args.decls.now c.args.specs.now.items c.args.numbers.now.items c.args.lens.now.items c.args.start c.loop-next.items c.next.new.self c.loop-next.places c.in-Some.next h n c.requires.writable c.requires.lens c.numbers_are_small.ensures c.requires.room
 
 pub place_next-requires-clause-fits : goal.place_next-requires-clause-fits

@@ -1,17 +1,16 @@
-use Rattle.std.proofs.Common.{◌≡◌, ◌≤◌, ◌+◌, ◌^◌, ◌∙◌, ℕ, List, length, take, sum, sym, ap, refl, arith}
+use Rattle.std.proofs.Common.{◌≡◌, ◌≤◌, ◌+◌, ◌^◌, ◌∙◌, ℕ, List, length, take, sum, sym, ap, arith}
 use Rattle.std.proofs.lemmas.List.{take_all}
 use Rattle.slot_layout.specs.Rows.{most_slots}
 use Rattle.expr_ops.specs.Expressions.{Operation}
 use Rattle.entry_arena.specs.Arena.{Arena}
 use Rattle.entry_read.specs.Slots.{operations_in, aims_of, slots_before}
-use Rattle.entry_read.specs.Units.{declarations_of}
-use Rattle.entry_read.proofs.PlaceLaws.{units_lie}
 use Rattle.unit_write.specs.inside.Marks.{AreShort}
 use Rattle.unit_write.proofs.SlotAims.{slots_summed, aims_within}
 use Rattle.unit_write.proofs.ListSlots.{counts_few}
 use Rattle.unit_write.proofs.SlotMeasures.{fixed_lens, fixed_small}
 use Rattle.unit_write.proofs.ShortSpans.{held_of, short_of}
 use Rattle.unit_write.proofs.SlotRows.{spots_many, have_spots, have_list_spots, both_made, are_slots, ranges_inside, small_fixed}
+use Rattle.unit_write.proofs.TakenUnits.{have_values}
 use Rattle.unit_write.proofs.slots.measured_slots.Goals as goal
 
 pub of-requires-clause-lens : goal.of-requires-clause-lens
@@ -69,8 +68,8 @@ returns-clause-slots c = λ more listed.
     let count : c.value_count-number-end.result ≡ length f.values = c.value_count-number-end.ensures ∙ ap (λ (z : Arena). length z.values) c.forest.ensures in
     let all : c.loop-number.number ≡ length f.values = omega (arith, count, c.loop-number-test.false, c.loop-number.auto.number-end) in
     let made = both_made unit ops c.in_ok-marks.marks c.args.spots.now.items c.args.lists.now c.loop-number.number c.loop-number.slots.items c.push_list_slots.new.slots.items c.requires.spots all c.loop-number.invariant c.in_ok-push_list_slots.ensures more listed in
-    let lie = units_lie f.section unit.head (declarations_of c.args.decls.now) f refl (held_of unit c.args.decls.now c.args.specs.now.items c.args.numbers.now.items c.requires.writable) in
-    are_slots unit c.args.decls.now c.args.specs.now.items c.args.numbers.now.items ops c.in_ok-marks.marks (c.in_ok-marks.ensures ops c.requires.measured) more c.args.spots.now.items c.args.lists.now c.requires.spots listed c.push_list_slots.new.slots.items made c.one_size.ensures lie.order.valued
+    let valued = have_values unit c.args.decls.now (held_of unit c.args.decls.now c.args.specs.now.items c.args.numbers.now.items c.requires.writable) in
+    are_slots unit c.args.decls.now c.args.specs.now.items c.args.numbers.now.items ops c.in_ok-marks.marks (c.in_ok-marks.ensures ops c.requires.measured) more c.args.spots.now.items c.args.lists.now c.requires.spots listed c.push_list_slots.new.slots.items made c.one_size.ensures valued
 
 pub returns-clause-inside : goal.returns-clause-inside
 returns-clause-inside c =
@@ -81,10 +80,10 @@ returns-clause-inside c =
     let count : c.value_count-number-end.result ≡ length f.values = c.value_count-number-end.ensures ∙ ap (λ (z : Arena). length z.values) c.forest.ensures in
     let all : c.loop-number.number ≡ length f.values = omega (arith, count, c.loop-number-test.false, c.loop-number.auto.number-end) in
     let made = both_made unit ops c.in_ok-marks.marks c.args.spots.now.items c.args.lists.now c.loop-number.number c.loop-number.slots.items c.push_list_slots.new.slots.items c.requires.spots all c.loop-number.invariant c.in_ok-push_list_slots.ensures more listed in
-    let lie = units_lie f.section unit.head (declarations_of c.args.decls.now) f refl (held_of unit c.args.decls.now c.args.specs.now.items c.args.numbers.now.items c.requires.writable) in
+    let valued = have_values unit c.args.decls.now (held_of unit c.args.decls.now c.args.specs.now.items c.args.numbers.now.items c.requires.writable) in
     let short : AreShort f = short_of unit c.args.decls.now c.args.specs.now.items c.args.numbers.now.items c.requires.writable c.requires.room in
     let within = aims_within (2 ^ 31) f ops (length f.values) (fixed_small f c.args.operations.now c.requires.operations c.slots_are_few.ensures.opcodes c.slots_are_few.ensures.few short) in
-    ranges_inside unit c.args.decls.now c.args.specs.now.items c.args.numbers.now.items ops c.in_ok-marks.marks (c.in_ok-marks.ensures ops c.requires.measured) more c.args.spots.now.items c.args.lists.now c.requires.spots listed c.push_list_slots.new.slots.items made within lie.order.valued
+    ranges_inside unit c.args.decls.now c.args.specs.now.items c.args.numbers.now.items ops c.in_ok-marks.marks (c.in_ok-marks.ensures ops c.requires.measured) more c.args.spots.now.items c.args.lists.now c.requires.spots listed c.push_list_slots.new.slots.items made within valued
 
 pub returns-clause-small : goal.returns-clause-small
 returns-clause-small c =

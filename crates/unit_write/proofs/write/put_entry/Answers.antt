@@ -1,4 +1,4 @@
-use Rattle.std.proofs.Common.{rules, ◌≡◌, ◌≤◌, ◌<◌, ◌+◌, ◌^◌, ℕ, List, length, get_or, drop, ◌∙◌, sym, ap, refl, subst, arith}
+use Rattle.std.proofs.Common.{rules, ◌≡◌, ◌≤◌, ◌<◌, ◌+◌, ◌^◌, ℕ, List, length, get_or, drop, ◌∙◌, sym, ap, subst, arith}
 use Rattle.std.specs.List.{All}
 use Rattle.std.proofs.lemmas.Result.{on_ok_weaker, on_err_weaker}
 use Rattle.std.proofs.lemmas.List.Elements.{All-take, All-drop}
@@ -8,13 +8,12 @@ use Rattle.form_codec.specs.declared.value.Value.{Value}
 use Rattle.form_codec.specs.Values.{LiesIn}
 use Rattle.entry_arena.specs.declared.entry.Entry.{Entry}
 use Rattle.entry_arena.specs.Arena.{Arena, entry_at}
-use Rattle.entry_read.proofs.PlaceLaws.{units_lie}
-use Rattle.entry_read.specs.Units.{declarations_of}
 use Rattle.unit_write.specs.Placing.{columns_of, values_in, among_values}
 use Rattle.unit_write.specs.Moved.{new_values, lens_anew}
 use Rattle.unit_write.specs.inside.Puts.{PutsValues}
 use Rattle.unit_write.proofs.Anew.{count_in}
-use Rattle.unit_write.proofs.PutLaws.{extends_more, values_lie, size_as, entry_put}
+use Rattle.unit_write.proofs.PutLaws.{extends_more, size_as, entry_put}
+use Rattle.unit_write.proofs.TakenUnits.{have_values, all_lie}
 use Rattle.unit_write.proofs.write.put_entry.Goals as goal
 
 pub put_values-requires-clause-sized : goal.put_values-requires-clause-sized
@@ -36,8 +35,7 @@ put_values-requires-clause-inside c =
     let e = entry_at f.entries c.args.id in
     let section : c.section.result.now ≡ f.section = c.section.ensures ∙ ap (λ (g : Arena). g.section) forest in
     let values : c.values_of.result.now ≡ values_in f c.args.id = c.values_of.ensures.values ∙ ap (λ (g : Arena). values_in g c.args.id) forest in
-    let lie = units_lie f.section unit.head (declarations_of c.args.decls.now) f refl c.requires.writable.held in
-    let all : All (LiesIn (length f.section)) (values_in f c.args.id) = All-take (LiesIn (length f.section)) e.count (drop e.first f.values) (All-drop (LiesIn (length f.section)) e.first f.values (values_lie f lie.order)) in
+    let all : All (LiesIn (length f.section)) (values_in f c.args.id) = All-take (LiesIn (length f.section)) e.count (drop e.first f.values) (All-drop (LiesIn (length f.section)) e.first f.values (all_lie unit c.args.decls.now c.requires.writable.held)) in
     let there = subst (λ (z : List Value). All (LiesIn (length f.section)) z) (sym values) all in
     subst (λ (z : List ℕ). All (LiesIn (length z)) c.values_of.result.now) (sym section) there
 
@@ -49,8 +47,7 @@ put_values-requires-clause-new c =
     let entry : c.entry-entry.result ≡ e = c.entry-entry.ensures ∙ ap (λ (g : Arena). entry_at g.entries c.args.id) forest in
     let first : c.entry-entry.result.first ≡ e.first = ap (λ (z : Entry). z.first) entry in
     let values : c.values_of.result.now ≡ values_in f c.args.id = c.values_of.ensures.values ∙ ap (λ (g : Arena). values_in g c.args.id) forest in
-    let lie = units_lie f.section c.args.unit.now.head (declarations_of c.args.decls.now) f refl c.requires.writable.held in
-    let inside : e.first + e.count ≤ length f.values = lie.order.valued.inside c.args.id c.requires.inside in
+    let inside : e.first + e.count ≤ length f.values = (have_values c.args.unit.now c.args.decls.now c.requires.writable.held).inside c.args.id c.requires.inside in
     let count : length c.values_of.result.now ≡ e.count = ap length values ∙ count_in f c.args.id inside in
     (length f.values, c.requires.new, omega arith)
 

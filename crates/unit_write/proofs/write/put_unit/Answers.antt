@@ -34,7 +34,7 @@ returns-clause-ok c = λ ds renumbered.
     let front : c.put_head.new.out.items ≡ old ++ header_bytes (new.end - c.len.result - 4) unit.head.kind new.table unit.head.extra new.type_offset = c.in_ok-put_head.ensures.ok ∙ ap (λ (h : UnitHead). old ++ header_bytes (new.end - c.len.result - 4) h.kind new.table h.extra new.type_offset) c.head.ensures in
     let wide : unit.head.extra < 2 ^ 64 = search rules in
     on_ok_weaker c.put_items.result (λ (put : Appends (PutsItems (PutsEntry c.args.decls.now c.args.specs.now c.args.numbers.now (new_values new) unit.forest) 0) at.2.whole.items c.put_head.new.out.items c.put_items.new.out.items). unit_anew unit c.args.decls.now c.args.specs.now c.args.numbers.now (new_values new) c.requires.writable c.requires.new new.table new.type_offset new.end (new.end - c.len.result - 4) old c.put_head.new.out.items c.put_items.new.out.items at.0 at.1 at.2 c.requires.fits c.requires.narrow.0 c.requires.narrow.1 wide c.requires.type_offset len front put ds renumbered)
-    (c.put_items.ensures.ok (declarations_of c.args.decls.now) (entries_at unit.head) at.2.place at.2.whole)
+    (c.put_items.ensures.ok at.2.values (declarations_of c.args.decls.now) (entries_at unit.head) at.2.place at.2.whole)
 
 pub returns-clause-grows : goal.returns-clause-grows
 returns-clause-grows c =
