@@ -10,6 +10,7 @@ and the exit status is 1 where one failed.
 """
 import argparse
 import itertools
+import json
 import os
 import random
 import re
@@ -155,6 +156,9 @@ def wrong_words(place):
         ["shrink", "in", "out", "cert", "more"],
         ["grow", "in", "out", "cert"],
         ["", "in", "out", "cert"],
+        ["stat"],
+        ["stat", "in", "out"],
+        ["stat", b"in\xff"],
         [b"shrink\xff", "in", "out", "cert"],
         ["shrink", b"in\xff", "out", "cert"],
         ["shrink", "in", b"out\xc3", "cert"],
@@ -173,6 +177,23 @@ def inputs_that_cannot_be_read(place):
     place.write("cert", b"before")
     for name in ("missing", "folder"):
         place.keeps(["shrink", name, "out", "cert"], 4)
+
+
+@test
+def summaries(place):
+    """stat says the sizes of sections before and after, and how many entries, rows and units IN has, and no file differs"""
+    count = 3
+    source, _ = pair_of_units(count)
+    place.write("in", source)
+    info = [sum(len(unit_of(number)) for number in range(count)) for unit_of in (unit_in, unit_out)]
+    said = {"abbrev": [len(TABLE_IN), len(TABLE_OUT)], "entries": 3 * count, "info": info, "line": [0, 0], "loclists": [0, 0],
+            "rnglists": [0, 0], "rows": 0, "units": count}
+    line = json.dumps(said, separators=(",", ":")).encode() + b"\n"
+    place.keeps(["stat", "in"], 0, line)
+    place.keeps(["stat", "missing"], 4)
+    if os.path.exists("/dev/full"):
+        with open("/dev/full", "wb") as full:
+            place.keeps(["stat", "in"], 5, stdout=full)
 
 
 @test

@@ -31,9 +31,9 @@ short_read told front read short = λ file e. short_front front file (read file 
 pub long_read : FirstFaultsDecide → (told : Option (List ℕ)) (front : List ℕ) → ForSome told (λ file. front ≡ take (2 ^ 30 + 1) file) → 2 ^ 30 < length front → ForSome told (λ file. Faulty file Limit 0)
 long_read decide told front read long = λ file e. decide.file file Narrow Limit 0 (inl (refl, long_front front file (read file e) long))
 
-pub refusal_named : (told : Option (List ℕ)) (front : List ℕ) (refusal : Refusal) → ForSome told (λ file. front ≡ file) → NamesFault front Narrow refusal → EndsByFault {T = Unit {0}} told (Err (ending_of refusal))
-refusal_named told front (Refused fault) read h = λ file e. subst (λ (f : List ℕ). Faulty f fault.kind fault.place) (read file e) h
-refusal_named told front NoMemory read h = tt
+pub refusal_named : (T : Type 0) (told : Option (List ℕ)) (front : List ℕ) (refusal : Refusal) → ForSome told (λ file. front ≡ file) → NamesFault front Narrow refusal → EndsByFault {T = T} told (Err (ending_of refusal))
+refusal_named T told front (Refused fault) read h = λ file e. subst (λ (f : List ℕ). Faulty f fault.kind fault.place) (read file e) h
+refusal_named T told front NoMemory read h = tt
 
 -- a file within the limit isn't refused for its length, and may be for another fault
 pub within_limit : {T : Type 0} (told : Option (List ℕ)) (r : Result T Ending) → ForSome told (λ file. length file ≤ input_limit) → RefusesLong told r

@@ -2,6 +2,9 @@
 use Rattle.std.specs.Prelude.{◌≡◌, ℕ, List, [], ◌∷◌, ◌++◌, codes, ◌⊎◌, Option, option_map}
 use Rattle.std.specs.Option.{ForSome}
 use Rattle.shrink_app.specs.File.{Faulty}
+use Rattle.shrink_app.specs.Words.{Command}
+use Rattle.shrink_app.specs.Words.Command.{Shrink, Stat}
+use Rattle.shrink_app.specs.Summary.{SaysSummaryPart}
 use Rattle.std.specs.Fmt.{decimal}
 use Rattle.dw_base.specs.Fault.{name_of}
 use Rattle.dw_base.specs.Host.{AddsPart}
@@ -20,3 +23,8 @@ SaysFault told before now =
 abbrev pub SaysPart : Option (List ℕ) → Option (List ℕ) → Option (List ℕ) → Type 0
 SaysPart told before now =
     (now ≡ before) ⊎ ((kind : Kind) × (place : ℕ) × (ForSome told (λ file. Faulty file kind place)) × AddsPart before (refusal_text kind place) now)
+
+-- what was said where the work ended early: nothing, or some front of a line, which may be that of a summary where one is asked for
+abbrev pub StopsSaying : Option (List ℕ) → Option (List ℕ) → Option (List ℕ) → Command → Type 0
+StopsSaying told before now (Shrink names) = SaysPart told before now
+StopsSaying told before now (Stat input) = SaysPart told before now ⊎ SaysSummaryPart told before now

@@ -9,12 +9,33 @@ pub record Names : Type 0 where
   pub output : List ℕ
   pub certificate : List ℕ
 
--- the names of the three files, no two of which are the same
-abbrev pub names_in : List (List ℕ) → Option Names
-names_in (verb ∷ input ∷ output ∷ certificate ∷ []) =
-    if bytes_eq verb (codes "shrink") && not (bytes_eq input output) && not (bytes_eq input certificate) && not (bytes_eq output certificate) then Some (record { input = input; output = output; certificate = certificate }) else None
-names_in _ = None
+-- to write a file anew, or to say what that would win
+pub data Command : Type 0 where
+  Shrink : Names → Command
+  Stat : List ℕ → Command
+
+-- the names of three files, no two of which are the same, or that of one
+abbrev pub command_in : List (List ℕ) → Option Command
+command_in (verb ∷ input ∷ output ∷ certificate ∷ []) =
+    if bytes_eq verb (codes "shrink") && not (bytes_eq input output) && not (bytes_eq input certificate) && not (bytes_eq output certificate) then Some (Shrink (record { input = input; output = output; certificate = certificate })) else None
+command_in (verb ∷ input ∷ []) = if bytes_eq verb (codes "stat") then Some (Stat input) else None
+command_in _ = None
 
 -- the same of the words as they are kept
-abbrev pub asked : List (String Global) → Option Names
-asked words = names_in (map string_bytes words)
+abbrev pub asked : List (String Global) → Option Command
+asked words = command_in (map string_bytes words)
+
+-- the file that is read
+abbrev pub input_of : Command → List ℕ
+input_of (Shrink names) = names.input
+input_of (Stat input) = input
+
+-- this holds of the names, where a file is to be written
+abbrev pub OfShrink : (Names → Type 0) → Command → Type 0
+OfShrink P (Shrink names) = P names
+OfShrink P (Stat input) = Unit {0}
+
+-- this holds of the name, where what that would win is to be said
+abbrev pub OfStat : (List ℕ → Type 0) → Command → Type 0
+OfStat P (Shrink names) = Unit {0}
+OfStat P (Stat input) = P input

@@ -2,3 +2,5 @@
 pub mod Ending
 pub mod Run
 pub mod Said
+pub mod Words
+pub mod Summary

@@ -168,3 +168,39 @@ const RENUMBERED: Case = Case {
 fn a_column_whose_declaration_gets_another_code(rt: HostRuntime) -> Result<(), Fail> {
     check(&rt, rt.alloc(), &RENUMBERED)
 }
+
+// Two units of one table, each with a variable whose DW_AT_type is a DW_FORM_ref_addr: that of the first unit to the code 0 at 18 which
+// ends the children of its root, and that of the second, which stands at 19, to itself at 32. Each counts from the first byte of its
+// unit then, and has one byte for 4: the first code 0 is at 15 now, and the second variable at 13 of its unit.
+const REF_ADDR: [u8; 13] = [1, 0x34, 0, 0x49, 0x10, 0, 0, 2, 0x11, 1, 0, 0, 0];
+
+const INSIDE: Case = Case {
+    info: &[
+        15, 0, 0, 0, 5, 0, 1, 8, 0, 0, 0, 0, 2, 1, 18, 0, 0, 0, 0, 15, 0, 0, 0, 5, 0, 1, 8, 0, 0,
+        0, 0, 2, 1, 32, 0, 0, 0, 0,
+    ],
+    abbrevs: &REF_ADDR,
+    new_info: &[
+        12, 0, 0, 0, 5, 0, 1, 8, 0, 0, 0, 0, 2, 1, 15, 0, 12, 0, 0, 0, 5, 0, 1, 8, 0, 0, 0, 0, 2,
+        1, 13, 0,
+    ],
+    new_abbrevs: &[1, 0x34, 0, 0x49, 0x15, 0, 0, 2, 0x11, 1, 0, 0, 0],
+};
+
+// The first variable has the type of the second, so that neither reference changes.
+const OUTSIDE: [u8; 38] = [
+    15, 0, 0, 0, 5, 0, 1, 8, 0, 0, 0, 0, 2, 1, 32, 0, 0, 0, 0, 15, 0, 0, 0, 5, 0, 1, 8, 0, 0, 0, 0,
+    2, 1, 32, 0, 0, 0, 0,
+];
+
+#[test]
+fn references_to_places_in_their_own_units(rt: HostRuntime) -> Result<(), Fail> {
+    check(&rt, rt.alloc(), &INSIDE)?;
+    let case = Case {
+        info: &OUTSIDE,
+        abbrevs: &REF_ADDR,
+        new_info: &OUTSIDE,
+        new_abbrevs: &REF_ADDR,
+    };
+    check(&rt, rt.alloc(), &case)
+}

@@ -18,6 +18,9 @@ mod sample_tests;
 mod saying;
 mod shrink;
 #[cfg(test)]
+mod stat_tests;
+mod summary;
+#[cfg(test)]
 mod test_files;
 #[cfg(test)]
 mod unit_tests;

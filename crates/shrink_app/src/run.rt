@@ -10,21 +10,26 @@ ghost use Rattle.value_links.specs.Layouts.{HaveLeastLayouts};
 ghost use Rattle.value_links.specs.Tidy.{IsTidy};
 ghost use Rattle.value_links.specs.Certificates.{IsCertificate, IsFirstCertificate};
 ghost use Rattle.shrink_app.specs.File.{IsValid, StaysValid, HasLeastLines, HasOrderedLines, IsWhole};
-ghost use Rattle.shrink_app.specs.Words.{asked};
-ghost use Rattle.shrink_app.specs.Run.{Writes, Certifies, IsUntouched, input_limit};
-ghost use Rattle.shrink_app.specs.Said.{refusal_text, SaysFault, SaysPart};
+ghost use Rattle.shrink_app.specs.Words.{asked, input_of, OfShrink, OfStat};
+ghost use Rattle.shrink_app.specs.Run.{Writes, Certifies, IsUntouched, FailsToWrite, WritesWell, input_limit};
+ghost use Rattle.shrink_app.specs.Summary.{SaysSummary};
+ghost use Rattle.shrink_app.specs.Said.{refusal_text, SaysFault, StopsSaying};
 
 use crate::ending::Ending;
-use crate::saying::{say, text_of};
+use crate::saying::{end, say};
 use crate::shrink::shrink;
-use crate::words::names_of;
+use crate::summary::summarise;
+use crate::words::{Command, command_of};
 use dw_base::Host;
 use std::alloc::Global;
 
-/// Does what the words ask for, `shrink IN OUT CERT` with three different names, and answers the program's status:
+/// Does what the words ask for, and answers the program's status. `shrink IN OUT CERT`, with three different names, writes a file anew;
+/// `stat IN` says what that would win, and writes nothing.
 ///
-/// - 0: OUT was written. It means the same as IN and is least in the classes that docs/CLASSES.md tells. CERT was written too: the
-///   certificate that shows so, as docs/CERTIFICATE.md tells.
+/// - 0: of `shrink`, OUT was written. It means the same as IN and is least in the classes that docs/CLASSES.md tells. CERT was written too:
+///   the certificate that shows so, as docs/CERTIFICATE.md tells. Of `stat`, one line of JSON was said: the bytes of the sections
+///   .debug_abbrev, .debug_info, .debug_line, .debug_loclists and .debug_rnglists in IN and in such an OUT, and how many entries, rows
+///   of line number programs and units IN has.
 /// - 2: the words are others. `words` is said, and nothing else is done.
 /// - 3: IN isn't valid, and a fault of it is said: `refused KIND at PLACE`, where the place counts from the file's first byte.
 /// - 4: a call failed that reads IN.
@@ -46,69 +51,77 @@ pub fn run<H: Host>(alloc: Global, words: &Vec<String>, host: &mut H) -> u8
     ensures wrong_writes { IfNone (asked words.now.items) ((f : List ℕ) → H.write_faults host.new f ≡ H.write_faults host.old f) }
 
     // A refusal names a fault of the input.
-    ensures refused { result ≡ 3 → IsSomeAnd (asked words.now.items) (λ n. SaysFault (H.bytes host.old n.input) (H.said host.old) (H.said host.new)) }
+    ensures refused { result ≡ 3 → IsSomeAnd (asked words.now.items) (λ c. SaysFault (H.bytes host.old (input_of c)) (H.said host.old) (H.said host.new)) }
 
     // An input that is longer than its limit is refused for that, whatever its first bytes are.
-    ensures long { result ≡ 3 → IsSomeAnd (asked words.now.items) (λ n. ForSome (H.bytes host.old n.input) (λ file. input_limit < length file → H.said host.new ≡ option_map (λ b. b ++ refusal_text Limit 0) (H.said host.old))) }
+    ensures long { result ≡ 3 → IsSomeAnd (asked words.now.items) (λ c. ForSome (H.bytes host.old (input_of c)) (λ file. input_limit < length file → H.said host.new ≡ option_map (λ b. b ++ refusal_text Limit 0) (H.said host.old))) }
 
     // A read fault comes where the input's count rose, and wherever it rose.
-    ensures read_fault { result ≡ 4 → IsSomeAnd (asked words.now.items) (λ n. Rose (H.read_faults host.old n.input) (H.read_faults host.new n.input)) }
-    ensures read_rose { IfSome (asked words.now.items) (λ n. H.read_faults host.old n.input < H.read_faults host.new n.input → result ≡ 4) }
+    ensures read_fault { result ≡ 4 → IsSomeAnd (asked words.now.items) (λ c. Rose (H.read_faults host.old (input_of c)) (H.read_faults host.new (input_of c))) }
+    ensures read_rose { IfSome (asked words.now.items) (λ c. H.read_faults host.old (input_of c) < H.read_faults host.new (input_of c) → result ≡ 4) }
 
     // A write fault comes where the count of the output or of the certificate rose, or that of messages where there was one to say.
-    ensures write_fault { result ≡ 5 → MatchOption (asked words.now.items) (Rose (H.say_faults host.old) (H.say_faults host.new)) (λ n. (Rose (H.write_faults host.old n.output) (H.write_faults host.new n.output) ⊎ Rose (H.write_faults host.old n.certificate) (H.write_faults host.new n.certificate)) ⊎ (Rose (H.say_faults host.old) (H.say_faults host.new) × ForSome (H.bytes host.old n.input) (λ file. ¬ IsValid file))) }
-    ensures write_rose { IfSome (asked words.now.items) (λ n. (H.write_faults host.old n.output < H.write_faults host.new n.output) ⊎ (H.write_faults host.old n.certificate < H.write_faults host.new n.certificate) → result ≡ 5) }
+    ensures write_fault { result ≡ 5 → MatchOption (asked words.now.items) (Rose (H.say_faults host.old) (H.say_faults host.new)) (λ c. FailsToWrite (H.write_faults host.old) (H.write_faults host.new) (Rose (H.say_faults host.old) (H.say_faults host.new)) (H.bytes host.old (input_of c)) c) }
+    ensures write_rose { IfSome (asked words.now.items) (OfShrink (λ n. (H.write_faults host.old n.output < H.write_faults host.new n.output) ⊎ (H.write_faults host.old n.certificate < H.write_faults host.new n.certificate) → result ≡ 5)) }
     ensures say_rose { H.say_faults host.old < H.say_faults host.new → result ≡ 5 }
 
     // Which files may differ: none after wrong words, a refusal and a read fault, nor where the input has a fault, since
     // its faults are looked for before the first write; and never another than the output and the certificate.
     ensures kept { (result ≡ 2) ⊎ ((result ≡ 3) ⊎ (result ≡ 4)) → (f : List ℕ) → H.bytes host.new f ≡ H.bytes host.old f }
-    ensures faulty_kept { IfSome (asked words.now.items) (λ n. (file : List ℕ) → H.bytes host.old n.input ≡ Some file → ¬ IsValid file → (f : List ℕ) → H.bytes host.new f ≡ H.bytes host.old f) }
-    ensures faulty_unwritten { IfSome (asked words.now.items) (λ n. (file : List ℕ) → H.bytes host.old n.input ≡ Some file → ¬ IsValid file → (f : List ℕ) → H.write_faults host.new f ≡ H.write_faults host.old f) }
-    ensures others { MatchOption (asked words.now.items) ((f : List ℕ) → H.bytes host.new f ≡ H.bytes host.old f) (λ n. (f : List ℕ) → f ≢ n.output → f ≢ n.certificate → H.bytes host.new f ≡ H.bytes host.old f) }
+    ensures faulty_kept { IfSome (asked words.now.items) (λ c. (file : List ℕ) → H.bytes host.old (input_of c) ≡ Some file → ¬ IsValid file → (f : List ℕ) → H.bytes host.new f ≡ H.bytes host.old f) }
+    ensures faulty_unwritten { IfSome (asked words.now.items) (λ c. (file : List ℕ) → H.bytes host.old (input_of c) ≡ Some file → ¬ IsValid file → (f : List ℕ) → H.write_faults host.new f ≡ H.write_faults host.old f) }
+    ensures others { MatchOption (asked words.now.items) ((f : List ℕ) → H.bytes host.new f ≡ H.bytes host.old f) (OfShrink (λ n. (f : List ℕ) → f ≢ n.output → f ≢ n.certificate → H.bytes host.new f ≡ H.bytes host.old f)) }
+    ensures stat_kept { IfSome (asked words.now.items) (OfStat (λ input. (f : List ℕ) → H.bytes host.new f ≡ H.bytes host.old f)) }
+    ensures stat_unwritten { IfSome (asked words.now.items) (OfStat (λ input. (f : List ℕ) → H.write_faults host.new f ≡ H.write_faults host.old f)) }
 
     // The work was done.
-    ensures done { result ≡ 0 → IsSomeAnd (asked words.now.items) (λ n. ForSome (H.bytes host.old n.input) IsValid) }
-    ensures same { result ≡ 0 → IsSomeAnd (asked words.now.items) (λ n. Writes Same (H.bytes host.old) (H.bytes host.new) n.input n.output) }
-    ensures still_valid { result ≡ 0 → IsSomeAnd (asked words.now.items) (λ n. Writes StaysValid (H.bytes host.old) (H.bytes host.new) n.input n.output) }
-    ensures least { result ≡ 0 → IsSomeAnd (asked words.now.items) (λ n. Writes HasLeastLines (H.bytes host.old) (H.bytes host.new) n.input n.output) }
-    ensures order { result ≡ 0 → IsSomeAnd (asked words.now.items) (λ n. Writes HasOrderedLines (H.bytes host.old) (H.bytes host.new) n.input n.output) }
-    ensures lists { result ≡ 0 → IsSomeAnd (asked words.now.items) (λ n. Writes HaveLeastLists (H.bytes host.old) (H.bytes host.new) n.input n.output) }
-    ensures columns { result ≡ 0 → IsSomeAnd (asked words.now.items) (λ n. Writes HaveLeastColumns (H.bytes host.old) (H.bytes host.new) n.input n.output) }
-    ensures columns_order { result ≡ 0 → IsSomeAnd (asked words.now.items) (λ n. Writes HaveFirstColumns (H.bytes host.old) (H.bytes host.new) n.input n.output) }
-    ensures codes { result ≡ 0 → IsSomeAnd (asked words.now.items) (λ n. Writes HaveLeastCodes (H.bytes host.old) (H.bytes host.new) n.input n.output) }
-    ensures codes_order { result ≡ 0 → IsSomeAnd (asked words.now.items) (λ n. Writes HaveOrderedCodes (H.bytes host.old) (H.bytes host.new) n.input n.output) }
-    ensures layouts { result ≡ 0 → IsSomeAnd (asked words.now.items) (λ n. Writes HaveLeastLayouts (H.bytes host.old) (H.bytes host.new) n.input n.output) }
-    ensures tidy { result ≡ 0 → IsSomeAnd (asked words.now.items) (λ n. Writes IsTidy (H.bytes host.old) (H.bytes host.new) n.input n.output) }
-    ensures placed { result ≡ 0 → IsSomeAnd (asked words.now.items) (λ n. Writes IsPlaced (H.bytes host.old) (H.bytes host.new) n.input n.output) }
-    ensures certified { result ≡ 0 → IsSomeAnd (asked words.now.items) (λ n. Certifies IsCertificate (H.bytes host.old) (H.bytes host.new) n.output n.certificate) }
-    ensures certified_first { result ≡ 0 → IsSomeAnd (asked words.now.items) (λ n. Certifies IsFirstCertificate (H.bytes host.old) (H.bytes host.new) n.output n.certificate) }
+    ensures done { result ≡ 0 → IsSomeAnd (asked words.now.items) (λ c. ForSome (H.bytes host.old (input_of c)) IsValid) }
+    ensures same { result ≡ 0 → IsSomeAnd (asked words.now.items) (OfShrink (λ n. Writes Same (H.bytes host.old) (H.bytes host.new) n.input n.output)) }
+    ensures still_valid { result ≡ 0 → IsSomeAnd (asked words.now.items) (OfShrink (λ n. Writes StaysValid (H.bytes host.old) (H.bytes host.new) n.input n.output)) }
+    ensures least { result ≡ 0 → IsSomeAnd (asked words.now.items) (OfShrink (λ n. Writes HasLeastLines (H.bytes host.old) (H.bytes host.new) n.input n.output)) }
+    ensures order { result ≡ 0 → IsSomeAnd (asked words.now.items) (OfShrink (λ n. Writes HasOrderedLines (H.bytes host.old) (H.bytes host.new) n.input n.output)) }
+    ensures lists { result ≡ 0 → IsSomeAnd (asked words.now.items) (OfShrink (λ n. Writes HaveLeastLists (H.bytes host.old) (H.bytes host.new) n.input n.output)) }
+    ensures columns { result ≡ 0 → IsSomeAnd (asked words.now.items) (OfShrink (λ n. Writes HaveLeastColumns (H.bytes host.old) (H.bytes host.new) n.input n.output)) }
+    ensures columns_order { result ≡ 0 → IsSomeAnd (asked words.now.items) (OfShrink (λ n. Writes HaveFirstColumns (H.bytes host.old) (H.bytes host.new) n.input n.output)) }
+    ensures codes { result ≡ 0 → IsSomeAnd (asked words.now.items) (OfShrink (λ n. Writes HaveLeastCodes (H.bytes host.old) (H.bytes host.new) n.input n.output)) }
+    ensures codes_order { result ≡ 0 → IsSomeAnd (asked words.now.items) (OfShrink (λ n. Writes HaveOrderedCodes (H.bytes host.old) (H.bytes host.new) n.input n.output)) }
+    ensures layouts { result ≡ 0 → IsSomeAnd (asked words.now.items) (OfShrink (λ n. Writes HaveLeastLayouts (H.bytes host.old) (H.bytes host.new) n.input n.output)) }
+    ensures tidy { result ≡ 0 → IsSomeAnd (asked words.now.items) (OfShrink (λ n. Writes IsTidy (H.bytes host.old) (H.bytes host.new) n.input n.output)) }
+    ensures placed { result ≡ 0 → IsSomeAnd (asked words.now.items) (OfShrink (λ n. Writes IsPlaced (H.bytes host.old) (H.bytes host.new) n.input n.output)) }
+    ensures certified { result ≡ 0 → IsSomeAnd (asked words.now.items) (OfShrink (λ n. Certifies IsCertificate (H.bytes host.old) (H.bytes host.new) n.output n.certificate)) }
+    ensures certified_first { result ≡ 0 → IsSomeAnd (asked words.now.items) (OfShrink (λ n. Certifies IsFirstCertificate (H.bytes host.old) (H.bytes host.new) n.output n.certificate)) }
 
     // The certificate isn't begun before the output is whole, which then stays. A host that doesn't tell a file may count a
     // failed write of another one for it too.
-    ensures certificate_later { IfSome (asked words.now.items) (λ n. IsSome (H.bytes host.old n.output) → H.write_faults host.old n.output < H.write_faults host.new n.output → H.bytes host.new n.certificate ≡ H.bytes host.old n.certificate) }
-    ensures output_whole { IfSome (asked words.now.items) (λ n. IsSome (H.bytes host.old n.certificate) → IsUntouched (H.bytes host.old) (H.bytes host.new) (H.write_faults host.old) (H.write_faults host.new) n.certificate ⊎ Writes IsWhole (H.bytes host.old) (H.bytes host.new) n.input n.output) }
+    ensures certificate_later { IfSome (asked words.now.items) (OfShrink (λ n. IsSome (H.bytes host.old n.output) → H.write_faults host.old n.output < H.write_faults host.new n.output → H.bytes host.new n.certificate ≡ H.bytes host.old n.certificate)) }
+    ensures output_whole { IfSome (asked words.now.items) (OfShrink (λ n. IsSome (H.bytes host.old n.certificate) → IsUntouched (H.bytes host.old) (H.bytes host.new) (H.write_faults host.old) (H.write_faults host.new) n.certificate ⊎ Writes IsWhole (H.bytes host.old) (H.bytes host.new) n.input n.output)) }
 
-    // What was said where nothing else tells: nothing after the work and a read fault, and in place of another answer
+    // The line that sums up.
+    ensures summed { result ≡ 0 → IsSomeAnd (asked words.now.items) (OfStat (λ input. SaysSummary (H.bytes host.old input) (H.said host.old) (H.said host.new))) }
+
+    // What was said where nothing else tells: nothing after a file was written and after a read fault, and in place of another answer
     // some front of what that answer says.
-    ensures quiet { (result ≡ 0) ⊎ (result ≡ 4) → H.said host.new ≡ H.said host.old }
-    ensures stopped { (result ≡ 5) ⊎ (result ≡ 6) → MatchOption (asked words.now.items) (AddsPart (H.said host.old) (codes "words\n") (H.said host.new)) (λ n. SaysPart (H.bytes host.old n.input) (H.said host.old) (H.said host.new)) }
+    ensures quiet { result ≡ 4 → H.said host.new ≡ H.said host.old }
+    ensures written_quietly { result ≡ 0 → IsSomeAnd (asked words.now.items) (OfShrink (λ n. H.said host.new ≡ H.said host.old)) }
+    ensures stopped { (result ≡ 5) ⊎ (result ≡ 6) → MatchOption (asked words.now.items) (AddsPart (H.said host.old) (codes "words\n") (H.said host.new)) (λ c. StopsSaying (H.bytes host.old (input_of c)) (H.said host.old) (H.said host.new) c) }
 
     // Where no count rose, a valid input is done and another is refused, but for want of memory.
-    ensures complete { IfSome (asked words.now.items) (λ n. (file : List ℕ) → H.bytes host.old n.input ≡ Some file → IsValid file → ¬ Rose (H.read_faults host.old n.input) (H.read_faults host.new n.input) → ¬ Rose (H.write_faults host.old n.output) (H.write_faults host.new n.output) → ¬ Rose (H.write_faults host.old n.certificate) (H.write_faults host.new n.certificate) → (result ≡ 0) ⊎ (result ≡ 6)) }
-    ensures refuses { IfSome (asked words.now.items) (λ n. (file : List ℕ) → H.bytes host.old n.input ≡ Some file → ¬ IsValid file → ¬ Rose (H.read_faults host.old n.input) (H.read_faults host.new n.input) → (result ≡ 3) ⊎ ((result ≡ 5) ⊎ (result ≡ 6))) }
+    ensures complete { IfSome (asked words.now.items) (λ c. (file : List ℕ) → H.bytes host.old (input_of c) ≡ Some file → IsValid file → ¬ Rose (H.read_faults host.old (input_of c)) (H.read_faults host.new (input_of c)) → WritesWell (H.write_faults host.old) (H.write_faults host.new) (Rose (H.say_faults host.old) (H.say_faults host.new)) c → (result ≡ 0) ⊎ (result ≡ 6)) }
+    ensures refuses { IfSome (asked words.now.items) (λ c. (file : List ℕ) → H.bytes host.old (input_of c) ≡ Some file → ¬ IsValid file → ¬ Rose (H.read_faults host.old (input_of c)) (H.read_faults host.new (input_of c)) → (result ≡ 3) ⊎ ((result ≡ 5) ⊎ (result ≡ 6))) }
 {
-    let Some(names) = names_of(words) else {
+    let Some(command) = command_of(words) else {
         return say(host, b"words\n", 2);
     };
-    match shrink(alloc, names.input, names.output, names.certificate, host) {
-        Ok(()) => 0,
-        Err(Ending::Refused(fault)) => match text_of(alloc, fault) {
-            Ok(text) => say(host, text.as_bytes(), 3),
-            Err(_) => 6,
+    match command {
+        Command::Shrink(names) => {
+            match shrink(alloc, names.input, names.output, names.certificate, host) {
+                Ok(()) => 0,
+                Err(ending) => end(alloc, ending, host),
+            }
+        }
+        Command::Stat(input) => match summarise(alloc, input, host) {
+            Ok(line) => say(host, line.as_bytes(), 0),
+            Err(ending) => end(alloc, ending, host),
         },
-        Err(Ending::ReadFault) => 4,
-        Err(Ending::WriteFault) => 5,
-        Err(Ending::NoMemory) => 6,
     }
 }

@@ -7,49 +7,49 @@ use std::test::Fail;
 
 // In the manner of gcc, as it is compiled: a function `f` with a parameter `x`, whose places are in a location list with view
 // numbers.
-const GCC_INFO: [u8; 101] = [
+pub const GCC_INFO: [u8; 101] = [
     0x61, 0, 0, 0, 5, 0, 1, 8, 0, 0, 0, 0, 1, 0, 0, 0, 0, 0x1d, 0, 0, 0, 0, 4, 0, 0, 0, 0, 0x10,
     0x40, 0, 0, 0, 0, 0, 0x10, 0, 0, 0, 0, 0, 0, 0, 0, 0, 0, 0, 2, 0x66, 0, 1, 0x5d, 0, 0, 0, 0,
     0x10, 0x40, 0, 0, 0, 0, 0, 0x10, 0, 0, 0, 0, 0, 0, 0, 1, 0x9c, 0x5d, 0, 0, 0, 3, 0x78, 0, 1,
     0x5d, 0, 0, 0, 0x10, 0, 0, 0, 0x0c, 0, 0, 0, 0, 4, 4, 5, 0x69, 0x6e, 0x74, 0, 0,
 ];
 
-const GCC_ABBREVS: [u8; 71] = [
+pub const GCC_ABBREVS: [u8; 71] = [
     1, 0x11, 1, 0x25, 0x0e, 0x13, 0x0b, 3, 0x1f, 0x1b, 0x1f, 0x11, 1, 0x12, 7, 0x10, 0x17, 0, 0, 2,
     0x2e, 1, 0x3f, 0x19, 3, 8, 0x3a, 0x21, 1, 0x3b, 0x0b, 0x49, 0x13, 0x11, 1, 0x12, 7, 0x40, 0x18,
     1, 0x13, 0, 0, 3, 5, 0, 3, 8, 0x3b, 0x0b, 0x49, 0x13, 2, 0x17, 0xb7, 0x42, 0x17, 0, 0, 4, 0x24,
     0, 0x0b, 0x0b, 0x3e, 0x0b, 3, 8, 0, 0, 0,
 ];
 
-const GCC_LOCATIONS: [u8; 30] = [
+pub const GCC_LOCATIONS: [u8; 30] = [
     0x1a, 0, 0, 0, 5, 0, 8, 0, 0, 0, 0, 0, 0, 1, 1, 0, 4, 0, 4, 1, 0x55, 4, 4, 0x10, 4, 0xa3, 1,
     0x55, 0x9f, 0,
 ];
 
 // In the manner of clang, as it is compiled: strings, addresses and lists are told by their indexes.
-const CLANG_INFO: [u8; 77] = [
+pub const CLANG_INFO: [u8; 77] = [
     0x49, 0, 0, 0, 5, 0, 1, 8, 0, 0, 0, 0, 1, 0, 0x1d, 0, 1, 8, 0, 0, 0, 0, 0, 0, 0, 2, 0, 0, 0, 0,
     0, 0, 0, 0, 0, 8, 0, 0, 0, 0x0c, 0, 0, 0, 0x0c, 0, 0, 0, 2, 0, 0x10, 0, 0, 0, 1, 0x57, 3, 0, 1,
     0x48, 0, 0, 0, 3, 0, 4, 0, 1, 0x48, 0, 0, 0, 0, 4, 5, 5, 4, 0,
 ];
 
-const CLANG_ABBREVS: [u8; 76] = [
+pub const CLANG_ABBREVS: [u8; 76] = [
     1, 0x11, 1, 0x25, 0x25, 0x13, 5, 3, 0x25, 0x72, 0x17, 0x10, 0x17, 0x1b, 0x25, 0x11, 1, 0x55,
     0x23, 0x73, 0x17, 0x74, 0x17, 0x8c, 1, 0x17, 0, 0, 2, 0x2e, 1, 0x11, 0x1b, 0x12, 6, 0x40, 0x18,
     3, 0x25, 0x3a, 0x0b, 0x3b, 0x0b, 0x49, 0x13, 0x3f, 0x19, 0, 0, 3, 5, 0, 2, 0x22, 3, 0x25, 0x3a,
     0x0b, 0x3b, 0x0b, 0x49, 0x13, 0, 0, 4, 0x24, 0, 3, 0x25, 0x3e, 0x0b, 0x0b, 0x0b, 0, 0, 0,
 ];
 
-const CLANG_RANGES: [u8; 23] = [
+pub const CLANG_RANGES: [u8; 23] = [
     0x13, 0, 0, 0, 5, 0, 8, 0, 1, 0, 0, 0, 4, 0, 0, 0, 3, 0, 0x10, 3, 1, 8, 0,
 ];
 
-const CLANG_LOCATIONS: [u8; 32] = [
+pub const CLANG_LOCATIONS: [u8; 32] = [
     0x1c, 0, 0, 0, 5, 0, 8, 0, 1, 0, 0, 0, 4, 0, 0, 0, 1, 0, 4, 0, 4, 1, 0x55, 4, 4, 0x10, 4, 0xa3,
     1, 0x55, 0x9f, 0,
 ];
 
-const CLANG_ADDRESSES: [u8; 24] = [
+pub const CLANG_ADDRESSES: [u8; 24] = [
     0x14, 0, 0, 0, 5, 0, 8, 0, 0, 0x10, 0x40, 0, 0, 0, 0, 0, 0, 0x20, 0x40, 0, 0, 0, 0, 0,
 ];
 

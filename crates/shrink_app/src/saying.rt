@@ -2,14 +2,15 @@
 ghost use Rattle.std.specs.Prelude.{◌≡◌, ◌⊎◌, ◌++◌, ℕ, List, IfOk, option_map, string_bytes};
 ghost use Rattle.dw_base.specs.Host.{AddsPart};
 ghost use Rattle.shrink_app.specs.Said.{refusal_text};
-ghost use Rattle.shrink_app.specs.inside.Said.{SaysOrStops};
+ghost use Rattle.shrink_app.specs.inside.Said.{SaysOrStops, EndsFor};
 
+use crate::ending::Ending;
 use dw_base::{Fault, Host, Stop};
 use std::alloc::{AllocError, Global};
 
 /// Says a text, and gives the status, or that of a failed message.
 pub fn say<H: Host>(host: &mut H, text: &[u8], status: u8) -> u8
-    requires { (status ≡ 2) ⊎ (status ≡ 3) }
+    requires { (status ≡ 0) ⊎ ((status ≡ 2) ⊎ (status ≡ 3)) }
     ensures said { result ≡ status → H.said host.new ≡ option_map (λ b. b ++ text.now) (H.said host.old) }
     ensures part { (result ≡ 5) ⊎ (result ≡ 6) → AddsPart (H.said host.old) text.now (H.said host.new) }
     ensures answer { SaysOrStops status (H.say_faults host.old) (H.say_faults host.new) result }
@@ -31,4 +32,22 @@ pub fn text_of(alloc: Global, fault: Fault) -> Result<String, AllocError>
     let kind = fault.kind.name();
     let place = fault.place;
     format!(in alloc; "refused {kind} at {place}\n")
+}
+
+/// Gives the status where the work ended early, after the line that names a fault, where one was the reason.
+pub fn end<H: Host>(alloc: Global, ending: Ending, host: &mut H) -> u8
+    ensures ends { EndsFor ending (H.said host.old) (H.said host.new) (H.say_faults host.old) (H.say_faults host.new) result }
+    ensures files { (f : List ℕ) → H.bytes host.new f ≡ H.bytes host.old f }
+    ensures reads { (f : List ℕ) → H.read_faults host.new f ≡ H.read_faults host.old f }
+    ensures writes { (f : List ℕ) → H.write_faults host.new f ≡ H.write_faults host.old f }
+{
+    match ending {
+        Ending::Refused(fault) => match text_of(alloc, fault) {
+            Ok(text) => say(host, text.as_bytes(), 3),
+            Err(_) => 6,
+        },
+        Ending::ReadFault => 4,
+        Ending::WriteFault => 5,
+        Ending::NoMemory => 6,
+    }
 }

@@ -6,9 +6,9 @@ use std::alloc::{AllocError, Global};
 use std::process::Abort;
 use std::test::Fail;
 
-// A compilation unit with children: a variable, with a reference in this form and a block, and a base type. The column of blocks
-// keeps its form: up to 127 bytes DW_FORM_block1 and DW_FORM_block have the same size, so that the form of the input comes first.
-fn table_with(form: u8) -> [u8; 20] {
+/// A compilation unit with children: a variable, with a reference in this form and a block, and a base type. The column of blocks
+/// keeps its form: up to 127 bytes DW_FORM_block1 and DW_FORM_block have the same size, so that the form of the input comes first.
+pub fn table_with(form: u8) -> [u8; 20] {
     [
         1, 0x11, 1, 0, 0, 2, 0x34, 0, 0x49, form, 0x1c, 0x0a, 0, 0, 3, 0x24, 0, 0, 0, 0,
     ]
@@ -19,9 +19,9 @@ const VARIABLES_FIRST: [u8; 20] = [
     1, 0x34, 0, 0x49, 0x15, 0x1c, 0x0a, 0, 0, 2, 0x11, 1, 0, 0, 3, 0x24, 0, 0, 0, 0,
 ];
 
-// A unit by such a table: it begins with these bytes, which end before the block, the block has so many bytes 0, and the base type
-// and the end of the children follow.
-fn unit(alloc: Global, head: &[u8], size: usize) -> Result<Vec<u8>, AllocError> {
+/// A unit by such a table: it begins with these bytes, which end before the block, the block has so many bytes 0, and the base type
+/// and the end of the children follow.
+pub fn unit(alloc: Global, head: &[u8], size: usize) -> Result<Vec<u8>, AllocError> {
     let mut bytes = head.to_vec(alloc)?;
     for _ in 0..size {
         bytes.push(0)?;
@@ -32,7 +32,7 @@ fn unit(alloc: Global, head: &[u8], size: usize) -> Result<Vec<u8>, AllocError> 
 
 // With a block of 111 bytes the base type stands at 130 where the reference to it has four bytes, at 128 where it has two, and at
 // 127 where it has one. Both of the latter are told in their bytes; one is the fewest.
-const FOUR_BYTES: [u8; 19] = [
+pub const FOUR_BYTES: [u8; 19] = [
     0x80, 0, 0, 0, 5, 0, 1, 8, 0, 0, 0, 0, 1, 2, 0x82, 0, 0, 0, 0x6f,
 ];
 

@@ -1,6 +1,5 @@
-use Rattle.std.proofs.Common.{◌≡◌, ◌++◌, ◌∙◌, ℕ, List, IsSomeAnd, inr, subst}
-use Rattle.std.specs.Prelude.{option_map}
-use Rattle.dw_base.specs.declared.fault.Fault.{Fault}
+use Rattle.std.proofs.Common.{◌≡◌, ◌⊎◌, ◌∙◌, ℕ, List, IsSomeAnd, inl, inr, arith, String, Global}
+use Rattle.dw_base.specs.Host.{Rose}
 use Rattle.value_links.specs.Same.{Same}
 use Rattle.value_links.specs.Placed.{IsPlaced}
 use Rattle.value_links.specs.Classes.{HaveLeastCodes, HaveOrderedCodes, HaveLeastColumns, HaveFirstColumns, HaveLeastLists}
@@ -8,17 +7,20 @@ use Rattle.value_links.specs.Layouts.{HaveLeastLayouts}
 use Rattle.value_links.specs.Tidy.{IsTidy}
 use Rattle.shrink_app.specs.File.{StaysValid, HasLeastLines, HasOrderedLines, IsWhole}
 use Rattle.shrink_app.specs.Run.{Writes}
-use Rattle.shrink_app.specs.Said.{refusal_text}
-use Rattle.shrink_app.specs.Words.{asked}
+use Rattle.shrink_app.specs.Words.{OfShrink, asked}
+use Rattle.shrink_app.specs.inside.Said.{EndsFor}
+use Rattle.shrink_app.proofs.Ends.{asked_is, not_said, said_well, ends_from, ends_refused, ends_long, ends_stopped, ends_unwritten, no_write_fault, ends_complete, whole_still}
 use Rattle.shrink_app.proofs.Shrinks.{writes_part}
 use Rattle.shrink_app.proofs.run.run.Given.{Over}
 use Rattle.shrink_app.proofs.run.run.Goals as goal
 
+-- A FILE WAS WRITTEN
+
 -- a part of what is promised of the output
-part : (Q : List ℕ → List ℕ → Type 0) → ((file written : List ℕ) → IsWhole file written → Q file written) → (g : Over) (c : goal.In-Ok g) → IsSomeAnd (asked c.args.words.now.items) (λ n. Writes Q (g.H.Host.bytes c.args.host.now) (g.H.Host.bytes c.shrink.new.host) n.input n.output)
+part : (Q : List ℕ → List ℕ → Type 0) → ((file written : List ℕ) → IsWhole file written → Q file written) → (g : Over) (c : goal.In-Ok g) → IsSomeAnd (asked c.args.words.now.items) (OfShrink (λ n. Writes Q (g.H.Host.bytes c.args.host.now) (g.H.Host.bytes c.shrink.new.host) n.input n.output))
 part Q h g c =
     let bytes = g.H.Host.bytes in
-    rw (← c.in-Some.ensures.asked) (writes_part IsWhole Q (bytes c.args.host.now) (bytes c.shrink.new.host) c.in-Some.names.input.now c.in-Some.names.output.now h c.in-Ok.ensures.written)
+    rw (asked_is _ _ _ c.in-Some.ensures.asked c.in-Shrink.is) (writes_part IsWhole Q (bytes c.args.host.now) (bytes c.shrink.new.host) c.in-Shrink.names.input.now c.in-Shrink.names.output.now h c.in-Ok.ensures.written)
 
 pub returns-in-Ok-clause-same : goal.returns-in-Ok-clause-same
 returns-in-Ok-clause-same g c = λ zero. part Same (λ file written whole. whole.same) g c
@@ -56,36 +58,176 @@ returns-in-Ok-clause-tidy g c = λ zero. part IsTidy (λ file written whole. who
 pub returns-in-Ok-clause-placed : goal.returns-in-Ok-clause-placed
 returns-in-Ok-clause-placed g c = λ zero. part IsPlaced (λ file written whole. whole.placed) g c
 
-pub returns-in-Ok-text_of-clause-refused : goal.returns-in-Ok-text_of-clause-refused
-returns-in-Ok-text_of-clause-refused g c = λ three.
-    let named = rw c.in-Err-Refused.field-0-is at c.in-Err-Refused.ensures.refused in
-    let fault = c.in-Err-Refused.fault in
-    let text : c.as_bytes.result.now ≡ refusal_text fault.kind fault.place = c.as_bytes.ensures.value ∙ c.in-Ok-text_of.ensures in
-    let said = rw (text, c.shrink.ensures.said) at c.say-in-Ok-text_of.ensures.said three in
-    rw (← c.in-Some.ensures.asked) (fault.kind, fault.place, named, said)
+-- NO FILE WAS WRITTEN
 
-pub returns-in-Ok-text_of-clause-long : goal.returns-in-Ok-text_of-clause-long
-returns-in-Ok-text_of-clause-long g c = λ three.
-    let named = rw c.in-Err-Refused.field-0-is at c.in-Err-Refused.ensures.long in
-    let fault = c.in-Err-Refused.fault in
-    let text : c.as_bytes.result.now ≡ refusal_text fault.kind fault.place = c.as_bytes.ensures.value ∙ c.in-Ok-text_of.ensures in
-    let said = rw (text, c.shrink.ensures.said) at c.say-in-Ok-text_of.ensures.said three in
+-- the end after all calls
+shrink_ends : (g : Over) (c : goal.After-end g) → EndsFor c.in-Err.ending (g.H.Host.said c.args.host.now) (g.H.Host.said c.end.new.host) (g.H.Host.say_faults c.args.host.now) (g.H.Host.say_faults c.end.new.host) c.end.result
+shrink_ends g c =
     let host = g.H.Host in
-    rw (← c.in-Some.ensures.asked) (λ file told long. subst (λ (f : Fault). host.said c.say-in-Ok-text_of.new.host ≡ option_map (λ b. b ++ refusal_text f.kind f.place) (host.said c.args.host.now)) (named file told long) said)
+    ends_from c.in-Err.ending (host.said c.args.host.now) (host.said c.shrink.new.host) (host.said c.end.new.host) (host.say_faults c.args.host.now) (host.say_faults c.shrink.new.host) (host.say_faults c.end.new.host) c.end.result c.shrink.ensures.said c.shrink.ensures.says c.end.ensures.ends
 
-pub returns-in-Ok-text_of-clause-write_fault : goal.returns-in-Ok-text_of-clause-write_fault
-returns-in-Ok-text_of-clause-write_fault g c = λ five.
-    let named = rw c.in-Err-Refused.field-0-is at c.in-Err-Refused.ensures.refused in
-    let rose = rw c.shrink.ensures.says at c.say-in-Ok-text_of.ensures.answer.failed five in
-    rw (← c.in-Some.ensures.asked) (inr (rose, λ file told valid. let fault = named file told in valid fault.pass _ _ fault.fault))
+pub returns-in-Err-clause-refused : goal.returns-in-Err-clause-refused
+returns-in-Err-clause-refused g c = λ three.
+    let host = g.H.Host in
+    rw (asked_is _ _ _ c.in-Some.ensures.asked c.in-Shrink.is) (ends_refused (Unit {0}) (host.bytes c.args.host.now c.in-Shrink.names.input.now) c.in-Err.ending (host.said c.args.host.now) (host.said c.end.new.host) (host.say_faults c.args.host.now) (host.say_faults c.end.new.host) c.end.result c.in-Err.ensures.refused (shrink_ends g c) three)
 
-pub returns-in-Ok-text_of-clause-complete : goal.returns-in-Ok-text_of-clause-complete
-returns-in-Ok-text_of-clause-complete g c =
-    let named = rw c.in-Err-Refused.field-0-is at c.in-Err-Refused.ensures.refused in
-    rw (← c.in-Some.ensures.asked) (λ file told valid still quiet calm. let fault = named file told in absurd (valid fault.pass _ _ fault.fault))
+pub returns-in-Err-clause-long : goal.returns-in-Err-clause-long
+returns-in-Err-clause-long g c = λ three.
+    let host = g.H.Host in
+    rw (asked_is _ _ _ c.in-Some.ensures.asked c.in-Shrink.is) (ends_long (Unit {0}) (host.bytes c.args.host.now c.in-Shrink.names.input.now) c.in-Err.ending (host.said c.args.host.now) (host.said c.end.new.host) (host.say_faults c.args.host.now) (host.say_faults c.end.new.host) c.end.result c.in-Err.ensures.long (shrink_ends g c) three)
 
-pub returns-in-Ok-text_of-clause-faulty_unwritten : goal.returns-in-Ok-text_of-clause-faulty_unwritten
-returns-in-Ok-text_of-clause-faulty_unwritten g c =
+pub returns-in-Err-clause-write_fault : goal.returns-in-Err-clause-write_fault
+returns-in-Err-clause-write_fault g c = λ five.
+    let host = g.H.Host in
+    let faults = host.write_faults in
+    let output = c.in-Shrink.names.output.now in
+    let certificate = c.in-Shrink.names.certificate.now in
+    let before = Rose (faults c.args.host.now output) (faults c.shrink.new.host output) ⊎ Rose (faults c.args.host.now certificate) (faults c.shrink.new.host certificate) in
+    let fails = ends_unwritten (Unit {0}) (host.bytes c.args.host.now c.in-Shrink.names.input.now) c.in-Err.ending (host.said c.args.host.now) (host.said c.end.new.host) (host.say_faults c.args.host.now) (host.say_faults c.end.new.host) c.end.result before (faults c.args.host.now) (faults c.shrink.new.host) c.in-Err.ensures.refused c.in-Err.ensures.writes (shrink_ends g c) five in
+    rw (asked_is _ _ _ c.in-Some.ensures.asked c.in-Shrink.is, c.end.ensures.writes output, c.end.ensures.writes certificate) fails
+
+pub returns-in-Err-clause-faulty_kept : goal.returns-in-Err-clause-faulty_kept
+returns-in-Err-clause-faulty_kept g c =
+    let kept = c.shrink.ensures.faulty_kept in
+    let still = c.end.ensures.files in
+    rw (asked_is _ _ _ c.in-Some.ensures.asked c.in-Shrink.is) (λ file told faulty f. still f ∙ kept file told faulty f)
+
+pub returns-in-Err-clause-faulty_unwritten : goal.returns-in-Err-clause-faulty_unwritten
+returns-in-Err-clause-faulty_unwritten g c =
     let kept = c.shrink.ensures.faulty_unwritten in
-    let quiet = c.say-in-Ok-text_of.ensures.writes in
-    rw (← c.in-Some.ensures.asked) (λ file told faulty f. quiet f ∙ kept file told faulty f)
+    let still = c.end.ensures.writes in
+    rw (asked_is _ _ _ c.in-Some.ensures.asked c.in-Shrink.is) (λ file told faulty f. still f ∙ kept file told faulty f)
+
+pub returns-in-Err-clause-output_whole : goal.returns-in-Err-clause-output_whole
+returns-in-Err-clause-output_whole g c =
+    let bytes = g.H.Host.bytes in
+    let faults = g.H.Host.write_faults in
+    let names = c.in-Shrink.names in
+    let either = c.shrink.ensures.whole in
+    rw (asked_is _ _ _ c.in-Some.ensures.asked c.in-Shrink.is) (λ some. whole_still IsWhole (bytes c.args.host.now) (bytes c.shrink.new.host) (bytes c.end.new.host) (faults c.args.host.now) (faults c.shrink.new.host) (faults c.end.new.host) names.input.now names.output.now names.certificate.now c.end.ensures.files c.end.ensures.writes (either some))
+
+pub returns-in-Err-clause-stopped : goal.returns-in-Err-clause-stopped
+returns-in-Err-clause-stopped g c = λ late.
+    let host = g.H.Host in
+    rw (asked_is _ _ _ c.in-Some.ensures.asked c.in-Shrink.is) (ends_stopped (Unit {0}) (host.bytes c.args.host.now c.in-Shrink.names.input.now) c.in-Err.ending (host.said c.args.host.now) (host.said c.end.new.host) (host.say_faults c.args.host.now) (host.say_faults c.end.new.host) c.end.result c.in-Err.ensures.refused (shrink_ends g c) late)
+
+pub returns-in-Err-clause-complete : goal.returns-in-Err-clause-complete
+returns-in-Err-clause-complete g c =
+    let host = g.H.Host in
+    let faults = host.write_faults in
+    let input = c.in-Shrink.names.input.now in
+    let output = c.in-Shrink.names.output.now in
+    let certificate = c.in-Shrink.names.certificate.now in
+    let before = Rose (faults c.args.host.now output) (faults c.shrink.new.host output) ⊎ Rose (faults c.args.host.now certificate) (faults c.shrink.new.host certificate) in
+    rw (asked_is _ _ _ c.in-Some.ensures.asked c.in-Shrink.is, c.end.ensures.reads input, c.end.ensures.writes output, c.end.ensures.writes certificate) (λ file told valid still well.
+    let calm : ¬ before = (λ rose. elim rose [ inl r ↦ well.0 r | inr r ↦ well.1 r ]) in
+    ends_complete (Unit {0}) (host.bytes c.args.host.now input) c.in-Err.ending (host.said c.args.host.now) (host.said c.end.new.host) (host.say_faults c.args.host.now) (host.say_faults c.end.new.host) c.end.result (host.read_faults c.args.host.now input) (host.read_faults c.shrink.new.host input) c.in-Err.ensures.refused c.in-Err.ensures.reads (no_write_fault (Unit {0}) c.in-Err.ending before (faults c.args.host.now) (faults c.shrink.new.host) c.in-Err.ensures.writes calm) (shrink_ends g c) file told valid still)
+
+-- A LINE WAS TO BE SAID
+
+pub returns-in-Ok-summarise-clause-words : goal.returns-in-Ok-summarise-clause-words
+returns-in-Ok-summarise-clause-words g c = λ two. absurd (not_said _ _ _ c.say-in-Ok-summarise.ensures.answer (inl two))
+
+pub returns-in-Ok-summarise-clause-words_said : goal.returns-in-Ok-summarise-clause-words_said
+returns-in-Ok-summarise-clause-words_said g c = λ two. absurd (not_said _ _ _ c.say-in-Ok-summarise.ensures.answer (inl two))
+
+pub returns-in-Ok-summarise-clause-refused : goal.returns-in-Ok-summarise-clause-refused
+returns-in-Ok-summarise-clause-refused g c = λ three. absurd (not_said _ _ _ c.say-in-Ok-summarise.ensures.answer (inr (inl three)))
+
+pub returns-in-Ok-summarise-clause-long : goal.returns-in-Ok-summarise-clause-long
+returns-in-Ok-summarise-clause-long g c = λ three. absurd (not_said _ _ _ c.say-in-Ok-summarise.ensures.answer (inr (inl three)))
+
+pub returns-in-Ok-summarise-clause-read_fault : goal.returns-in-Ok-summarise-clause-read_fault
+returns-in-Ok-summarise-clause-read_fault g c = λ four. absurd (not_said _ _ _ c.say-in-Ok-summarise.ensures.answer (inr (inr four)))
+
+pub returns-in-Ok-summarise-clause-read_rose : goal.returns-in-Ok-summarise-clause-read_rose
+returns-in-Ok-summarise-clause-read_rose g c =
+    let still : g.H.Host.read_faults c.say-in-Ok-summarise.new.host c.in-Stat.input.now ≡ g.H.Host.read_faults c.args.host.now c.in-Stat.input.now = c.say-in-Ok-summarise.ensures.reads c.in-Stat.input.now ∙ c.in-Ok-summarise.ensures.reads in
+    rw (asked_is _ _ _ c.in-Some.ensures.asked c.in-Stat.is) (λ rose. absurd (omega (arith, still, rose)))
+
+pub returns-in-Ok-summarise-clause-write_fault : goal.returns-in-Ok-summarise-clause-write_fault
+returns-in-Ok-summarise-clause-write_fault g c = λ five.
+    let rose = rw c.in-Ok-summarise.ensures.says at c.say-in-Ok-summarise.ensures.answer.failed five in
+    rw (asked_is _ _ _ c.in-Some.ensures.asked c.in-Stat.is) rose
+
+pub returns-in-Ok-summarise-clause-kept : goal.returns-in-Ok-summarise-clause-kept
+returns-in-Ok-summarise-clause-kept g c = λ late. absurd (not_said _ _ _ c.say-in-Ok-summarise.ensures.answer late)
+
+pub returns-in-Ok-summarise-clause-faulty_kept : goal.returns-in-Ok-summarise-clause-faulty_kept
+returns-in-Ok-summarise-clause-faulty_kept g c =
+    let still = c.say-in-Ok-summarise.ensures.files in
+    let kept = c.summarise.ensures.files in
+    rw (asked_is _ _ _ c.in-Some.ensures.asked c.in-Stat.is) (λ file told faulty f. still f ∙ kept f)
+
+pub returns-in-Ok-summarise-clause-faulty_unwritten : goal.returns-in-Ok-summarise-clause-faulty_unwritten
+returns-in-Ok-summarise-clause-faulty_unwritten g c =
+    let still = c.say-in-Ok-summarise.ensures.writes in
+    let kept = c.summarise.ensures.writes in
+    rw (asked_is _ _ _ c.in-Some.ensures.asked c.in-Stat.is) (λ file told faulty f. still f ∙ kept f)
+
+pub returns-in-Ok-summarise-clause-stat_kept : goal.returns-in-Ok-summarise-clause-stat_kept
+returns-in-Ok-summarise-clause-stat_kept g c =
+    let still = c.say-in-Ok-summarise.ensures.files in
+    let kept = c.summarise.ensures.files in
+    rw (asked_is _ _ _ c.in-Some.ensures.asked c.in-Stat.is) (λ f. still f ∙ kept f)
+
+pub returns-in-Ok-summarise-clause-stat_unwritten : goal.returns-in-Ok-summarise-clause-stat_unwritten
+returns-in-Ok-summarise-clause-stat_unwritten g c =
+    let still = c.say-in-Ok-summarise.ensures.writes in
+    let kept = c.summarise.ensures.writes in
+    rw (asked_is _ _ _ c.in-Some.ensures.asked c.in-Stat.is) (λ f. still f ∙ kept f)
+
+pub returns-in-Ok-summarise-clause-done : goal.returns-in-Ok-summarise-clause-done
+returns-in-Ok-summarise-clause-done g c = λ zero. rw (asked_is _ _ _ c.in-Some.ensures.asked c.in-Stat.is) c.in-Ok-summarise.ensures.valid
+
+pub returns-in-Ok-summarise-clause-summed : goal.returns-in-Ok-summarise-clause-summed
+returns-in-Ok-summarise-clause-summed g c = λ zero.
+    let (file, read, line) = c.in-Ok-summarise.ensures.line in
+    let text = c.as_bytes.ensures.value ∙ line.3 in
+    let said = rw (text, c.summarise.ensures.said) at c.say-in-Ok-summarise.ensures.said zero in
+    rw (asked_is _ _ _ c.in-Some.ensures.asked c.in-Stat.is) (file, line.0, line.1, read, line.2, said)
+
+pub returns-in-Ok-summarise-clause-quiet : goal.returns-in-Ok-summarise-clause-quiet
+returns-in-Ok-summarise-clause-quiet g c = λ four. absurd (not_said _ _ _ c.say-in-Ok-summarise.ensures.answer (inr (inr four)))
+
+pub returns-in-Ok-summarise-clause-stopped : goal.returns-in-Ok-summarise-clause-stopped
+returns-in-Ok-summarise-clause-stopped g c = λ late.
+    let (file, read, line) = c.in-Ok-summarise.ensures.line in
+    let text = c.as_bytes.ensures.value ∙ line.3 in
+    let front = rw (text, c.summarise.ensures.said) at c.say-in-Ok-summarise.ensures.part late in
+    rw (asked_is _ _ _ c.in-Some.ensures.asked c.in-Stat.is) (inr (file, line.0, line.1, read, line.2, front))
+
+pub returns-in-Ok-summarise-clause-complete : goal.returns-in-Ok-summarise-clause-complete
+returns-in-Ok-summarise-clause-complete g c =
+    let answer = rw c.in-Ok-summarise.ensures.says at c.say-in-Ok-summarise.ensures.answer in
+    rw (asked_is _ _ _ c.in-Some.ensures.asked c.in-Stat.is) (λ file told valid still well. said_well _ _ _ answer well)
+
+pub returns-in-Ok-summarise-clause-refuses : goal.returns-in-Ok-summarise-clause-refuses
+returns-in-Ok-summarise-clause-refuses g c =
+    let valid = c.in-Ok-summarise.ensures.valid in
+    rw (asked_is _ _ _ c.in-Some.ensures.asked c.in-Stat.is) (λ file told faulty still. absurd (faulty (valid file told)))
+
+-- THERE WAS NONE
+
+-- the end after all calls
+stat_ends : (g : Over) (c : goal.After-end-in-Err-summarise g) → EndsFor c.in-Err-summarise.ending (g.H.Host.said c.args.host.now) (g.H.Host.said c.end-in-Err-summarise.new.host) (g.H.Host.say_faults c.args.host.now) (g.H.Host.say_faults c.end-in-Err-summarise.new.host) c.end-in-Err-summarise.result
+stat_ends g c =
+    let host = g.H.Host in
+    ends_from c.in-Err-summarise.ending (host.said c.args.host.now) (host.said c.summarise.new.host) (host.said c.end-in-Err-summarise.new.host) (host.say_faults c.args.host.now) (host.say_faults c.summarise.new.host) (host.say_faults c.end-in-Err-summarise.new.host) c.end-in-Err-summarise.result c.summarise.ensures.said c.summarise.ensures.says c.end-in-Err-summarise.ensures.ends
+
+pub returns-in-Err-summarise-clause-refused : goal.returns-in-Err-summarise-clause-refused
+returns-in-Err-summarise-clause-refused g c = λ three.
+    let host = g.H.Host in
+    rw (asked_is _ _ _ c.in-Some.ensures.asked c.in-Stat.is) (ends_refused (String Global) (host.bytes c.args.host.now c.in-Stat.input.now) c.in-Err-summarise.ending (host.said c.args.host.now) (host.said c.end-in-Err-summarise.new.host) (host.say_faults c.args.host.now) (host.say_faults c.end-in-Err-summarise.new.host) c.end-in-Err-summarise.result c.in-Err-summarise.ensures.refused (stat_ends g c) three)
+
+pub returns-in-Err-summarise-clause-stopped : goal.returns-in-Err-summarise-clause-stopped
+returns-in-Err-summarise-clause-stopped g c = λ late.
+    let host = g.H.Host in
+    rw (asked_is _ _ _ c.in-Some.ensures.asked c.in-Stat.is) (inl (ends_stopped (String Global) (host.bytes c.args.host.now c.in-Stat.input.now) c.in-Err-summarise.ending (host.said c.args.host.now) (host.said c.end-in-Err-summarise.new.host) (host.say_faults c.args.host.now) (host.say_faults c.end-in-Err-summarise.new.host) c.end-in-Err-summarise.result c.in-Err-summarise.ensures.refused (stat_ends g c) late))
+
+pub returns-in-Err-summarise-clause-complete : goal.returns-in-Err-summarise-clause-complete
+returns-in-Err-summarise-clause-complete g c =
+    let host = g.H.Host in
+    let input = c.in-Stat.input.now in
+    rw (asked_is _ _ _ c.in-Some.ensures.asked c.in-Stat.is, c.end-in-Err-summarise.ensures.reads input) (λ file told valid still well.
+    ends_complete (String Global) (host.bytes c.args.host.now input) c.in-Err-summarise.ending (host.said c.args.host.now) (host.said c.end-in-Err-summarise.new.host) (host.say_faults c.args.host.now) (host.say_faults c.end-in-Err-summarise.new.host) c.end-in-Err-summarise.result (host.read_faults c.args.host.now input) (host.read_faults c.summarise.new.host input) c.in-Err-summarise.ensures.refused c.in-Err-summarise.ensures.reads c.in-Err-summarise.ensures.unwritten (stat_ends g c) file told valid still)

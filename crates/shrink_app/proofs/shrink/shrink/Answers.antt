@@ -9,7 +9,7 @@ pub returns-in_err-written-clause-refused : goal.returns-in_err-written-clause-r
 returns-in_err-written-clause-refused g c =
     let p = err_from_is_err_and c.from_residual-in_err-written.result c.from_residual-in_err-written.ensures.1 in
     let refused = rw c.deref.ensures.value at c.in_err-written.ensures.refused in
-    rw (p.1, p.2) (refusal_named _ _ _ c.in_ok-file.ensures.read refused)
+    rw (p.1, p.2) (refusal_named (Unit {0}) _ _ _ c.in_ok-file.ensures.read refused)
 
 pub returns-in_err-written-clause-long : goal.returns-in_err-written-clause-long
 returns-in_err-written-clause-long g c = within_limit _ _ c.in_ok-file.ensures.long

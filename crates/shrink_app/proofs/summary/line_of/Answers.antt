@@ -1,0 +1,12 @@
+use Rattle.shrink_app.specs.File.{IsWhole}
+use Rattle.shrink_app.proofs.summary.line_of.Goals as goal
+
+pub returns-clause-line : goal.returns-clause-line
+returns-clause-line c =
+    let file = c.args.file.now in
+    let output = c.in_ok-written.written.file.items in
+    let written = c.in_ok-written.ensures in
+    let whole : IsWhole file output = record { same = written.same; still_valid = written.still_valid; least = written.least; order = written.order; lists = written.lists; columns = written.columns; columns_order = written.columns_order; codes = written.codes; codes_order = written.codes_order; layouts = written.layouts; tidy = written.tidy; placed = written.placed } in
+    let (debug, means, counts) = c.in_ok-old.ensures.counts in
+    let sizes = rw c.deref.ensures.value at c.in_ok-new.ensures in
+    (output, debug, record { whole = whole; means = means }, c.in_ok-summary_line.ensures file output debug c.in_ok-old.ensures.sizes sizes counts)
