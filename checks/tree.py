@@ -580,11 +580,13 @@ def which_program(place):
         shutil.copy(SCRIPT, place.path(f"{folder}/mikadocherry-tree"))
     path = os.environ["PATH"] + ":"
     on_path = os.fsdecode(place.path("bin")) + ":" + path
+    # One may be installed on this machine.
+    without = ":".join(folder for folder in path.split(":") if not shutil.which("mikadocherry", path=folder or "."))
     for script, path, status in (
         (place.path("beside/mikadocherry-tree"), path, 0),
         (link, path, 0),
         (place.path("none/mikadocherry-tree"), on_path, 0),
-        (place.path("none/mikadocherry-tree"), path, 1),
+        (place.path("none/mikadocherry-tree"), without, 1),
     ):
         place.write("a", source)
         run = subprocess.run(
