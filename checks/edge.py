@@ -24,6 +24,7 @@ import time
 sys.dont_write_bytecode = True
 TOP = os.path.dirname(os.path.dirname(os.path.abspath(__file__)))
 sys.path.insert(0, os.path.join(TOP, "bench"))
+from drawn_files import drawn_file
 from elf_files import Section, aligned, elf_file, names_of, placed, sleb, uleb
 from harness import BUILT, Failure, Skipped, Tests, executable
 from record_files import LINES, MAGIC, PAIRS, records
@@ -159,6 +160,15 @@ def wrong_words(place):
         ["stat"],
         ["stat", "in", "out"],
         ["stat", b"in\xff"],
+        ["make", "1", "out"],
+        ["make", "01", "4", "out"],
+        ["make", "+1", "4", "out"],
+        ["make", "", "4", "out"],
+        ["make", "0x1", "4", "out"],
+        ["make", "4294967296", "4", "out"],
+        ["make", "1", "0", "out"],
+        ["make", "1", "4097", "out"],
+        ["make", "1", "4", b"out\xff"],
         [b"shrink\xff", "in", "out", "cert"],
         ["shrink", b"in\xff", "out", "cert"],
         ["shrink", "in", b"out\xc3", "cert"],
@@ -194,6 +204,31 @@ def summaries(place):
     if os.path.exists("/dev/full"):
         with open("/dev/full", "wb") as full:
             place.keeps(["stat", "in"], 5, stdout=full)
+
+
+def section_sizes(file):
+    """How many bytes the sections of a file have, by their names."""
+    (headers_at,), (count, names) = struct.unpack_from("<Q", file, 40), struct.unpack_from("<HH", file, 60)
+    headers = [struct.unpack_from("<I20xQQ", file, headers_at + 64 * number) for number in range(count)]
+    names_at = headers[names][1]
+    return {file[names_at + name : file.index(b"\0", names_at + name)]: size for name, _, size in headers}
+
+
+@test
+def drawn_files(place):
+    """make writes the file that is drawn from its number, byte for byte, with up to 4,096 units, and stat and shrink take it"""
+    for number, units in ((0, 1), (7, 2), (4294967295, 3), (1, 4096)):
+        words = ["make", str(number), str(units), "drawn"]
+        place.leaves(words, 0, b"", {**place.files(), "drawn": drawn_file(number, units)})
+    run = subprocess.run([place.program, "stat", "drawn"], cwd=place.folder, capture_output=True, timeout=SECONDS)
+    place.answers(["shrink", "drawn", "out", "cert"], 0, b"")
+    old, new = (section_sizes(place.read(name)) for name in ("drawn", "out"))
+    said = json.loads(run.stdout)
+    wanted = {key: [old[name], new[name]] for key in ("abbrev", "info", "line", "loclists", "rnglists") for name in [b".debug_" + key.encode()]}
+    if said != {**said, **wanted, "units": 4096} or new[b".debug_info"] >= old[b".debug_info"]:
+        raise Failure(f"stat says {said}, and the files have {wanted}")
+    for name in ("missing/out", "/dev/full") if os.path.exists("/dev/full") else ("missing/out",):
+        place.keeps(["make", "7", "2", name], 5)
 
 
 @test

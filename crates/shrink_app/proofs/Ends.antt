@@ -88,6 +88,13 @@ ends_unwritten T told ReadFault old new before now result cause writes still nam
 ends_unwritten T told WriteFault old new before now result cause writes still named caused ends five = inl caused
 ends_unwritten T told NoMemory old new before now result cause writes still named caused ends five = absurd (let is : result ≡ 6 = ends.which in omega arith)
 
+-- where the count of failed writes of a file rose, that is the end
+pub ends_risen : (T : Type 0) (e : Ending) (old new : Option (List ℕ)) (before now result : ℕ) (cause : Type 0) (writes risen : List ℕ → ℕ) (f : List ℕ) → HasWriteCause {T = T} cause writes risen (Err e) → EndsFor e old new before now result → writes f < risen f → result ≡ 5
+ends_risen T (Refused fault) old new before now result cause writes risen f caused ends rose = absurd (omega (arith, caused f, rose))
+ends_risen T ReadFault old new before now result cause writes risen f caused ends rose = absurd (omega (arith, caused f, rose))
+ends_risen T WriteFault old new before now result cause writes risen f caused ends rose = ends.which
+ends_risen T NoMemory old new before now result cause writes risen f caused ends rose = absurd (omega (arith, caused f, rose))
+
 -- a write fault has its cause
 pub no_write_fault : (T : Type 0) (e : Ending) (cause : Type 0) (writes still : List ℕ → ℕ) → HasWriteCause {T = T} cause writes still (Err e) → ¬ cause → e ≡ WriteFault → ⊥
 no_write_fault T (Refused fault) cause writes still caused well is = cc

@@ -2,6 +2,7 @@ pub mod Ends
 pub mod EntryTotals
 pub mod Fronts
 pub mod Images
+pub mod InDecimal
 pub mod Lines
 pub mod Numbered
 pub mod RowTotals

@@ -1,4 +1,5 @@
--- Which inputs are faulty, and what is written for the others. An input is held to the narrow limits.
+-- Which inputs are faulty, and what is written for the others. An input is held to the narrow limits. And which file is drawn from a
+-- number.
 use Rattle.std.specs.Prelude.{ℕ, List}
 use Rattle.dw_base.specs.declared.fault.Kind.{Kind}
 use Rattle.dw_base.specs.declared.fault.Reach.TheVariants.{Narrow, Wide}
@@ -10,6 +11,8 @@ use Rattle.value_links.specs.Layouts.{HaveLeastLayouts}
 use Rattle.value_links.specs.Tidy.{IsTidy}
 use Rattle.value_links.specs.Sections.{debug_line}
 use Rattle.value_links.specs.Faults.{Faulty as FaultyWithin, IsValid as IsValidWithin}
+use Rattle.value_links.specs.Debug.{Means}
+use Rattle.sample_maker.specs.Generated.{Generated}
 
 -- a fault of this kind stands at this place, in the first pass that has any
 abbrev pub Faulty : List ℕ → Kind → ℕ → Type 0
@@ -46,3 +49,8 @@ pub record IsWhole (file written : List ℕ) : Type 0 where
   pub layouts : HaveLeastLayouts file written
   pub tidy : IsTidy file written
   pub placed : IsPlaced file written
+
+-- A file that is drawn from a number, with so many units: it is valid, and means what is drawn.
+pub record IsDrawn (number units : ℕ) (file : List ℕ) : Type 0 where
+  pub valid : IsValid file
+  pub means : Means file (Generated number units)

@@ -3,8 +3,8 @@ use Rattle.std.specs.Prelude.{◌≡◌, ℕ, List, [], ◌∷◌, ◌++◌, cod
 use Rattle.std.specs.Option.{ForSome}
 use Rattle.shrink_app.specs.File.{Faulty}
 use Rattle.shrink_app.specs.Words.{Command}
-use Rattle.shrink_app.specs.Words.Command.{Shrink, Stat}
-use Rattle.shrink_app.specs.Summary.{SaysSummaryPart}
+use Rattle.shrink_app.specs.Words.Command.{Shrink, Stat, Make}
+use Rattle.shrink_app.specs.Summary.{SaysSummary, SaysSummaryPart}
 use Rattle.std.specs.Fmt.{decimal}
 use Rattle.dw_base.specs.Fault.{name_of}
 use Rattle.dw_base.specs.Host.{AddsPart}
@@ -24,7 +24,14 @@ abbrev pub SaysPart : Option (List ℕ) → Option (List ℕ) → Option (List �
 SaysPart told before now =
     (now ≡ before) ⊎ ((kind : Kind) × (place : ℕ) × (ForSome told (λ file. Faulty file kind place)) × AddsPart before (refusal_text kind place) now)
 
+-- what was said where the work was done: the line of a summary, where one is asked for, and else nothing
+abbrev pub SaysDone : (List ℕ → Option (List ℕ)) → Option (List ℕ) → Option (List ℕ) → Command → Type 0
+SaysDone told before now (Shrink names) = now ≡ before
+SaysDone told before now (Stat input) = SaysSummary (told input) before now
+SaysDone told before now (Make drawing) = now ≡ before
+
 -- what was said where the work ended early: nothing, or some front of a line, which may be that of a summary where one is asked for
-abbrev pub StopsSaying : Option (List ℕ) → Option (List ℕ) → Option (List ℕ) → Command → Type 0
-StopsSaying told before now (Shrink names) = SaysPart told before now
-StopsSaying told before now (Stat input) = SaysPart told before now ⊎ SaysSummaryPart told before now
+abbrev pub StopsSaying : (List ℕ → Option (List ℕ)) → Option (List ℕ) → Option (List ℕ) → Command → Type 0
+StopsSaying told before now (Shrink names) = SaysPart (told names.input) before now
+StopsSaying told before now (Stat input) = SaysPart (told input) before now ⊎ SaysSummaryPart (told input) before now
+StopsSaying told before now (Make drawing) = now ≡ before

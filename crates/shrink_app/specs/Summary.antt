@@ -8,7 +8,7 @@ use Rattle.list_model.specs.declared.entry.ListKind.TheVariants.{Ranges, Locatio
 use Rattle.value_links.specs.Debug.{Debug, UnitMeaning, Means}
 use Rattle.value_links.specs.Sections.{debug_info, debug_abbrev, debug_line, debug_lists}
 use Rattle.dw_base.specs.Host.{AddsPart}
-use Rattle.shrink_app.specs.File.{IsWhole}
+use Rattle.shrink_app.specs.File.{IsValid, IsWhole}
 
 -- what a file means in numbers: its entries over all units, the rows of its line number programs, those that end sequences too, and its
 -- units
@@ -38,8 +38,9 @@ summary_text file written debug =
     ++ codes ",\"units\":" ++ decimal (unit_count debug)
     ++ codes "}\n"
 
--- a file, one that may be written for it, and what it means
+-- a valid file, one that may be written for it, and what it means
 pub record IsSummed (file written : List ℕ) (debug : Debug) : Type 0 where
+  pub valid : IsValid file
   pub whole : IsWhole file written
   pub means : Means file debug
 

@@ -8,6 +8,9 @@ mod ending;
 mod file_tests;
 #[cfg(test)]
 mod line_tests;
+mod make;
+#[cfg(test)]
+mod make_tests;
 #[cfg(test)]
 mod overlap_tests;
 mod reading;

@@ -9,13 +9,12 @@ ghost use Rattle.value_links.specs.Classes.{HaveLeastCodes, HaveOrderedCodes, Ha
 ghost use Rattle.value_links.specs.Layouts.{HaveLeastLayouts};
 ghost use Rattle.value_links.specs.Tidy.{IsTidy};
 ghost use Rattle.value_links.specs.Certificates.{IsCertificate, IsFirstCertificate};
-ghost use Rattle.shrink_app.specs.File.{IsValid, StaysValid, HasLeastLines, HasOrderedLines, IsWhole};
-ghost use Rattle.shrink_app.specs.Words.{asked, input_of, OfShrink, OfStat};
-ghost use Rattle.shrink_app.specs.Run.{Writes, Certifies, IsUntouched, FailsToWrite, WritesWell, input_limit};
-ghost use Rattle.shrink_app.specs.Summary.{SaysSummary};
-ghost use Rattle.shrink_app.specs.Said.{refusal_text, SaysFault, StopsSaying};
+ghost use Rattle.shrink_app.specs.File.{IsValid, StaysValid, HasLeastLines, HasOrderedLines, IsWhole, IsDrawn};
+ghost use Rattle.shrink_app.specs.Words.{asked, input_of, IsOutput, OfShrink, OfStat, OfMake};
+ghost use Rattle.shrink_app.specs.Run.{Writes, Certifies, WritesOut, IsUntouched, FailsToWrite, WritesWell, ReadsValid, ReadsWell, input_limit};
+ghost use Rattle.shrink_app.specs.Said.{refusal_text, SaysFault, SaysDone, StopsSaying};
 
-use crate::ending::Ending;
+use crate::make::make;
 use crate::saying::{end, say};
 use crate::shrink::shrink;
 use crate::summary::summarise;
@@ -24,12 +23,13 @@ use dw_base::Host;
 use std::alloc::Global;
 
 /// Does what the words ask for, and answers the program's status. `shrink IN OUT CERT`, with three different names, writes a file anew;
-/// `stat IN` says what that would win, and writes nothing.
+/// `stat IN` says what that would win, and writes nothing; `make NUMBER UNITS OUT` writes a valid file that is drawn from a number of
+/// 0 to 2^32 - 1, with 1 to 4,096 units.
 ///
 /// - 0: of `shrink`, OUT was written. It means the same as IN and is least in the classes that docs/CLASSES.md tells. CERT was written too:
 ///   the certificate that shows so, as docs/CERTIFICATE.md tells. Of `stat`, one line of JSON was said: the bytes of the sections
 ///   .debug_abbrev, .debug_info, .debug_line, .debug_loclists and .debug_rnglists in IN and in such an OUT, and how many entries, rows
-///   of line number programs and units IN has.
+///   of line number programs and units IN has. Of `make`, OUT was written, and means what docs/FORMATS.md draws from the number.
 /// - 2: the words are others. `words` is said, and nothing else is done.
 /// - 3: IN isn't valid, and a fault of it is said: `refused KIND at PLACE`, where the place counts from the file's first byte.
 /// - 4: a call failed that reads IN.
@@ -51,31 +51,30 @@ pub fn run<H: Host>(alloc: Global, words: &Vec<String>, host: &mut H) -> u8
     ensures wrong_writes { IfNone (asked words.now.items) ((f : List ℕ) → H.write_faults host.new f ≡ H.write_faults host.old f) }
 
     // A refusal names a fault of the input.
-    ensures refused { result ≡ 3 → IsSomeAnd (asked words.now.items) (λ c. SaysFault (H.bytes host.old (input_of c)) (H.said host.old) (H.said host.new)) }
+    ensures refused { result ≡ 3 → IsSomeAnd (asked words.now.items) (λ c. IsSomeAnd (input_of c) (λ input. SaysFault (H.bytes host.old input) (H.said host.old) (H.said host.new))) }
 
     // An input that is longer than its limit is refused for that, whatever its first bytes are.
-    ensures long { result ≡ 3 → IsSomeAnd (asked words.now.items) (λ c. ForSome (H.bytes host.old (input_of c)) (λ file. input_limit < length file → H.said host.new ≡ option_map (λ b. b ++ refusal_text Limit 0) (H.said host.old))) }
+    ensures long { result ≡ 3 → IsSomeAnd (asked words.now.items) (λ c. IsSomeAnd (input_of c) (λ input. ForSome (H.bytes host.old input) (λ file. input_limit < length file → H.said host.new ≡ option_map (λ b. b ++ refusal_text Limit 0) (H.said host.old)))) }
 
     // A read fault comes where the input's count rose, and wherever it rose.
-    ensures read_fault { result ≡ 4 → IsSomeAnd (asked words.now.items) (λ c. Rose (H.read_faults host.old (input_of c)) (H.read_faults host.new (input_of c))) }
-    ensures read_rose { IfSome (asked words.now.items) (λ c. H.read_faults host.old (input_of c) < H.read_faults host.new (input_of c) → result ≡ 4) }
+    ensures read_fault { result ≡ 4 → IsSomeAnd (asked words.now.items) (λ c. IsSomeAnd (input_of c) (λ input. Rose (H.read_faults host.old input) (H.read_faults host.new input))) }
+    ensures read_rose { IfSome (asked words.now.items) (λ c. IfSome (input_of c) (λ input. H.read_faults host.old input < H.read_faults host.new input → result ≡ 4)) }
 
-    // A write fault comes where the count of the output or of the certificate rose, or that of messages where there was one to say.
-    ensures write_fault { result ≡ 5 → MatchOption (asked words.now.items) (Rose (H.say_faults host.old) (H.say_faults host.new)) (λ c. FailsToWrite (H.write_faults host.old) (H.write_faults host.new) (Rose (H.say_faults host.old) (H.say_faults host.new)) (H.bytes host.old (input_of c)) c) }
-    ensures write_rose { IfSome (asked words.now.items) (OfShrink (λ n. (H.write_faults host.old n.output < H.write_faults host.new n.output) ⊎ (H.write_faults host.old n.certificate < H.write_faults host.new n.certificate) → result ≡ 5)) }
+    // A write fault comes where the count of a file that is written rose, or that of messages where there was one to say.
+    ensures write_fault { result ≡ 5 → MatchOption (asked words.now.items) (Rose (H.say_faults host.old) (H.say_faults host.new)) (λ c. FailsToWrite (H.write_faults host.old) (H.write_faults host.new) (Rose (H.say_faults host.old) (H.say_faults host.new)) (H.bytes host.old) c) }
+    ensures write_rose { IfSome (asked words.now.items) (λ c. (f : List ℕ) → IsOutput c f → H.write_faults host.old f < H.write_faults host.new f → result ≡ 5) }
     ensures say_rose { H.say_faults host.old < H.say_faults host.new → result ≡ 5 }
 
     // Which files may differ: none after wrong words, a refusal and a read fault, nor where the input has a fault, since
-    // its faults are looked for before the first write; and never another than the output and the certificate.
+    // its faults are looked for before the first write; and never another than those that are to be written.
     ensures kept { (result ≡ 2) ⊎ ((result ≡ 3) ⊎ (result ≡ 4)) → (f : List ℕ) → H.bytes host.new f ≡ H.bytes host.old f }
-    ensures faulty_kept { IfSome (asked words.now.items) (λ c. (file : List ℕ) → H.bytes host.old (input_of c) ≡ Some file → ¬ IsValid file → (f : List ℕ) → H.bytes host.new f ≡ H.bytes host.old f) }
-    ensures faulty_unwritten { IfSome (asked words.now.items) (λ c. (file : List ℕ) → H.bytes host.old (input_of c) ≡ Some file → ¬ IsValid file → (f : List ℕ) → H.write_faults host.new f ≡ H.write_faults host.old f) }
-    ensures others { MatchOption (asked words.now.items) ((f : List ℕ) → H.bytes host.new f ≡ H.bytes host.old f) (OfShrink (λ n. (f : List ℕ) → f ≢ n.output → f ≢ n.certificate → H.bytes host.new f ≡ H.bytes host.old f)) }
-    ensures stat_kept { IfSome (asked words.now.items) (OfStat (λ input. (f : List ℕ) → H.bytes host.new f ≡ H.bytes host.old f)) }
+    ensures faulty_kept { IfSome (asked words.now.items) (λ c. IfSome (input_of c) (λ input. (file : List ℕ) → H.bytes host.old input ≡ Some file → ¬ IsValid file → (f : List ℕ) → H.bytes host.new f ≡ H.bytes host.old f)) }
+    ensures faulty_unwritten { IfSome (asked words.now.items) (λ c. IfSome (input_of c) (λ input. (file : List ℕ) → H.bytes host.old input ≡ Some file → ¬ IsValid file → (f : List ℕ) → H.write_faults host.new f ≡ H.write_faults host.old f)) }
+    ensures others { MatchOption (asked words.now.items) ((f : List ℕ) → H.bytes host.new f ≡ H.bytes host.old f) (λ c. (f : List ℕ) → ¬ IsOutput c f → H.bytes host.new f ≡ H.bytes host.old f) }
     ensures stat_unwritten { IfSome (asked words.now.items) (OfStat (λ input. (f : List ℕ) → H.write_faults host.new f ≡ H.write_faults host.old f)) }
 
     // The work was done.
-    ensures done { result ≡ 0 → IsSomeAnd (asked words.now.items) (λ c. ForSome (H.bytes host.old (input_of c)) IsValid) }
+    ensures done { result ≡ 0 → IsSomeAnd (asked words.now.items) (λ c. IfSome (input_of c) (λ input. ForSome (H.bytes host.old input) IsValid)) }
     ensures same { result ≡ 0 → IsSomeAnd (asked words.now.items) (OfShrink (λ n. Writes Same (H.bytes host.old) (H.bytes host.new) n.input n.output)) }
     ensures still_valid { result ≡ 0 → IsSomeAnd (asked words.now.items) (OfShrink (λ n. Writes StaysValid (H.bytes host.old) (H.bytes host.new) n.input n.output)) }
     ensures least { result ≡ 0 → IsSomeAnd (asked words.now.items) (OfShrink (λ n. Writes HasLeastLines (H.bytes host.old) (H.bytes host.new) n.input n.output)) }
@@ -96,18 +95,20 @@ pub fn run<H: Host>(alloc: Global, words: &Vec<String>, host: &mut H) -> u8
     ensures certificate_later { IfSome (asked words.now.items) (OfShrink (λ n. IsSome (H.bytes host.old n.output) → H.write_faults host.old n.output < H.write_faults host.new n.output → H.bytes host.new n.certificate ≡ H.bytes host.old n.certificate)) }
     ensures output_whole { IfSome (asked words.now.items) (OfShrink (λ n. IsSome (H.bytes host.old n.certificate) → IsUntouched (H.bytes host.old) (H.bytes host.new) (H.write_faults host.old) (H.write_faults host.new) n.certificate ⊎ Writes IsWhole (H.bytes host.old) (H.bytes host.new) n.input n.output)) }
 
-    // The line that sums up.
-    ensures summed { result ≡ 0 → IsSomeAnd (asked words.now.items) (OfStat (λ input. SaysSummary (H.bytes host.old input) (H.said host.old) (H.said host.new))) }
+    // A file that is drawn. Nothing else is asked of the host than to write it.
+    ensures drawn { result ≡ 0 → IsSomeAnd (asked words.now.items) (OfMake (λ d. WritesOut (IsDrawn d.number d.units) (H.bytes host.old) (H.bytes host.new) d.output)) }
+    ensures drawn_unread { IfSome (asked words.now.items) (OfMake (λ d. (f : List ℕ) → H.read_faults host.new f ≡ H.read_faults host.old f)) }
+    ensures drawn_unsaid { IfSome (asked words.now.items) (OfMake (λ d. H.say_faults host.new ≡ H.say_faults host.old)) }
 
-    // What was said where nothing else tells: nothing after a file was written and after a read fault, and in place of another answer
-    // some front of what that answer says.
+    // What was said: the line that sums up where it is asked for, else nothing after the work and after a read fault, and in place of
+    // another answer some front of what that answer says.
+    ensures summed { result ≡ 0 → IsSomeAnd (asked words.now.items) (SaysDone (H.bytes host.old) (H.said host.old) (H.said host.new)) }
     ensures quiet { result ≡ 4 → H.said host.new ≡ H.said host.old }
-    ensures written_quietly { result ≡ 0 → IsSomeAnd (asked words.now.items) (OfShrink (λ n. H.said host.new ≡ H.said host.old)) }
-    ensures stopped { (result ≡ 5) ⊎ (result ≡ 6) → MatchOption (asked words.now.items) (AddsPart (H.said host.old) (codes "words\n") (H.said host.new)) (λ c. StopsSaying (H.bytes host.old (input_of c)) (H.said host.old) (H.said host.new) c) }
+    ensures stopped { (result ≡ 5) ⊎ (result ≡ 6) → MatchOption (asked words.now.items) (AddsPart (H.said host.old) (codes "words\n") (H.said host.new)) (StopsSaying (H.bytes host.old) (H.said host.old) (H.said host.new)) }
 
-    // Where no count rose, a valid input is done and another is refused, but for want of memory.
-    ensures complete { IfSome (asked words.now.items) (λ c. (file : List ℕ) → H.bytes host.old (input_of c) ≡ Some file → IsValid file → ¬ Rose (H.read_faults host.old (input_of c)) (H.read_faults host.new (input_of c)) → WritesWell (H.write_faults host.old) (H.write_faults host.new) (Rose (H.say_faults host.old) (H.say_faults host.new)) c → (result ≡ 0) ⊎ (result ≡ 6)) }
-    ensures refuses { IfSome (asked words.now.items) (λ c. (file : List ℕ) → H.bytes host.old (input_of c) ≡ Some file → ¬ IsValid file → ¬ Rose (H.read_faults host.old (input_of c)) (H.read_faults host.new (input_of c)) → (result ≡ 3) ⊎ ((result ≡ 5) ⊎ (result ≡ 6))) }
+    // Where no count rose, the work is done, unless an input is faulty, which is refused, but for want of memory.
+    ensures complete { IfSome (asked words.now.items) (λ c. ReadsValid (H.bytes host.old) c → ReadsWell (H.read_faults host.old) (H.read_faults host.new) c → WritesWell (H.write_faults host.old) (H.write_faults host.new) (Rose (H.say_faults host.old) (H.say_faults host.new)) c → (result ≡ 0) ⊎ (result ≡ 6)) }
+    ensures refuses { IfSome (asked words.now.items) (λ c. IfSome (input_of c) (λ input. (file : List ℕ) → H.bytes host.old input ≡ Some file → ¬ IsValid file → ¬ Rose (H.read_faults host.old input) (H.read_faults host.new input) → (result ≡ 3) ⊎ ((result ≡ 5) ⊎ (result ≡ 6)))) }
 {
     let Some(command) = command_of(words) else {
         return say(host, b"words\n", 2);
@@ -123,5 +124,11 @@ pub fn run<H: Host>(alloc: Global, words: &Vec<String>, host: &mut H) -> u8
             Ok(line) => say(host, line.as_bytes(), 0),
             Err(ending) => end(alloc, ending, host),
         },
+        Command::Make(drawing) => {
+            match make(alloc, drawing.number, drawing.units, drawing.output, host) {
+                Ok(()) => 0,
+                Err(ending) => end(alloc, ending, host),
+            }
+        }
     }
 }

@@ -30,8 +30,8 @@ pub fn write_files<H: Host>(
     write_file(certificate, &written.cert, host)
 }
 
-// Writes a whole file.
-fn write_file<H: Host>(name: &str, bytes: &[u8], host: &mut H) -> Result<(), Ending>
+/// Writes a whole file.
+pub fn write_file<H: Host>(name: &str, bytes: &[u8], host: &mut H) -> Result<(), Ending>
     ensures written { OnOk result (H.bytes host.new name.now ≡ option_map (λ _. bytes.now) (H.bytes host.old name.now)) }
     ensures others { (f : List ℕ) → f ≢ name.now → H.bytes host.new f ≡ H.bytes host.old f }
     ensures said { H.said host.new ≡ H.said host.old }

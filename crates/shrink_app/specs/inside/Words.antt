@@ -1,17 +1,19 @@
 -- What is asked for, as the program keeps it.
 -- Inner functions and proofs alone need what stands here.
-use Rattle.std.specs.Prelude.{◌≢◌}
+use Rattle.std.specs.Prelude.{◌≢◌, ◌≤◌}
 use Rattle.shrink_app.specs.declared.words.Command.{Command as Kept}
 use Rattle.shrink_app.specs.declared.words.Command.TheVariants as kept
 use Rattle.shrink_app.specs.Words.{Command}
-use Rattle.shrink_app.specs.Words.Command.{Shrink, Stat}
+use Rattle.shrink_app.specs.Words.Command.{Shrink, Stat, Make}
 
 -- the command that is kept
 abbrev pub meant : Kept → Command
 meant (kept.Shrink n) = Shrink (record { input = n.input.now; output = n.output.now; certificate = n.certificate.now })
 meant (kept.Stat input) = Stat input.now
+meant (kept.Make d) = Make (record { number = d.number; units = d.units; output = d.output.now })
 
--- the output and the certificate have different names
-abbrev pub AreApart : Kept → Type 0
-AreApart (kept.Shrink n) = n.output.now ≢ n.certificate.now
-AreApart (kept.Stat input) = Unit {0}
+-- the output and the certificate have different names, and the units aren't too many
+abbrev pub CanBeDone : Kept → Type 0
+CanBeDone (kept.Shrink n) = n.output.now ≢ n.certificate.now
+CanBeDone (kept.Stat input) = Unit {0}
+CanBeDone (kept.Make d) = d.units ≤ 4096

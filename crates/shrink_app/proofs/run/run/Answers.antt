@@ -9,7 +9,7 @@ use Rattle.shrink_app.specs.File.{StaysValid, HasLeastLines, HasOrderedLines, Is
 use Rattle.shrink_app.specs.Run.{Writes}
 use Rattle.shrink_app.specs.Words.{OfShrink, asked}
 use Rattle.shrink_app.specs.inside.Said.{EndsFor}
-use Rattle.shrink_app.proofs.Ends.{asked_is, not_said, said_well, ends_from, ends_refused, ends_long, ends_stopped, ends_unwritten, no_write_fault, ends_complete, whole_still}
+use Rattle.shrink_app.proofs.Ends.{asked_is, not_said, said_well, ends_from, ends_refused, ends_long, ends_stopped, ends_unwritten, ends_risen, no_write_fault, ends_complete, whole_still}
 use Rattle.shrink_app.proofs.Shrinks.{writes_part}
 use Rattle.shrink_app.proofs.run.run.Given.{Over}
 use Rattle.shrink_app.proofs.run.run.Goals as goal
@@ -58,6 +58,16 @@ returns-in-Ok-clause-tidy g c = λ zero. part IsTidy (λ file written whole. who
 pub returns-in-Ok-clause-placed : goal.returns-in-Ok-clause-placed
 returns-in-Ok-clause-placed g c = λ zero. part IsPlaced (λ file written whole. whole.placed) g c
 
+pub returns-in-Ok-clause-write_rose : goal.returns-in-Ok-clause-write_rose
+returns-in-Ok-clause-write_rose g c =
+    let still = c.in-Ok.ensures.writes in
+    rw (asked_is _ _ _ c.in-Some.ensures.asked c.in-Shrink.is) (λ f output rose. absurd (omega (arith, still f, rose)))
+
+pub returns-in-Ok-clause-others : goal.returns-in-Ok-clause-others
+returns-in-Ok-clause-others g c =
+    let kept = c.shrink.ensures.others in
+    rw (asked_is _ _ _ c.in-Some.ensures.asked c.in-Shrink.is) (λ f other. kept f (λ e. other (inl e)) (λ e. other (inr e)))
+
 -- NO FILE WAS WRITTEN
 
 -- the end after all calls
@@ -85,6 +95,22 @@ returns-in-Err-clause-write_fault g c = λ five.
     let before = Rose (faults c.args.host.now output) (faults c.shrink.new.host output) ⊎ Rose (faults c.args.host.now certificate) (faults c.shrink.new.host certificate) in
     let fails = ends_unwritten (Unit {0}) (host.bytes c.args.host.now c.in-Shrink.names.input.now) c.in-Err.ending (host.said c.args.host.now) (host.said c.end.new.host) (host.say_faults c.args.host.now) (host.say_faults c.end.new.host) c.end.result before (faults c.args.host.now) (faults c.shrink.new.host) c.in-Err.ensures.refused c.in-Err.ensures.writes (shrink_ends g c) five in
     rw (asked_is _ _ _ c.in-Some.ensures.asked c.in-Shrink.is, c.end.ensures.writes output, c.end.ensures.writes certificate) fails
+
+pub returns-in-Err-clause-write_rose : goal.returns-in-Err-clause-write_rose
+returns-in-Err-clause-write_rose g c =
+    let host = g.H.Host in
+    let faults = host.write_faults in
+    let output = c.in-Shrink.names.output.now in
+    let certificate = c.in-Shrink.names.certificate.now in
+    let before = Rose (faults c.args.host.now output) (faults c.shrink.new.host output) ⊎ Rose (faults c.args.host.now certificate) (faults c.shrink.new.host certificate) in
+    let still = c.end.ensures.writes in
+    rw (asked_is _ _ _ c.in-Some.ensures.asked c.in-Shrink.is) (λ f output rose. ends_risen (Unit {0}) c.in-Err.ending (host.said c.args.host.now) (host.said c.end.new.host) (host.say_faults c.args.host.now) (host.say_faults c.end.new.host) c.end.result before (faults c.args.host.now) (faults c.shrink.new.host) f c.in-Err.ensures.writes (shrink_ends g c) (omega (arith, still f, rose)))
+
+pub returns-in-Err-clause-others : goal.returns-in-Err-clause-others
+returns-in-Err-clause-others g c =
+    let kept = c.shrink.ensures.others in
+    let still = c.end.ensures.files in
+    rw (asked_is _ _ _ c.in-Some.ensures.asked c.in-Shrink.is) (λ f other. still f ∙ kept f (λ e. other (inl e)) (λ e. other (inr e)))
 
 pub returns-in-Err-clause-faulty_kept : goal.returns-in-Err-clause-faulty_kept
 returns-in-Err-clause-faulty_kept g c =
@@ -119,9 +145,9 @@ returns-in-Err-clause-complete g c =
     let output = c.in-Shrink.names.output.now in
     let certificate = c.in-Shrink.names.certificate.now in
     let before = Rose (faults c.args.host.now output) (faults c.shrink.new.host output) ⊎ Rose (faults c.args.host.now certificate) (faults c.shrink.new.host certificate) in
-    rw (asked_is _ _ _ c.in-Some.ensures.asked c.in-Shrink.is, c.end.ensures.reads input, c.end.ensures.writes output, c.end.ensures.writes certificate) (λ file told valid still well.
+    rw (asked_is _ _ _ c.in-Some.ensures.asked c.in-Shrink.is, c.end.ensures.reads input, c.end.ensures.writes output, c.end.ensures.writes certificate) (λ read still well.
     let calm : ¬ before = (λ rose. elim rose [ inl r ↦ well.0 r | inr r ↦ well.1 r ]) in
-    ends_complete (Unit {0}) (host.bytes c.args.host.now input) c.in-Err.ending (host.said c.args.host.now) (host.said c.end.new.host) (host.say_faults c.args.host.now) (host.say_faults c.end.new.host) c.end.result (host.read_faults c.args.host.now input) (host.read_faults c.shrink.new.host input) c.in-Err.ensures.refused c.in-Err.ensures.reads (no_write_fault (Unit {0}) c.in-Err.ending before (faults c.args.host.now) (faults c.shrink.new.host) c.in-Err.ensures.writes calm) (shrink_ends g c) file told valid still)
+    ends_complete (Unit {0}) (host.bytes c.args.host.now input) c.in-Err.ending (host.said c.args.host.now) (host.said c.end.new.host) (host.say_faults c.args.host.now) (host.say_faults c.end.new.host) c.end.result (host.read_faults c.args.host.now input) (host.read_faults c.shrink.new.host input) c.in-Err.ensures.refused c.in-Err.ensures.reads (no_write_fault (Unit {0}) c.in-Err.ending before (faults c.args.host.now) (faults c.shrink.new.host) c.in-Err.ensures.writes calm) (shrink_ends g c) read.0 read.1 read.2 still)
 
 -- A LINE WAS TO BE SAID
 
@@ -165,11 +191,11 @@ returns-in-Ok-summarise-clause-faulty_unwritten g c =
     let kept = c.summarise.ensures.writes in
     rw (asked_is _ _ _ c.in-Some.ensures.asked c.in-Stat.is) (λ file told faulty f. still f ∙ kept f)
 
-pub returns-in-Ok-summarise-clause-stat_kept : goal.returns-in-Ok-summarise-clause-stat_kept
-returns-in-Ok-summarise-clause-stat_kept g c =
+pub returns-in-Ok-summarise-clause-others : goal.returns-in-Ok-summarise-clause-others
+returns-in-Ok-summarise-clause-others g c =
     let still = c.say-in-Ok-summarise.ensures.files in
     let kept = c.summarise.ensures.files in
-    rw (asked_is _ _ _ c.in-Some.ensures.asked c.in-Stat.is) (λ f. still f ∙ kept f)
+    rw (asked_is _ _ _ c.in-Some.ensures.asked c.in-Stat.is) (λ f other. still f ∙ kept f)
 
 pub returns-in-Ok-summarise-clause-stat_unwritten : goal.returns-in-Ok-summarise-clause-stat_unwritten
 returns-in-Ok-summarise-clause-stat_unwritten g c =
@@ -200,7 +226,7 @@ returns-in-Ok-summarise-clause-stopped g c = λ late.
 pub returns-in-Ok-summarise-clause-complete : goal.returns-in-Ok-summarise-clause-complete
 returns-in-Ok-summarise-clause-complete g c =
     let answer = rw c.in-Ok-summarise.ensures.says at c.say-in-Ok-summarise.ensures.answer in
-    rw (asked_is _ _ _ c.in-Some.ensures.asked c.in-Stat.is) (λ file told valid still well. said_well _ _ _ answer well)
+    rw (asked_is _ _ _ c.in-Some.ensures.asked c.in-Stat.is) (λ read still well. said_well _ _ _ answer well)
 
 pub returns-in-Ok-summarise-clause-refuses : goal.returns-in-Ok-summarise-clause-refuses
 returns-in-Ok-summarise-clause-refuses g c =
@@ -229,5 +255,5 @@ pub returns-in-Err-summarise-clause-complete : goal.returns-in-Err-summarise-cla
 returns-in-Err-summarise-clause-complete g c =
     let host = g.H.Host in
     let input = c.in-Stat.input.now in
-    rw (asked_is _ _ _ c.in-Some.ensures.asked c.in-Stat.is, c.end-in-Err-summarise.ensures.reads input) (λ file told valid still well.
-    ends_complete (String Global) (host.bytes c.args.host.now input) c.in-Err-summarise.ending (host.said c.args.host.now) (host.said c.end-in-Err-summarise.new.host) (host.say_faults c.args.host.now) (host.say_faults c.end-in-Err-summarise.new.host) c.end-in-Err-summarise.result (host.read_faults c.args.host.now input) (host.read_faults c.summarise.new.host input) c.in-Err-summarise.ensures.refused c.in-Err-summarise.ensures.reads c.in-Err-summarise.ensures.unwritten (stat_ends g c) file told valid still)
+    rw (asked_is _ _ _ c.in-Some.ensures.asked c.in-Stat.is, c.end-in-Err-summarise.ensures.reads input) (λ read still well.
+    ends_complete (String Global) (host.bytes c.args.host.now input) c.in-Err-summarise.ending (host.said c.args.host.now) (host.said c.end-in-Err-summarise.new.host) (host.say_faults c.args.host.now) (host.say_faults c.end-in-Err-summarise.new.host) c.end-in-Err-summarise.result (host.read_faults c.args.host.now input) (host.read_faults c.summarise.new.host input) c.in-Err-summarise.ensures.refused c.in-Err-summarise.ensures.reads c.in-Err-summarise.ensures.unwritten (stat_ends g c) read.0 read.1 read.2 still)

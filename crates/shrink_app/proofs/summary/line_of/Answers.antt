@@ -9,4 +9,4 @@ returns-clause-line c =
     let whole : IsWhole file output = record { same = written.same; still_valid = written.still_valid; least = written.least; order = written.order; lists = written.lists; columns = written.columns; columns_order = written.columns_order; codes = written.codes; codes_order = written.codes_order; layouts = written.layouts; tidy = written.tidy; placed = written.placed } in
     let (debug, means, counts) = c.in_ok-old.ensures.counts in
     let sizes = rw c.deref.ensures.value at c.in_ok-new.ensures in
-    (output, debug, record { whole = whole; means = means }, c.in_ok-summary_line.ensures file output debug c.in_ok-old.ensures.sizes sizes counts)
+    (output, debug, record { valid = written.valid; whole = whole; means = means }, c.in_ok-summary_line.ensures file output debug c.in_ok-old.ensures.sizes sizes counts)
