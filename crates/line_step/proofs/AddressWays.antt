@@ -1,5 +1,5 @@
 -- Laws of the search for the best way to advance an address.
-use Rattle.std.proofs.Common.{◌≡◌, ◌≤◌, ◌<◌, ◌+◌, ◌-◌, ◌*◌, ◌/◌, ◌⊎◌, ◌↔◌, ℕ, ◌∙◌, ap, refl, arith, inl, inr, sym}
+use Rattle.std.proofs.Common.{◌≡◌, ◌≤◌, ◌<◌, ◌+◌, ◌-◌, ◌*◌, ◌/◌, ◌⊎◌, ◌↔◌, ℕ, ◌∙◌, ap, refl, arith, inl, inr, sym, subst, zero, suc}
 use Rattle.std.proofs.lemmas.Bool.{cases_lt}
 use Rattle.leb_codec.specs.LineCosts.{advance_pc_bytes, AdvanceForm, AdvanceWithin}
 use Rattle.line_step.specs.declared.way.Advance.{Advance}
@@ -224,6 +224,20 @@ nothing_before j k (inl less) = omega (arith, less)
 nothing_before j k (inr (same, less)) = omega (arith, less)
 
 -- set_address to begin with
+-- no way with more const_add_pc is better where these counts alone take as many bytes
+keep_more : (range scale d fixed const : ℕ) (best : AddressWay) (more : ℕ) → best.bytes ≤ const + 3 * fixed → IsBestBefore range scale d fixed const best → IsBestBefore range scale d fixed (const + more) best
+keep_more range scale d fixed const best zero long before =
+    subst (λ (k : ℕ). IsBestBefore range scale d fixed k best) (omega arith) before
+keep_more range scale d fixed const best (suc more) long before =
+    let one = keep_best range scale d fixed const best before (counts_long range scale d fixed const best.bytes long) in
+    let rest = keep_more range scale d fixed (const + 1) best more (omega arith) one in
+    subst (λ (k : ℕ). IsBestBefore range scale d fixed k best) (omega arith) rest
+
+pub skip_fixed : (range scale d fixed const : ℕ) (best : AddressWay) → const ≤ 11 → best.bytes ≤ const + 3 * fixed → IsBestBefore range scale d fixed const best → IsBestBefore range scale d (fixed + 1) 0 best
+skip_fixed range scale d fixed const best few long before =
+    let all = keep_more range scale d fixed const best (11 - const) long before in
+    next_fixed range scale d fixed best (subst (λ (k : ℕ). IsBestBefore range scale d fixed k best) (omega arith) all)
+
 pub start_best : (range scale d : ℕ) → IsBestBefore range scale d 0 0 (record { opcodes = SetAddress; bytes = 11 })
 start_best range scale d = record {
   way_is = set_way range scale d;

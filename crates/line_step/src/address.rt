@@ -106,9 +106,6 @@ fn better_way(
     requires best { IsBestBefore range min distance fixed_adds const_adds best }
     ensures { IsBestBefore range min distance fixed_adds (const_adds + 1) result }
 {
-    if const_adds + 3 * fixed_adds >= best.bytes {
-        return best;
-    }
     let way = way_with(range, min, distance, fixed_adds, const_adds);
     if way.bytes < best.bytes { way } else { best }
 }
@@ -123,6 +120,10 @@ fn better_fixed(best: AddressWay, range: u8, min: u8, distance: u64, fixed_adds:
 {
     let mut best = best;
     for const_adds in 0..11 {
+        // From here on the counts alone take as many bytes.
+        if const_adds + 3 * fixed_adds >= best.bytes {
+            return best;
+        }
         best = better_way(best, range, min, distance, fixed_adds, const_adds);
     }
     best

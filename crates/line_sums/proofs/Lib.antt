@@ -1,6 +1,7 @@
 pub mod Beyond
 pub mod Bound
 pub mod Counted
+pub mod Farthest
 pub mod Firsts
 pub mod FixedBytes
 pub mod Lengths

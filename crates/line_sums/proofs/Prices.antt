@@ -200,11 +200,11 @@ level_one reach distance h = grind (arith, nat_tests)
 level_two : (reach distance : ℕ) → distance ≤ 2 * reach → level reach distance ≤ 1
 level_two reach distance h = grind (arith, nat_tests)
 
-reach_small : (range scale : ℕ) → scale ≤ 255 → 242 / range * scale ≤ 61710
+pub reach_small : (range scale : ℕ) → scale ≤ 255 → 242 / range * scale ≤ 61710
 reach_small range scale small = mul-le-mul {n₁ = 242 / range} {m₁ = scale} {n₂ = 242} {m₂ = 255} (omega arith) small
 
 -- an address that goes far takes bytes before each opcode that appends a row
-pub level_low : (range scale part d a : ℕ) → scale ≤ 255 → part ≤ 242 / range → AdvanceWithin range scale (address_distance (part * scale) d) a → level (242 / range * scale) (d % 2 ^ 64) ≤ a
+level_low : (range scale part d a : ℕ) → scale ≤ 255 → part ≤ 242 / range → AdvanceWithin range scale (address_distance (part * scale) d) a → level (242 / range * scale) (d % 2 ^ 64) ≤ a
 level_low range scale part d a small inside within =
     let reach = reach_small range scale small in
     let taken : part * scale ≤ 242 / range * scale = mul-le-mul_right scale inside in

@@ -8,9 +8,7 @@ use Rattle.leb_codec.specs.LineCosts.{IsLeastCost, AdvanceWithin, RowWithin, Ste
 use Rattle.line_step.proofs.NearWays.{nowhere}
 use Rattle.line_step.proofs.RowWays.{div_rises, opcode_is}
 use Rattle.line_sums.specs.declared.window.Windows.{Windows}
-use Rattle.line_sums.specs.Counting.{level}
 use Rattle.line_sums.specs.inside.Windows.{PartWithin, BeforeSpecial, IsReached, AreWindows, IsLineCost}
-use Rattle.line_sums.proofs.Prices.{level_low}
 
 -- the special opcode of a part and a remainder is reached with what the part takes
 reached : (range scale d part r bytes : ℕ) → r < range → part * range + r ≤ 242 → AdvanceWithin range scale (address_distance (part * scale) d) bytes → (s : ℕ) × (s ≤ 242) × (s % range ≡ r) × BeforeSpecial range scale d s bytes
@@ -112,15 +110,6 @@ part_whole range scale d parts s p some small fits is parts_is rest less =
       enough = (part, omega (arith, parts_is, less), nowhere range scale (address_distance (part * scale) d) none);
       least = λ n within. omega arith;
     }
-
--- nothing is less than what an address so far takes before each special opcode, whatever parts follow
-pub part_free : (range scale d part parts bytes enough : ℕ) → scale ≤ 255 → part ≤ parts → parts ≤ 242 / range → enough ≡ level (242 / range * scale) (d % 2 ^ 64) → bytes ≤ enough → IsLeastCost (PartWithin range scale d part) bytes → IsLeastCost (PartWithin range scale d parts) bytes
-part_free range scale d part parts bytes enough small h inside is few before = record {
-  enough = (before.enough.0, omega (arith, before.enough.1), before.enough.2);
-  least = λ n within.
-      let low = level_low range scale within.0 d n small (omega (arith, within.1)) within.2 in
-      omega (arith, low, is, few);
-}
 
 -- the least of the bytes by copy and by both kinds of special opcodes
 pub step_least : (base : ℤ) (range scale : ℕ) (line : ℤ) (d copy wide last bytes : ℕ) (w : Windows) → AreWindows range scale d w → IsLeastCost (RowWithin range scale line d) copy → IsLineCost (line -ℤ base) w.wide.most wide → IsLineCost (line -ℤ base) w.last.most last → bytes ≡ min (min copy (1 + w.wide.address + wide)) (1 + w.last.address + last) → IsLeastCost (StepWithin base range scale line d) bytes

@@ -1,8 +1,8 @@
 // The address before a row's special opcode.
-ghost use Rattle.std.specs.Prelude.{◌≡◌, ◌≤◌, ◌<◌, ◌*◌, ◌/◌, ◌%◌, ◌^◌};
+ghost use Rattle.std.specs.Prelude.{◌≡◌, ◌≤◌, ◌<◌, ◌+◌, ◌-◌, ◌*◌, ◌/◌, ◌%◌, ◌^◌, ℕ};
 ghost use Rattle.leb_codec.specs.LineCosts.{IsLeastCost, AdvanceWithin, last_special, address_distance};
 ghost use Rattle.line_sums.specs.Counting.{level};
-ghost use Rattle.line_sums.specs.inside.Windows.{PartWithin, AreWindows};
+ghost use Rattle.line_sums.specs.inside.Windows.{PartWithin, AreWindows, farthest};
 
 use line_step::advance;
 
@@ -50,6 +50,53 @@ pub fn bytes_beyond(reach: u64, distance: u64) -> u32
     }
 }
 
+// The greatest operand of fixed_advance_pc, which takes 3 bytes.
+const FIXED_LIMIT: u32 = 65_535;
+
+// The most bytes that `bytes_for` tells: fewer than set_address has, and so few that sums of distances fit 64 bits.
+const MOST_BYTES: u32 = 8;
+
+// The greatest operand of an advance_pc of so many bytes.
+fn greatest_operand(bytes: u32) -> u64
+    requires some { 1 ≤ bytes }
+    requires few { bytes ≤ 8 }
+    ensures is { result ≡ 128 ^ (bytes - 1) - 1 }
+    ensures fits { result < 2 ^ 49 }
+{
+    (1 << (7 * (bytes - 1))) - 1
+}
+
+// How far opcodes of so many bytes advance the address at most, as if each of the three kinds that do had all of the bytes.
+fn farthest(reach: u64, scale: u64, bytes: u32) -> u64
+    requires reach { reach < 2 ^ 32 }
+    requires scale { scale ≤ 255 }
+    requires few { bytes ≤ 8 }
+    ensures is { result ≡ farthest reach scale bytes }
+    ensures fits { result < 2 ^ 60 }
+{
+    if bytes == 0 {
+        return 0;
+    }
+    let fixed = FIXED_LIMIT * (bytes / 3);
+    u64::from(bytes) * reach + u64::from(fixed) + greatest_operand(bytes) * scale
+}
+
+// Bytes that an address distance takes at least before an opcode that appends a row and advances the address by at most `reach`,
+// as const_add_pc does. More than so many may be needed.
+fn bytes_for(reach: u64, scale: u64, distance: u64) -> u32
+    requires reach { reach < 2 ^ 32 }
+    requires scale { scale ≤ 255 }
+    ensures few { result ≤ 8 }
+    ensures needed { (bytes : ℕ) → bytes < result → reach + farthest reach scale bytes < distance }
+{
+    for bytes in 0..MOST_BYTES {
+        if distance <= reach + farthest(reach, scale, bytes) {
+            return bytes;
+        }
+    }
+    MOST_BYTES
+}
+
 // The fewest bytes that advance the address before a special opcode that itself advances it by fewer than `parts`
 // instructions.
 fn least_before(range: u8, min: u8, distance: u64, parts: u8) -> u32
@@ -64,7 +111,7 @@ fn least_before(range: u8, min: u8, distance: u64, parts: u8) -> u32
     if distance % scale == 0 && distance / scale < u64::from(parts) {
         return 0;
     }
-    let enough = bytes_beyond(u64::from(LAST_SPECIAL / range) * scale, distance);
+    let enough = bytes_for(u64::from(LAST_SPECIAL / range) * scale, scale, distance);
     let mut least = address_before(range, min, distance, 0);
     for part in 1..parts {
         if least <= enough {

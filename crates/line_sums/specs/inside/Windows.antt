@@ -1,6 +1,6 @@
 -- The special opcodes of a row and its line distance, for runs of line_base. Private functions alone cite this. `scale` is
 -- minimum_instruction_length.
-use Rattle.std.specs.Prelude.{◌≡◌, ◌≤◌, ◌<◌, ◌*◌, ◌%◌, ◌⊎◌, ℕ, ℤ, pos, ◌-ℤ◌, ◌≤ℤ◌, ◌<ℤ◌}
+use Rattle.std.specs.Prelude.{◌≡◌, ◌≤◌, ◌<◌, ◌+◌, ◌-◌, ◌*◌, ◌/◌, ◌%◌, ◌^◌, ◌⊎◌, ℕ, ℤ, pos, ◌-ℤ◌, ◌≤ℤ◌, ◌<ℤ◌}
 use Rattle.leb_codec.specs.Leb.{least_signed_len}
 use Rattle.leb_codec.specs.LineCosts.{IsLeastCost, AdvanceWithin, RowWithin, StepWithin, last_special, special_advance, address_distance, advance_line_bytes}
 use Rattle.line_sums.specs.declared.line_run.LineRun.{LineRun}
@@ -47,3 +47,8 @@ pub record IsLeastOfLen (len : ℕ) (value : ℤ) : Type 0 where
   pub some : pos 0 <ℤ value
   pub from : (z : ℤ) → pos 0 <ℤ z → value ≤ℤ z → len ≤ least_signed_len z
   pub to : (z : ℤ) → pos 0 <ℤ z → len ≤ least_signed_len z → value ≤ℤ z
+
+-- How far opcodes of so many bytes advance the address at most, those of set_address left out: as if each of the three kinds that do
+-- had all of the bytes. `reach` is how far const_add_pc does.
+unfoldable pub farthest : ℕ → ℕ → ℕ → ℕ
+farthest reach scale bytes = bytes * reach + 65535 * (bytes / 3) + (128 ^ (bytes - 1) - 1) * scale

@@ -1,10 +1,6 @@
 use Rattle.std.proofs.Common.{arith}
-use Rattle.line_step.proofs.AddressWays.{keep_best, take_best, counts_long}
+use Rattle.line_step.proofs.AddressWays.{keep_best, take_best}
 use Rattle.line_step.proofs.address.better_way.Goals as goal
-
-pub returns-then-const_adds-fixed_adds : goal.returns-then-const_adds-fixed_adds
-returns-then-const_adds-fixed_adds c =
-    keep_best c.args.range c.args.min c.args.distance c.args.fixed_adds c.args.const_adds c.args.best c.requires.best (counts_long c.args.range c.args.min c.args.distance c.args.fixed_adds c.args.const_adds c.args.best.bytes (omega arith))
 
 pub returns-then-way-best : goal.returns-then-way-best
 returns-then-way-best c =

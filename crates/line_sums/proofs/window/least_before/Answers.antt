@@ -1,8 +1,8 @@
-use Rattle.std.proofs.Common.{◌≡◌, ◌+◌, ◌*◌, ◌/◌, ◌%◌, ◌^◌, ℕ, subst, sym, arith}
+use Rattle.std.proofs.Common.{◌≡◌, ◌+◌, ℕ, subst, sym, arith}
 use Rattle.leb_codec.specs.LineCosts.{IsLeastCost}
-use Rattle.line_sums.specs.Counting.{level}
 use Rattle.line_sums.specs.inside.Windows.{PartWithin}
-use Rattle.line_sums.proofs.SpecialParts.{part_one, part_more, part_free, part_whole}
+use Rattle.line_sums.proofs.Farthest.{part_far}
+use Rattle.line_sums.proofs.SpecialParts.{part_one, part_more, part_whole}
 use Rattle.line_sums.proofs.window.least_before.Goals as goal
 
 pub loop-part-init : goal.loop-part-init
@@ -16,9 +16,8 @@ loop-part-preserved c = record {
 
 pub returns-then-least-enough-clause-least : goal.returns-then-least-enough-clause-least
 returns-then-least-enough-clause-least c =
-    let low : c.args.distance % 2 ^ 64 ≡ c.args.distance = omega arith in
-    let enough : c.bytes_beyond-enough.result ≡ level (242 / c.args.range * c.args.min) (c.args.distance % 2 ^ 64) = cc (c.bytes_beyond-enough.ensures, c.from-2.ensures, c.from-scale.ensures, low) in
-    part_free c.args.range c.args.min c.args.distance c.loop-part.part c.args.parts c.loop-part.least c.bytes_beyond-enough.result (omega arith) (omega arith) c.requires.reached enough c.if-least-enough.true c.loop-part.invariant.least
+    let needed = rw (c.from-2.ensures, c.from-scale.ensures) at c.bytes_for-enough.ensures.needed in
+    part_far c.args.range c.args.min c.args.distance c.loop-part.part c.args.parts c.loop-part.least c.bytes_for-enough.result (omega arith) (omega arith) (omega arith) c.requires.reached c.bytes_for-enough.ensures.few needed c.if-least-enough.true c.loop-part.invariant.least
 
 pub returns-clause-least : goal.returns-clause-least
 returns-clause-least c =
