@@ -1,0 +1,9 @@
+pub mod AddLaws
+pub mod BuildLaws
+pub mod CellLaws
+pub mod DealLaws
+pub mod GrowthLaws
+pub mod HoldLaws
+pub mod Lowest
+pub mod StepLaws
+pub mod Verdicts

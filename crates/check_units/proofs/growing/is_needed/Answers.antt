@@ -1,0 +1,34 @@
+use Rattle.std.proofs.Common.{◌+◌, ◌/◌, ℕ, length, get_or, ap, ◌∙◌, arith}
+use Rattle.std.proofs.lemmas.List.{length-drop}
+use Rattle.leb_codec.specs.Layout.{need, size_after}
+use Rattle.slot_layout.specs.Rows.{form_of}
+use Rattle.slot_layout.proofs.GrowLaws.{no_slot, slot_from, slot_to, slot_fixed}
+use Rattle.check_units.specs.inside.Sums.{numbers_of}
+use Rattle.check_units.proofs.CellLaws.{range_few}
+use Rattle.check_units.proofs.HoldLaws.{needed_is}
+use Rattle.check_units.proofs.growing.is_needed.Goals as goal
+
+pub overflow_add-number : goal.overflow_add-number
+overflow_add-number c =
+    let slot = get_or c.args.slots.now c.args.step.slot no_slot in
+    let few = range_few (numbers_of c.args.sums.now.cells.items) slot.from slot.to in
+    omega (arith, few, c.between.ensures, slot_fixed c.args.slots.now c.requires.slots c.args.step.slot c.requires.inside)
+
+pub between-requires : goal.between-requires
+between-requires c =
+    let slots = c.args.slots.now in
+    let cells = c.args.sums.now.cells.items in
+    record {
+      sums = c.requires.sums;
+      order = slot_from slots c.requires.slots c.args.step.slot c.requires.inside;
+      inside = omega (arith, slot_to slots c.requires.slots c.args.step.slot c.requires.inside, length-drop (length cells / 2) cells, c.requires.sums.even, c.requires.long);
+      room = c.requires.room;
+    }
+
+pub returns : goal.returns
+returns c =
+    let slots = c.args.slots.now in
+    let slot = get_or slots c.args.step.slot no_slot in
+    needed_is slots c.args.step c.requires.inside (numbers_of c.args.sums.now.cells.items) c.size_after.result c.from-2.result
+    (c.size_after.ensures ∙ ap (λ (k : ℕ). size_after (form_of slot.kind) (k + 1)) c.from.ensures)
+    (c.from-2.ensures ∙ c.need.ensures ∙ ap (λ (n : ℕ). need (form_of slot.kind) (slot.fixed + n)) c.between.ensures)

@@ -1,0 +1,39 @@
+-- What the verdict on a record shows.
+use Rattle.std.specs.Prelude.{◌≡◌, ◌<◌, ℕ, List, length, slice_index}
+use Rattle.leb_codec.specs.Layout.{SlotRow, row_at, AcceptsLayout, IsLayout, IsLowestLayout, IsLeastLayout}
+use Rattle.check_units.specs.Refused.{CanHaveSize, IsFirstRefused}
+
+-- each slot has a size that a slot of a file can have
+pub record CanBeSizes (rows : List SlotRow) (sizes : List ℕ) : Type 0 where
+  pub each_slot : length sizes ≡ length rows
+  pub sized : (i : ℕ) → i < length rows → CanHaveSize (row_at rows i).form (slice_index sizes i)
+
+-- Sizes whose record is accepted are slot by slot at most those of each layout.
+abbrev pub AcceptedAreLowest : Type 0
+AcceptedAreLowest =
+    (rows : List SlotRow) (sizes ranks : List ℕ) →
+    CanBeSizes rows sizes →
+    AcceptsLayout rows sizes ranks →
+    IsLowestLayout rows sizes
+
+-- Where they are a layout, no layout has fewer bytes.
+abbrev pub AcceptedAreLeast : Type 0
+AcceptedAreLeast =
+    (rows : List SlotRow) (sizes ranks : List ℕ) →
+    CanBeSizes rows sizes →
+    AcceptsLayout rows sizes ranks →
+    IsLayout rows sizes →
+    IsLeastLayout rows sizes
+
+-- No record is both accepted and refused.
+abbrev pub NeverBoth : Type 0
+NeverBoth =
+    (rows : List SlotRow) (sizes ranks : List ℕ) (i : ℕ) → IsFirstRefused rows sizes ranks i → AcceptsLayout rows sizes ranks → ⊥
+
+-- A record is refused by one slot.
+abbrev pub OneRefused : Type 0
+OneRefused =
+    (rows : List SlotRow) (sizes ranks : List ℕ) (i j : ℕ) →
+    IsFirstRefused rows sizes ranks i →
+    IsFirstRefused rows sizes ranks j →
+    i ≡ j

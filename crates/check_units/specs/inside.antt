@@ -1,0 +1,5 @@
+-- What inner functions and proofs need, and no public clause says.
+pub mod Checks
+pub mod Dealing
+pub mod Growing
+pub mod Sums
