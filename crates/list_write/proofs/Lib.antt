@@ -1,6 +1,9 @@
 pub mod ApartLaws
+pub mod Assembled
+pub mod Copied
 pub mod Entries
-pub mod Pieces
+pub mod ExpressionPieces
+pub mod HeldPieces
 pub mod Placing
 pub mod Putting
 pub mod Ready

@@ -1,16 +1,17 @@
 -- Places by the sizes of lists.
-use Rattle.std.proofs.Common.{◌≡◌, ◌≢◌, ◌≤◌, ◌<◌, ◌+◌, ◌-◌, ◌∙◌, ℕ, List, [], ◌∷◌, ◌++◌, length, get_or, map, take, drop, sym, ap, refl, subst, arith, inl, inr}
+use Rattle.std.proofs.Common.{◌≡◌, ◌≢◌, ◌≤◌, ◌<◌, ◌+◌, ◌-◌, ◌∙◌, ◌^◌, ℕ, zero, suc, List, [], ◌∷◌, ◌++◌, length, get_or, take, drop, sym, ap, refl, subst, arith, inl, inr}
 use Rattle.std.proofs.lemmas.Bool.{cases_lt}
 use Rattle.std.specs.List.{sum_by}
-use Rattle.std.proofs.lemmas.List.{get_or-map, get_or_at, get_or_append_left, get_or-append-add, length-append, take-take, length-take-le, length-drop, get_or-take, get_or-drop, drop-take, take-map, drop-map}
-use Rattle.std.proofs.lemmas.List.Sums.{sum_by_more, sum_by-take-drop}
+use Rattle.std.proofs.lemmas.List.{get_or_at, get_or_append_left, get_or-append-add, length-append, length-take-le, length-drop, get_or-take, get_or-drop, take_all}
+use Rattle.std.proofs.lemmas.List.Sums.{sum_by_more}
 use Rattle.list_model.specs.declared.contribution.Contribution.{Contribution}
 use Rattle.list_model.specs.Contributions.{part_end}
 use Rattle.list_write.specs.declared.image.Moved.{Moved}
-use Rattle.list_write.specs.declared.named.NamedList.{NamedList}
-use Rattle.list_write.specs.Written.{ToWrite, to_write, full_size, part_at, list_at, moved_at, run_at, runs_before}
-use Rattle.list_write.specs.inside.Places.{front_size, front_sizes, run_sizes, views_size, size_of, list_sizes, whole_at, list_place, run_place, IsFirst, PartsRise, AreKnown, AreAppended, AreRunsAppended, IsPlacedPart, IsPlacedList, IsPlacedRun, ArePlacedTo, ArePlaced}
-use Rattle.list_write.proofs.Runs.{no_list, sums_rise, run_below}
+use Rattle.list_write.specs.declared.pieces.ListExtent.{ListExtent}
+use Rattle.list_write.specs.declared.pieces.RunExtent.{RunExtent}
+use Rattle.list_write.specs.Written.{Run, ToWrite, run_size, own_size, full_size, part_at, list_at, moved_at, run_at, runs_before}
+use Rattle.list_write.specs.inside.Places.{front_size, front_sizes, run_sizes, views_size, size_of, list_sizes, whole_at, IsFirst, PartsRise, AreKnown, extent_at, run_extent_at, extent_sizes, extent_place, IsExtentOf, IsRunExtentOf, AreExtentsOf, CanBePlaced, AreAppended, IsPlacedPart, IsPlacedList, IsPlacedRun, AreListsPlaced, ArePlacedTo, ArePlacedWithin, ArePlaced}
+use Rattle.list_write.proofs.Runs.{no_list, sums_rise, run_more, runs_more, runs_rise, run_below}
 
 -- what stands for those past the end
 abbrev pub no_move : Moved
@@ -19,9 +20,8 @@ no_move = record { old = 0; new = 0 }
 abbrev pub no_part : Contribution
 no_part = record { at = 0; len = 0; slots = 0 }
 
--- what is to be written of a list by its number
-pub to_write_at : (lists : List NamedList) (k : ℕ) (list : NamedList) → k < length lists → list ≡ get_or lists k list → list_at (map to_write lists) k ≡ to_write list
-to_write_at lists k list inside is = get_or-map to_write lists k list no_list inside ∙ ap to_write (sym is)
+abbrev pub no_extent : RunExtent
+no_extent = record { at = 0; size = 0 }
 
 -- the sizes of one more list
 pub sizes_more : (lists : List ToWrite) (k : ℕ) → k < length lists → list_sizes lists (k + 1) ≡ list_sizes lists k + full_size (list_at lists k)
@@ -45,11 +45,6 @@ before_more lists p end before here k less =
       | inr y ↦ let same : end ≡ k = omega arith in subst (λ (z : ℕ). (list_at lists z).part < p + 1) same (omega arith)
     ]
 
-pub part_ended : (lists : List ToWrite) (p first end : ℕ) → IsFirst lists p first → PartsRise lists → end < length lists → first ≤ end → ((k : ℕ) → k < end → (list_at lists k).part < p + 1) → (list_at lists end).part ≢ p → IsFirst lists (p + 1) end
-part_ended lists p first end is_first rise inside behind before other =
-    let here : p ≤ (list_at lists end).part = is_first.behind end behind inside in
-    record { within = omega arith; before = before; behind = λ k from within. let more = rise end k from within in omega (arith, more, here, other) }
-
 -- a contribution's lists begin in one place
 pub one_first : (lists : List ToWrite) (p a b : ℕ) → IsFirst lists p a → IsFirst lists p b → a ≡ b
 one_first lists p a b x y =
@@ -62,45 +57,6 @@ one_first lists p a b x y =
         | inr n ↦ omega arith
       ]
     ]
-
--- the lists from one up to another
-abbrev pub between : List ToWrite → ℕ → ℕ → List ToWrite
-between lists first last = take (last - first) (drop first lists)
-
-pub between_at : (lists : List ToWrite) (first last k : ℕ) → k < last - first → list_at (between lists first last) k ≡ list_at lists (first + k)
-between_at lists first last k less = get_or-take (last - first) (drop first lists) k no_list less ∙ get_or-drop first lists k no_list
-
--- what they have together, with what those before them have
-between_sums : (f : ToWrite → ℕ) (lists : List ToWrite) (first last k : ℕ) → k ≤ last - first → sum_by f (take k (between lists first last)) + sum_by f (take first lists) ≡ sum_by f (take (first + k) lists)
-between_sums f lists first last k less =
-    let own : sum_by f (take k (between lists first last)) ≡ sum_by f (drop first (take (first + k) lists)) = ap (sum_by f) (take-take k (last - first) (drop first lists) less ∙ sym (drop-take first k lists)) in
-    let front : sum_by f (take first (take (first + k) lists)) ≡ sum_by f (take first lists) = ap (sum_by f) (take-take first (first + k) lists (omega arith)) in
-    let whole = sum_by-take-drop f (take (first + k) lists) first in
-    omega (arith, own, front, whole)
-
-pub between_sizes : (lists : List ToWrite) (first last k : ℕ) → k ≤ last - first → list_sizes (between lists first last) k + list_sizes lists first ≡ list_sizes lists (first + k)
-between_sizes = between_sums size_of
-
-between_runs : (lists : List ToWrite) (first last k : ℕ) → k ≤ last - first → runs_before (between lists first last) k + runs_before lists first ≡ runs_before lists (first + k)
-between_runs = between_sums (λ (list : ToWrite). length list.views)
-
--- as they are held
-pub slice_between : (lists slice : List NamedList) (first last : ℕ) → slice ≡ lists → map to_write (take (last - first) (drop first slice)) ≡ between (map to_write lists) first last
-slice_between lists slice first last same =
-    ap (λ z. map to_write (take (last - first) (drop first z))) same ∙ sym (take-map to_write (last - first) (drop first lists)) ∙ ap (take (last - first)) (sym (drop-map to_write first lists))
-
-pub slice_length : (lists slice : List NamedList) (first last : ℕ) → slice ≡ lists → last ≤ length lists → length (take (last - first) (drop first slice)) ≡ last - first
-slice_length lists slice first last same within =
-    ap (λ z. length (take (last - first) (drop first z))) same ∙ length-take-le (last - first) (drop first lists) (let e : length (drop first lists) ≡ length lists - first = length-drop first lists in omega arith)
-
--- where the lists of a contribution end
-pub between_end : (parts : List Contribution) (lists : List ToWrite) (p at first last start : ℕ) → p < length parts → first ≤ last → at ≡ front_sizes parts p + list_sizes lists first → start ≡ at + front_size (part_at parts p) → start + list_sizes (between lists first last) (last - first) ≡ front_sizes parts (p + 1) + list_sizes lists last
-between_end parts lists p at first last start inside behind so begins =
-    let front = fronts_more parts p inside in
-    let sizes : list_sizes (between lists first last) (last - first) + list_sizes lists first ≡ list_sizes lists (first + (last - first)) = between_sizes lists first last (last - first) (omega arith) in
-    let same : first + (last - first) ≡ last = omega arith in
-    let there : list_sizes lists (first + (last - first)) ≡ list_sizes lists last = ap (list_sizes lists) same in
-    omega arith
 
 -- ---- things get places
 
@@ -124,74 +80,277 @@ appended_more place count old mid new one so_far is e =
       ];
     }
 
+-- ---- the extents of lists
+
+module _ (lists : List ToWrite) (extents : List ListExtent) (runs : List RunExtent) (are : AreExtentsOf lists extents runs) (k : ℕ) (inside : k < length lists) where
+  abbrev views : List Run
+  views = (list_at lists k).views
+
+  -- the runs of a list are among all
+  pub slice_within : runs_before lists k + length views ≤ length runs
+  slice_within =
+      let more = runs_more lists k inside in
+      let rise = runs_rise lists (k + 1) (length lists) (omega (arith, inside)) in
+      let all : length runs ≡ runs_before lists (length lists) = are.runs_count in
+      omega (arith, more, rise, all)
+
+  module _ (first behind : ℕ) (from : first ≡ runs_before lists k) (to : behind ≡ first + length views) where
+    abbrev slice : List RunExtent
+    slice = take (behind - first) (drop first runs)
+
+    pub slice_length : length slice ≡ length views
+    slice_length =
+        let all = slice_within in
+        let left : length (drop first runs) ≡ length runs - first = length-drop first runs in
+        let own : length slice ≡ behind - first = length-take-le (behind - first) (drop first runs) (omega (arith, left, all, from, to)) in
+        omega (arith, own, to)
+
+    pub slice_each : (i : ℕ) → i < length views → IsRunExtentOf (run_at views i) (run_extent_at slice i)
+    slice_each i less =
+        let here : run_extent_at slice i ≡ run_extent_at runs (first + i) = get_or-take (behind - first) (drop first runs) i no_extent (omega (arith, less, to)) ∙ get_or-drop first runs i no_extent in
+        let there : run_extent_at runs (first + i) ≡ run_extent_at runs (runs_before lists k + i) = ap (λ (z : ℕ). run_extent_at runs (z + i)) from in
+        subst (IsRunExtentOf (run_at views i)) (sym (here ∙ there)) (are.each_run k i inside less)
+
+    pub slice_sizes : (i : ℕ) → i ≤ length views → extent_sizes (take i slice) ≡ run_sizes views i
+    slice_sizes zero less = refl
+    slice_sizes (suc i) less =
+        let long = slice_length in
+        let before = slice_sizes i (omega arith) in
+        let own : (run_extent_at slice i).size ≡ run_size (run_at views i) = (slice_each i (omega arith)).size in
+        let more : extent_sizes (take (i + 1) slice) ≡ extent_sizes (take i slice) + (run_extent_at slice i).size = sum_by_more (λ (run : RunExtent). run.size) slice i no_extent (omega (arith, long)) in
+        let sum = run_more views i (omega arith) in
+        let next : i + 1 ≡ suc i = omega arith in
+        subst (λ (z : ℕ). extent_sizes (take z slice) ≡ run_sizes views z) next (omega (arith, before, own, more, sum))
+
+    pub slice_size : extent_sizes slice ≡ views_size (list_at lists k)
+    slice_size =
+        let long = slice_length in
+        ap extent_sizes (sym (take_all (length views) slice (omega (arith, long)))) ∙ slice_sizes (length views) (omega arith) ∙ ap (sum_by run_size) (take_all (length views) views (omega arith))
+
+-- ---- lists get places
+
+lists_placed_none : (parts : List Contribution) (lists : List ToWrite) → AreListsPlaced parts lists [] []
+lists_placed_none parts lists = record { runs_count = refl; each = λ k less. absurd (omega arith); each_run = λ k i less. absurd (omega arith) }
+
+-- one more list and its runs
+module _ (parts : List Contribution) (lists : List ToWrite) (extents : List ListExtent) (runs : List RunExtent) (are : AreExtentsOf lists extents runs)
+    (moved new_moved views new_views : List Moved) (so_far : AreListsPlaced parts lists moved views) (inside : length moved < length lists)
+    (first behind start own : ℕ) (from : first ≡ length views) (to : behind ≡ first + length (list_at lists (length moved)).views)
+    (begins : start ≡ whole_at parts lists (length moved)) (ends : own ≡ start + views_size (list_at lists (length moved)))
+    (more : AreAppended (extent_place (take (behind - first) (drop first runs)) start) (length (take (behind - first) (drop first runs))) views new_views)
+    (pushed : new_moved ≡ moved ++ record { old = (extent_at extents (length moved)).at; new = own } ∷ []) where
+  from_there : first ≡ runs_before lists (length moved)
+  from_there = from ∙ so_far.runs_count
+
+  many : length (take (behind - first) (drop first runs)) ≡ length (list_at lists (length moved)).views
+  many = slice_length lists extents runs are (length moved) inside first behind from_there to
+
+  pub moved_count : length new_moved ≡ length moved + 1
+  moved_count = ap length pushed ∙ length-append moved (record { old = (extent_at extents (length moved)).at; new = own } ∷ [])
+
+  views_count : length new_views ≡ runs_before lists (length moved) + length (list_at lists (length moved)).views
+  views_count =
+      let size : length new_views ≡ length views + length (take (behind - first) (drop first runs)) = more.size in
+      let before : length views ≡ runs_before lists (length moved) = so_far.runs_count in
+      let many_are = many in
+      omega (arith, size, before, many_are)
+
+  list_here : IsPlacedList parts lists (length moved) (moved_at new_moved (length moved))
+  list_here =
+      subst (IsPlacedList parts lists (length moved)) (sym (ap (λ (z : List Moved). moved_at z (length moved)) pushed ∙ get_or_at moved (record { old = (extent_at extents (length moved)).at; new = own }) [] no_move (length moved) refl))
+      (record { from = (are.each (length moved) inside).from; to = ends ∙ ap (λ (z : ℕ). z + views_size (list_at lists (length moved))) begins })
+
+  each_list : (k : ℕ) → k < length new_moved → IsPlacedList parts lists k (moved_at new_moved k)
+  each_list k less =
+      let count = moved_count in
+      elim (cases_lt k (length moved)) [
+        | inl x ↦ subst (IsPlacedList parts lists k) (sym (ap (λ (z : List Moved). moved_at z k) pushed ∙ get_or_append_left moved (record { old = (extent_at extents (length moved)).at; new = own } ∷ []) no_move k x)) (so_far.each k x)
+        | inr y ↦ let same : length moved ≡ k = omega (arith, less, count, y) in subst (λ (z : ℕ). IsPlacedList parts lists z (moved_at new_moved z)) same list_here
+      ]
+
+  run_here : (i : ℕ) → i < length (list_at lists (length moved)).views → IsPlacedRun parts lists (length moved) i (moved_at new_views (runs_before lists (length moved) + i))
+  run_here i less =
+      let count = many in
+      let place : runs_before lists (length moved) + i ≡ length views + i = ap (λ (z : ℕ). z + i) (sym so_far.runs_count) in
+      let is : moved_at new_views (runs_before lists (length moved) + i) ≡ extent_place (take (behind - first) (drop first runs)) start i = ap (moved_at new_views) place ∙ more.each i (omega (arith, less, count)) in
+      let sizes = slice_sizes lists extents runs are (length moved) inside first behind from_there to i (omega (arith, less)) in
+      record {
+        from = ap (λ (z : Moved). z.old) is ∙ (slice_each lists extents runs are (length moved) inside first behind from_there to i less).from;
+        to = ap (λ (z : Moved). z.new) is ∙ (let sum : start + extent_sizes (take i (take (behind - first) (drop first runs))) ≡ whole_at parts lists (length moved) + run_sizes (list_at lists (length moved)).views i = omega (arith, sizes, begins) in sum);
+      }
+
+  each_run : (k i : ℕ) → k < length new_moved → i < length (list_at lists k).views → IsPlacedRun parts lists k i (moved_at new_views (runs_before lists k + i))
+  each_run k i less own_run =
+      let count = moved_count in
+      let before : length views ≡ runs_before lists (length moved) = so_far.runs_count in
+      elim (cases_lt k (length moved)) [
+        | inl x ↦
+            let below = run_below lists k i (length moved) x (omega (arith, inside)) own_run in
+            subst (IsPlacedRun parts lists k i) (sym (more.before (runs_before lists k + i) (omega (arith, before, below)))) (so_far.each_run k i x own_run)
+        | inr y ↦
+            let same : length moved ≡ k = omega (arith, less, count, y) in
+            subst (λ (z : ℕ). (j : ℕ) → j < length (list_at lists z).views → IsPlacedRun parts lists z j (moved_at new_views (runs_before lists z + j))) same run_here i own_run
+      ]
+
+  pub lists_placed_more : AreListsPlaced parts lists new_moved new_views
+  lists_placed_more = record {
+    runs_count = (let count = views_count in let more_runs = runs_more lists (length moved) inside in omega (arith, count, more_runs)) ∙ ap (runs_before lists) (sym moved_count);
+    each = each_list;
+    each_run = each_run;
+  }
+
 -- ---- contributions get places
 
 pub placed_none : (parts : List Contribution) (lists : List ToWrite) → ArePlacedTo parts lists 0 0 [] [] []
 placed_none parts lists = record {
   count = refl;
   first = record { within = omega arith; before = λ k less. absurd (omega arith); behind = λ k from within. omega arith };
-  runs_count = refl;
   end = refl;
   each_part = λ q less. absurd (omega arith);
-  each_list = λ k less. absurd (omega arith);
-  each_run = λ k i less. absurd (omega arith);
+  placed = lists_placed_none parts lists;
+}
+
+-- the next one has its header and its offsets
+pub within_begun : (parts : List Contribution) (lists : List ToWrite) (p at next : ℕ) (new_parts : List Contribution) (moved views : List Moved) → p < length parts → ArePlacedTo parts lists p at new_parts moved views → next ≡ at + front_size (part_at parts p) → ArePlacedWithin parts lists p at next new_parts moved views
+within_begun parts lists p at next new_parts moved views inside so_far begins = record {
+  count = so_far.count;
+  first = length moved;
+  is_first = so_far.first;
+  begins = so_far.end;
+  behind = omega arith;
+  within = so_far.first.within;
+  before = λ k less. (let below = so_far.first.before k less in omega (arith, below));
+  end = (let front = fronts_more parts p inside in let so : at ≡ front_sizes parts p + list_sizes lists (length moved) = so_far.end in omega (arith, front, so, begins));
+  each_part = so_far.each_part;
+  placed = so_far.placed;
+}
+
+-- where its next list begins with its view pairs
+pub within_begins : (parts : List Contribution) (lists : List ToWrite) (p begin at : ℕ) (new_parts : List Contribution) (moved views : List Moved) → ArePlacedWithin parts lists p begin at new_parts moved views → (list_at lists (length moved)).part ≡ p → at ≡ whole_at parts lists (length moved)
+within_begins parts lists p begin at new_parts moved views so_far part = so_far.end ∙ ap (λ (z : ℕ). front_sizes parts (z + 1) + list_sizes lists (length moved)) (sym part)
+
+-- one more list of it
+pub within_more : (parts : List Contribution) (lists : List ToWrite) (p begin at next : ℕ) (new_parts : List Contribution) (moved new_moved views new_views : List Moved) → ArePlacedWithin parts lists p begin at new_parts moved views → length moved < length lists → (list_at lists (length moved)).part ≡ p → next ≡ at + full_size (list_at lists (length moved)) → length new_moved ≡ length moved + 1 → AreListsPlaced parts lists new_moved new_views → ArePlacedWithin parts lists p begin next new_parts new_moved new_views
+within_more parts lists p begin at next new_parts moved new_moved views new_views so_far inside part size count placed =
+    let behind : so_far.first ≤ length moved = so_far.behind in
+    let sizes = sizes_more lists (length moved) inside in
+    let end : at ≡ front_sizes parts (p + 1) + list_sizes lists (length moved) = so_far.end in
+    record {
+      count = so_far.count;
+      first = so_far.first;
+      is_first = so_far.is_first;
+      begins = so_far.begins;
+      behind = omega (arith, behind, count);
+      within = omega (arith, inside, count);
+      before = λ k less. before_more lists p (length moved) so_far.before part k (omega (arith, less, count));
+      end = (let sum : next ≡ front_sizes parts (p + 1) + list_sizes lists (length moved + 1) = omega (arith, sizes, end, size) in sum) ∙ ap (λ (z : ℕ). front_sizes parts (p + 1) + list_sizes lists z) (sym count);
+      each_part = so_far.each_part;
+      placed = placed;
+    }
+
+-- the next list, by its extent
+module _ (parts : List Contribution) (lists : List ToWrite) (extents : List ListExtent) (runs : List RunExtent) (can : CanBePlaced parts lists extents runs)
+    (p begin at : ℕ) (new_parts : List Contribution) (moved views : List Moved) (so_far : ArePlacedWithin parts lists p begin at new_parts moved views)
+    (k : ℕ) (is : k ≡ length moved) (inside : k < length extents) (part : (extent_at extents k).part ≡ p) (first : ℕ) (from : first ≡ length views) where
+  abbrev next : ToWrite
+  next = list_at lists (length moved)
+
+  abbrev behind : ℕ
+  behind = first + (extent_at extents k).runs
+
+  next_inside : length moved < length lists
+  next_inside = let count : length extents ≡ length lists = can.extents_are.count in omega (arith, is, inside, count)
+
+  next_extent : IsExtentOf next (extent_at extents k)
+  next_extent = subst (λ (z : ℕ). IsExtentOf next (extent_at extents z)) (sym is) (can.extents_are.each (length moved) next_inside)
+
+  next_part : next.part ≡ p
+  next_part = sym next_extent.part ∙ part
+
+  next_from : first ≡ runs_before lists (length moved)
+  next_from = from ∙ so_far.placed.runs_count
+
+  next_to : behind ≡ first + length next.views
+  next_to = ap (λ (z : ℕ). first + z) next_extent.runs
+
+  runs_size : extent_sizes (take (behind - first) (drop first runs)) ≡ views_size next
+  runs_size = slice_size lists extents runs can.extents_are (length moved) next_inside first behind next_from next_to
+
+  pub next_slice : behind ≤ length runs
+  next_slice =
+      let within = slice_within lists extents runs can.extents_are (length moved) next_inside in
+      let to = next_to in
+      let there = next_from in
+      omega (arith, within, to, there)
+
+  pub next_fits : at + full_size next < 2 ^ 32
+  next_fits =
+      let own = next_inside in
+      let known : next.part < length parts = can.known (length moved) own in
+      let mine = next_part in
+      let end : at ≡ front_sizes parts (p + 1) + list_sizes lists (length moved) = so_far.end in
+      let fronts = fronts_rise parts (p + 1) (length parts) (omega (arith, known, mine)) in
+      let more = sizes_more lists (length moved) own in
+      let rise = sizes_rise lists (length moved + 1) (length lists) (omega (arith, own)) in
+      let room : front_sizes parts (length parts) + list_sizes lists (length lists) < 2 ^ 32 = can.room in
+      omega (arith, end, fronts, more, rise, room)
+
+  pub runs_fit : at + extent_sizes (take (behind - first) (drop first runs)) < 2 ^ 32
+  runs_fit = let all = next_fits in let size = runs_size in omega (arith, all, size)
+
+  next_ends : (own : ℕ) → own ≡ at + extent_sizes (take (behind - first) (drop first runs)) → own + (extent_at extents k).size ≡ at + full_size next
+  next_ends own ends = let size = runs_size in let mine : (extent_at extents k).size ≡ own_size next = next_extent.size in omega (arith, ends, size, mine)
+
+  pub list_fits : (own : ℕ) → own ≡ at + extent_sizes (take (behind - first) (drop first runs)) → own + (extent_at extents k).size < 2 ^ 32
+  list_fits own ends = let all = next_fits in let sum = next_ends own ends in omega (arith, all, sum)
+
+  pub next_placed : (own : ℕ) (new_moved new_views : List Moved) → own ≡ at + extent_sizes (take (behind - first) (drop first runs)) → AreAppended (extent_place (take (behind - first) (drop first runs)) at) (length (take (behind - first) (drop first runs))) views new_views → new_moved ≡ moved ++ record { old = (extent_at extents k).at; new = own } ∷ [] → ArePlacedWithin parts lists p begin (own + (extent_at extents k).size) new_parts new_moved new_views
+  next_placed own new_moved new_views ends more pushed =
+      let begins = within_begins parts lists p begin at new_parts moved views so_far next_part in
+      let there : own ≡ at + views_size next = ends ∙ ap (λ (z : ℕ). at + z) runs_size in
+      let put : new_moved ≡ moved ++ record { old = (extent_at extents (length moved)).at; new = own } ∷ [] = pushed ∙ ap (λ (z : ℕ). moved ++ record { old = (extent_at extents z).at; new = own } ∷ []) is in
+      let size : length new_moved ≡ length moved + 1 = ap length pushed ∙ length-append moved (record { old = (extent_at extents k).at; new = own } ∷ []) in
+      within_more parts lists p begin at (own + (extent_at extents k).size) new_parts moved new_moved views new_views so_far next_inside next_part (next_ends own ends) size
+      (lists_placed_more parts lists extents runs can.extents_are moved new_moved views new_views so_far.placed next_inside first behind at own from next_to begins there more put)
+
+-- the next list is of a later one, or there is none
+pub within_ended : (parts : List Contribution) (lists : List ToWrite) (p begin at : ℕ) (new_parts : List Contribution) (moved views : List Moved) → ArePlacedWithin parts lists p begin at new_parts moved views → PartsRise lists → (length moved < length lists → (list_at lists (length moved)).part ≢ p) → IsFirst lists (p + 1) (length moved)
+within_ended parts lists p begin at new_parts moved views so_far rise other = record {
+  within = so_far.within;
+  before = so_far.before;
+  behind = λ k from inside.
+      let here : length moved < length lists = omega (arith, from, inside) in
+      let above : p ≤ (list_at lists (length moved)).part = so_far.is_first.behind (length moved) so_far.behind here in
+      let apart = other here in
+      let more = rise (length moved) k from inside in
+      omega (arith, above, apart, more);
 }
 
 -- what is at a place of one more
 last_part : (parts : List Contribution) (part : Contribution) (p : ℕ) → length parts ≡ p → part_at (parts ++ part ∷ []) p ≡ part
 last_part parts part p count = get_or_at parts part [] no_part p count
 
--- where a list of the contribution that gets its place begins with its view pairs
-pub whole_placed : (parts : List Contribution) (lists : List ToWrite) (p first last start j k : ℕ) → IsFirst lists p first → IsFirst lists (p + 1) last → first + j ≡ k → k < last → start ≡ front_sizes parts (p + 1) + list_sizes lists first → start + list_sizes (between lists first last) j ≡ whole_at parts lists k
-whole_placed parts lists p first last start j k is_first is_last place less begins =
-    let inside : last ≤ length lists = is_last.within in
-    let above : p ≤ (list_at lists k).part = is_first.behind k (omega arith) (omega arith) in
-    let below : (list_at lists k).part < p + 1 = is_last.before k less in
-    let part : (list_at lists k).part ≡ p = omega arith in
-    let sizes : list_sizes (between lists first last) j + list_sizes lists first ≡ list_sizes lists (first + j) = between_sizes lists first last j (omega arith) in
-    let there : list_sizes lists (first + j) ≡ list_sizes lists k = ap (list_sizes lists) place in
-    let fronts : front_sizes parts ((list_at lists k).part + 1) ≡ front_sizes parts (p + 1) = ap (λ (z : ℕ). front_sizes parts (z + 1)) part in
-    omega arith
+-- it ends behind its header
+pub begin_below : (parts : List Contribution) (lists : List ToWrite) (p begin at : ℕ) (new_parts : List Contribution) (moved views : List Moved) → ArePlacedWithin parts lists p begin at new_parts moved views → begin ≤ at
+begin_below parts lists p begin at new_parts moved views so_far =
+    let begins : begin ≡ front_sizes parts p + list_sizes lists so_far.first = so_far.begins in
+    let end : at ≡ front_sizes parts (p + 1) + list_sizes lists (length moved) = so_far.end in
+    let fronts = fronts_rise parts p (p + 1) (omega arith) in
+    let sizes = sizes_rise lists so_far.first (length moved) so_far.behind in
+    omega (arith, begins, end, fronts, sizes)
 
--- it is the same list
-pub list_between : (lists : List ToWrite) (first last j k : ℕ) → first + j ≡ k → k < last → list_at (between lists first last) j ≡ list_at lists k
-list_between lists first last j k place less = between_at lists first last j (omega arith) ∙ ap (list_at lists) place
-
-list_placed : (parts : List Contribution) (lists : List ToWrite) (first last start j k : ℕ) (moved : Moved) → list_at (between lists first last) j ≡ list_at lists k → start + list_sizes (between lists first last) j ≡ whole_at parts lists k → moved ≡ list_place (between lists first last) start j → IsPlacedList parts lists k moved
-list_placed parts lists first last start j k moved own whole is =
-    let views : views_size (list_at (between lists first last) j) ≡ views_size (list_at lists k) = ap views_size own in
-    record {
-      from = ap (λ (z : Moved). z.old) is ∙ ap (λ (z : ToWrite). z.at) own;
-      to = ap (λ (z : Moved). z.new) is ∙ (let sum : start + list_sizes (between lists first last) j + views_size (list_at (between lists first last) j) ≡ whole_at parts lists k + views_size (list_at lists k) = omega (arith, views, whole) in sum);
-    }
-
-run_placed : (parts : List Contribution) (lists : List ToWrite) (first last start j k i : ℕ) (moved : Moved) → list_at (between lists first last) j ≡ list_at lists k → start + list_sizes (between lists first last) j ≡ whole_at parts lists k → moved ≡ run_place (list_at (between lists first last) j).views (start + list_sizes (between lists first last) j) i → IsPlacedRun parts lists k i moved
-run_placed parts lists first last start j k i moved own whole is =
-    let sizes : run_sizes (list_at (between lists first last) j).views i ≡ run_sizes (list_at lists k).views i = ap (λ (z : ToWrite). run_sizes z.views i) own in
-    record {
-      from = ap (λ (z : Moved). z.old) is ∙ ap (λ (z : ToWrite). (run_at z.views i).at) own;
-      to = ap (λ (z : Moved). z.new) is ∙ (let sum : start + list_sizes (between lists first last) j + run_sizes (list_at (between lists first last) j).views i ≡ whole_at parts lists k + run_sizes (list_at lists k).views i = omega (arith, sizes, whole) in sum);
-    }
-
-module _ (parts : List Contribution) (lists : List ToWrite) (p at last start end : ℕ) (old new : List Contribution) (mid moved mid_views views : List Moved) (part : Contribution)
-    (so_far : ArePlacedTo parts lists p at old mid mid_views) (inside : p < length parts) (is_last : IsFirst lists (p + 1) last) (behind : length mid ≤ last)
-    (more : AreAppended (list_place (between lists (length mid) last) start) (last - length mid) mid moved) (more_runs : AreRunsAppended (between lists (length mid) last) (last - length mid) start mid_views views)
-    (begins : start ≡ at + front_size (part_at parts p)) (ends : end ≡ start + list_sizes (between lists (length mid) last) (last - length mid))
-    (is : part ≡ record { at = at; len = end - at; slots = (part_at parts p).slots }) (pushed : new ≡ old ++ part ∷ []) where
-  end_placed : end ≡ front_sizes parts (p + 1) + list_sizes lists last
-  end_placed = ends ∙ between_end parts lists p at (length mid) last start inside behind so_far.end begins
-
-  count_placed : length moved ≡ last
-  count_placed = let size : length moved ≡ length mid + (last - length mid) = more.size in omega arith
-
+-- then it has its place
+module _ (parts : List Contribution) (lists : List ToWrite) (p begin at : ℕ) (old new : List Contribution) (moved views : List Moved) (part : Contribution)
+    (so_far : ArePlacedWithin parts lists p begin at old moved views) (is_last : IsFirst lists (p + 1) (length moved))
+    (is : part ≡ record { at = begin; len = at - begin; slots = (part_at parts p).slots }) (pushed : new ≡ old ++ part ∷ []) where
   new_part : IsPlacedPart parts lists p part
   new_part = record {
-    first = length mid;
-    last = last;
-    is_first = so_far.first;
+    first = so_far.first;
+    last = length moved;
+    is_first = so_far.is_first;
     is_last = is_last;
-    begins = ap (λ (z : Contribution). z.at) is ∙ so_far.end;
-    ends = ap (λ (z : Contribution). part_end z) is ∙ (let below : at ≤ end = omega arith in let e : at + (end - at) ≡ end = omega arith in e ∙ end_placed);
+    begins = ap (λ (z : Contribution). z.at) is ∙ so_far.begins;
+    ends = ap (λ (z : Contribution). part_end z) is ∙ (let below = begin_below parts lists p begin at old moved views so_far in let e : begin + (at - begin) ≡ at = omega (arith, below) in e ∙ so_far.end);
     slots = ap (λ (z : Contribution). z.slots) is;
   }
 
@@ -205,87 +364,31 @@ module _ (parts : List Contribution) (lists : List ToWrite) (p at last start end
             subst (λ (z : ℕ). IsPlacedPart parts lists z (part_at new z)) same (subst (IsPlacedPart parts lists p) (sym (ap (λ (z : List Contribution). part_at z p) pushed ∙ last_part old part p count)) new_part)
       ]
 
-  start_placed : start ≡ front_sizes parts (p + 1) + list_sizes lists (length mid)
-  start_placed = let so : at ≡ front_sizes parts p + list_sizes lists (length mid) = so_far.end in let front = fronts_more parts p inside in omega (arith, so, front)
-
-  each_list : (k : ℕ) → k < length moved → IsPlacedList parts lists k (moved_at moved k)
-  each_list k less =
-      elim (cases_lt k (length mid)) [
-        | inl x ↦ subst (IsPlacedList parts lists k) (sym (more.before k x)) (so_far.each_list k x)
-        | inr y ↦
-            let count = count_placed in
-            let below : k < last = omega arith in
-            let place : length mid + (k - length mid) ≡ k = omega arith in
-            list_placed parts lists (length mid) last start (k - length mid) k (moved_at moved k) (list_between lists (length mid) last (k - length mid) k place below)
-            (whole_placed parts lists p (length mid) last start (k - length mid) k so_far.first is_last place below start_placed) (ap (moved_at moved) (sym place) ∙ more.each (k - length mid) (omega arith))
-      ]
-
-  runs_placed : length views ≡ runs_before lists (length moved)
-  runs_placed =
-      let size : length views ≡ length mid_views + runs_before (between lists (length mid) last) (last - length mid) = more_runs.size in
-      let before : length mid_views ≡ runs_before lists (length mid) = so_far.runs_count in
-      let sum = between_runs lists (length mid) last (last - length mid) (omega arith) in
-      let upto : length mid + (last - length mid) ≡ length moved = (let count = count_placed in omega arith) in
-      omega (arith, size, before, sum) ∙ ap (runs_before lists) upto
-
-  each_run : (k i : ℕ) → k < length moved → i < length (list_at lists k).views → IsPlacedRun parts lists k i (moved_at views (runs_before lists k + i))
-  each_run k i less own =
-      let before : length mid_views ≡ runs_before lists (length mid) = so_far.runs_count in
-      elim (cases_lt k (length mid)) [
-        | inl x ↦
-            let below = run_below lists k i (length mid) x so_far.first.within own in
-            subst (IsPlacedRun parts lists k i) (sym (more_runs.before (runs_before lists k + i) (omega (arith, before, below)))) (so_far.each_run k i x own)
-        | inr y ↦
-            let count = count_placed in
-            let j = k - length mid in
-            let below : k < last = omega arith in
-            let place : length mid + j ≡ k = omega arith in
-            let list = list_between lists (length mid) last j k place below in
-            let sum = between_runs lists (length mid) last j (omega arith) in
-            let there : runs_before lists (length mid + j) ≡ runs_before lists k = ap (runs_before lists) place in
-            let number : runs_before lists k + i ≡ length mid_views + (runs_before (between lists (length mid) last) j + i) = omega (arith, before, sum, there) in
-            run_placed parts lists (length mid) last start j k i (moved_at views (runs_before lists k + i)) list (whole_placed parts lists p (length mid) last start j k so_far.first is_last place below start_placed)
-            (ap (moved_at views) number ∙ more_runs.each j i (omega arith) (subst (λ (z : ToWrite). i < length z.views) (sym list) own))
-      ]
-
-  pub placed_more : ArePlacedTo parts lists (p + 1) end new moved views
+  pub placed_more : ArePlacedTo parts lists (p + 1) at new moved views
   placed_more = record {
     count = (let size : length new ≡ length old + 1 = ap length pushed ∙ length-append old (part ∷ []) in let count : length old ≡ p = so_far.count in omega arith);
-    first = subst (IsFirst lists (p + 1)) (sym count_placed) is_last;
-    runs_count = runs_placed;
-    end = end_placed ∙ ap (λ (z : ℕ). front_sizes parts (p + 1) + list_sizes lists z) (sym count_placed);
+    first = is_last;
+    end = so_far.end;
     each_part = each_part;
-    each_list = each_list;
-    each_run = each_run;
+    placed = so_far.placed;
   }
 
 -- when all contributions have places, so have all lists
 pub placed_all : (parts : List Contribution) (lists : List ToWrite) (p at : ℕ) (new : List Contribution) (moved views : List Moved) → p ≡ length parts → AreKnown lists (length parts) → ArePlacedTo parts lists p at new moved views → ArePlaced parts lists new moved views
-placed_all parts lists p at new moved views all known placed =
-    let within : length moved ≤ length lists = placed.first.within in
+placed_all parts lists p at new moved views all known so_far =
+    let within : length moved ≤ length lists = so_far.first.within in
     let count : length moved ≡ length lists = elim (cases_lt (length moved) (length lists)) [
       | inl x ↦
-          let above : p ≤ (list_at lists (length moved)).part = placed.first.behind (length moved) (omega arith) x in
+          let above : p ≤ (list_at lists (length moved)).part = so_far.first.behind (length moved) (omega arith) x in
           let below = known (length moved) x in
           absurd (omega (arith, above, below))
       | inr y ↦ omega arith
     ] in
     record {
-      parts_count = placed.count ∙ all;
+      parts_count = so_far.count ∙ all;
       lists_count = count;
-      runs_count = placed.runs_count ∙ ap (runs_before lists) count;
-      each_part = λ q less. placed.each_part q (omega arith);
-      each_list = λ k less. placed.each_list k (omega arith);
-      each_run = λ k i less. placed.each_run k i (omega arith);
+      runs_count = so_far.placed.runs_count ∙ ap (runs_before lists) count;
+      each_part = λ q less. so_far.each_part q (omega arith);
+      each_list = λ k less. so_far.placed.each k (omega arith);
+      each_run = λ k i less. so_far.placed.each_run k i (omega arith);
     }
-
--- the same, as the lists are held
-pub placed_next : (parts : List Contribution) (lists slice : List ToWrite) (p at first last count start end : ℕ) (old new : List Contribution) (mid moved mid_views views : List Moved) (part : Contribution) → ArePlacedTo parts lists p at old mid mid_views → p < length parts → first ≡ length mid → IsFirst lists (p + 1) last → first ≤ last → slice ≡ between lists first last → count ≡ last - first → AreAppended (list_place slice start) count mid moved → AreRunsAppended slice count start mid_views views → start ≡ at + front_size (part_at parts p) → end ≡ start + list_sizes slice count → part ≡ record { at = at; len = end - at; slots = (part_at parts p).slots } → new ≡ old ++ part ∷ [] → ArePlacedTo parts lists (p + 1) end new moved views
-placed_next parts lists slice p at first last count start end old new mid moved mid_views views part so_far inside front is_last behind is_between is_count more more_runs begins ends is pushed =
-    let own : slice ≡ between lists (length mid) last = is_between ∙ ap (λ (z : ℕ). between lists z last) front in
-    let many : count ≡ last - length mid = omega arith in
-    let placed : AreAppended (list_place (between lists (length mid) last) start) (last - length mid) mid moved = subst (λ (z : List ToWrite). AreAppended (list_place z start) (last - length mid) mid moved) own (subst (λ (z : ℕ). AreAppended (list_place slice start) z mid moved) many more) in
-    let runs_placed : AreRunsAppended (between lists (length mid) last) (last - length mid) start mid_views views = subst (λ (z : List ToWrite). AreRunsAppended z (last - length mid) start mid_views views) own (subst (λ (z : ℕ). AreRunsAppended slice z start mid_views views) many more_runs) in
-    let behind_mid : length mid ≤ last = omega arith in
-    let to : end ≡ start + list_sizes (between lists (length mid) last) (last - length mid) = ends ∙ ap (λ (z : List ToWrite). start + list_sizes z count) own ∙ ap (λ (z : ℕ). start + list_sizes (between lists (length mid) last) z) many in
-    placed_more parts lists p at last start end old new mid moved mid_views views part so_far inside is_last behind_mid placed runs_placed begins to is pushed

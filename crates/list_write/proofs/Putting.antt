@@ -23,9 +23,9 @@ use Rattle.list_least.specs.Shortest.{FitsOperand, ShortestEntry}
 use Rattle.loc_lists.specs.declared.views.ViewPair.{ViewPair}
 use Rattle.loc_lists.specs.Views.{ShortestPair}
 use Rattle.list_write.specs.declared.image.Moved.{Moved}
-use Rattle.list_write.specs.Written.{Run, ToWrite, HasExpressions, ShortestWith, run_size, full_size, list_at, run_at}
+use Rattle.list_write.specs.Written.{Run, ToWrite, HasExpressions, IsSized, ShortestWith, run_size, full_size, list_at, run_at}
 use Rattle.list_write.specs.inside.Places.{run_sizes, views_size, list_sizes}
-use Rattle.list_write.specs.inside.Puts.{ShortestOperand, ShortestExpression, carries, AreEntriesPut, told_at, IsMovedFrom, IsSlotPut, AreSlotsPut, RunStands, AreRunsPut, WholeStands, AreListsPut, IsSized}
+use Rattle.list_write.specs.inside.Puts.{ShortestOperand, ShortestExpression, carries, AreEntriesPut, told_at, IsMovedFrom, IsSlotPut, AreSlotsPut, RunStands, AreRunsPut, WholeStands, AreListsPut}
 use Rattle.list_write.proofs.ApartLaws.{next_inside, put_plain, put_carrying, with_size}
 use Rattle.list_write.proofs.Entries.{no_entry, picked_at, picked_count}
 use Rattle.list_write.proofs.Placing.{sizes_more}

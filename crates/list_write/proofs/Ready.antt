@@ -11,9 +11,9 @@ use Rattle.list_model.specs.declared.entry.ListKind.{ListKind}
 use Rattle.list_model.specs.Contributions.{offsets_at, lists_at, part_end, IsContribution, ContributionsFollow}
 use Rattle.list_model.proofs.Tiling.{before, each_part}
 use Rattle.list_write.specs.declared.image.Moved.{Moved}
-use Rattle.list_write.specs.Written.{ToWrite, part_at, list_at, moved_at, CanBeWritten}
+use Rattle.list_write.specs.Written.{ToWrite, IsSized, part_at, list_at, moved_at, CanBeWritten}
 use Rattle.list_write.specs.inside.Places.{front_size, front_sizes, views_size, size_of, list_sizes, whole_at, IsFirst, PartsRise, AreKnown, ArePlaced}
-use Rattle.list_write.specs.inside.Puts.{IsSized, told_at, OldRise}
+use Rattle.list_write.specs.inside.Puts.{told_at, OldRise}
 use Rattle.list_write.proofs.Placing.{no_part, fronts_more, fronts_rise, sizes_more, sizes_rise, one_first}
 
 -- the fronts of contributions that follow one another fit among them

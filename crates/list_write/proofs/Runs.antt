@@ -8,10 +8,9 @@ use Rattle.std.proofs.lemmas.List.Sums.{sum_by-cons, sum_by_more, sum_by-take-le
 use Rattle.spelled.specs.Spelled.{Joined}
 use Rattle.loc_lists.specs.declared.views.ViewPair.{ViewPair}
 use Rattle.loc_lists.specs.Views.{ShortestPair}
-use Rattle.list_write.specs.declared.image.Moved.{Moved}
 use Rattle.list_write.specs.declared.named.ViewRun.{ViewRun}
-use Rattle.list_write.specs.Written.{Run, ToWrite, run_of, list_at, moved_at, pair_size, run_size, all_runs, runs_before, run_at}
-use Rattle.list_write.specs.inside.Places.{run_sizes, list_sizes, run_place, AreAppended, AreRunsAppended}
+use Rattle.list_write.specs.Written.{Run, ToWrite, run_of, list_at, pair_size, run_size, all_runs, runs_before, run_at}
+use Rattle.list_write.specs.inside.Places.{run_sizes}
 
 -- what stands for those past the end
 abbrev pub no_list : ToWrite
@@ -83,28 +82,3 @@ run_among (list ∷ lists) n inside =
           let sum = sum_by-cons count_of list (take there.0 lists) in
           (suc there.0, there.1, omega (arith, there.2), there.3, omega (arith, m, there.4, sum), get_or-append_right list.views (all_runs lists) (length list.views) n no_run refl m ∙ there.5)
     ]
-
--- ---- runs get places
-
-pub runs_none : (lists : List ToWrite) (at : ℕ) (old : List Moved) → AreRunsAppended lists 0 at old old
-runs_none lists at old = record { size = omega arith; before = λ n less. refl; each = λ k i less. absurd (omega arith) }
-
--- those of one more list
-pub runs_appended : (lists : List ToWrite) (count at : ℕ) (old mid new : List Moved) → count < length lists → AreRunsAppended lists count at old mid → AreAppended (run_place (list_at lists count).views (at + list_sizes lists count)) (length (list_at lists count).views) mid new → AreRunsAppended lists (count + 1) at old new
-runs_appended lists count at old mid new inside so_far more =
-    let before : length mid ≡ length old + runs_before lists count = so_far.size in
-    let size : length new ≡ length mid + length (list_at lists count).views = more.size in
-    let sum = runs_more lists count inside in
-    record {
-      size = omega (arith, before, size, sum);
-      before = λ n less. more.before n (omega (arith, less, before)) ∙ so_far.before n less;
-      each = λ k i less own. elim (cases_lt k count) [
-        | inl x ↦
-            let below = run_below lists k i count x (omega (arith, inside)) own in
-            more.before (length old + (runs_before lists k + i)) (omega (arith, before, below)) ∙ so_far.each k i x own
-        | inr y ↦
-            let same : count ≡ k = omega arith in
-            let here : (j : ℕ) → j < length (list_at lists count).views → moved_at new (length old + (runs_before lists count + j)) ≡ run_place (list_at lists count).views (at + list_sizes lists count) j = λ j there. (let place : length old + (runs_before lists count + j) ≡ length mid + j = omega (arith, before) in ap (moved_at new) place ∙ more.each j there) in
-            subst (λ (z : ℕ). (j : ℕ) → j < length (list_at lists z).views → moved_at new (length old + (runs_before lists z + j)) ≡ run_place (list_at lists z).views (at + list_sizes lists z) j) same here i own
-      ];
-    }

@@ -1,7 +1,8 @@
 -- Bytes that stand at a place of others, and go on standing there.
-use Rattle.std.proofs.Common.{◌≡◌, ◌≤◌, ◌<◌, ◌+◌, ◌^◌, ◌∙◌, ℕ, List, [], ◌++◌, length, drop, sym, ap, arith}
+use Rattle.std.proofs.Common.{◌≡◌, ◌≤◌, ◌<◌, ◌+◌, ◌-◌, ◌^◌, ◌∙◌, ℕ, List, [], ◌++◌, length, take, drop, sym, ap, arith}
 use Rattle.std.specs.Int.{bytes_low_first}
-use Rattle.std.proofs.lemmas.List.{append_assoc, append-nil, length-append, drop_at}
+use Rattle.std.proofs.Math.Seq.{take-append-add}
+use Rattle.std.proofs.lemmas.List.{append_assoc, append-nil, length-append, length-drop, drop-append-le, drop_at}
 use Rattle.fixed_width.specs.Numbers.{number, number_at}
 use Rattle.fixed_width.proofs.Numbers.{number_back}
 use Rattle.leb_codec.specs.Digits.{Extends}
@@ -47,3 +48,23 @@ stand_drop at own all s = ap (drop at) s.whole ∙ drop_at s.front (own ++ s.res
 -- a number that stands there is read there
 pub stand_number : (n value at : ℕ) (all : List ℕ) → StandAt at (bytes_low_first 0 n value) all → value < 256 ^ n → number_at n at all ≡ value
 stand_number n value at all s fits = ap (number n) (stand_drop at (bytes_low_first 0 n value) all s) ∙ number_back n value s.rest fits
+
+-- what stands in a part of the bytes stands where the part is put
+pub stand_copied : (at : ℕ) (own all old new : List ℕ) (from to : ℕ) → StandAt at own all → from ≤ at → at + length own ≤ to → new ≡ old ++ take (to - from) (drop from all) → StandAt (length old + (at - from)) own new
+stand_copied at own all old new from to s after before e =
+    let place : length s.front ≡ at = s.place in
+    let more = to - at - length own in
+    let front = drop from s.front in
+    let size : length front ≡ length s.front - from = length-drop from s.front in
+    let long : length own + more ≡ to - at = omega (arith, before) in
+    let count : to - from ≡ length front + (length own + more) = omega (arith, place, size, long, after, before) in
+    let left : drop from all ≡ front ++ (own ++ s.rest) = ap (drop from) s.whole ∙ drop-append-le from s.front (own ++ s.rest) (omega (arith, place, after)) in
+    let part : take (to - from) (drop from all) ≡ front ++ (own ++ take more s.rest) =
+    ap (take (to - from)) left ∙ ap (λ (z : ℕ). take z (front ++ (own ++ s.rest))) count
+    ∙ take-append-add front (own ++ s.rest) (length own + more) ∙ ap (λ z. front ++ z) (take-append-add own s.rest more) in
+    record {
+      front = old ++ front;
+      rest = take more s.rest;
+      place = length-append old front ∙ (let sum : length old + length front ≡ length old + (at - from) = omega (arith, size, place) in sum);
+      whole = e ∙ ap (λ z. old ++ z) part ∙ sym (append_assoc old front (own ++ take more s.rest));
+    }

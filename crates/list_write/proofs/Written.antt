@@ -1,7 +1,7 @@
 -- Contributions that are written one after the other.
-use Rattle.std.proofs.Common.{◌≡◌, ◌≤◌, ◌<◌, ◌+◌, ◌-◌, ◌*◌, ◌∙◌, ℕ, List, [], ◌++◌, length, sym, ap, refl, subst, arith, inl, inr}
+use Rattle.std.proofs.Common.{◌≡◌, ◌≤◌, ◌<◌, ◌+◌, ◌-◌, ◌*◌, ◌∙◌, ℕ, List, [], ◌++◌, length, take, drop, sym, ap, refl, subst, arith, inl, inr}
 use Rattle.std.proofs.lemmas.Bool.{cases_lt}
-use Rattle.std.proofs.lemmas.List.{length-append}
+use Rattle.std.proofs.lemmas.List.{length-append, length-drop, length-take-le}
 use Rattle.leb_codec.specs.Digits.{Extends}
 use Rattle.form_codec.specs.declared.form.Width.TheVariants.{One, Two, Four}
 use Rattle.form_codec.specs.Written.{low_bytes}
@@ -13,10 +13,11 @@ use Rattle.list_write.specs.declared.image.Moved.{Moved}
 use Rattle.list_write.specs.Written.{ToWrite, part_at, list_at, CanBeWritten}
 use Rattle.list_write.specs.inside.Places.{front_sizes, list_sizes, whole_at, IsFirst, ArePlaced}
 use Rattle.list_write.specs.inside.Puts.{header_bytes, StandAt, IsSlotPut, SlotStands, AreSlotsPut, WholeStands, AreListsPut, AreWrittenTo}
-use Rattle.list_write.proofs.Placing.{between, list_between, whole_placed, between_sizes, fronts_more}
+use Rattle.list_write.proofs.Assembled.{whole_copied}
+use Rattle.list_write.proofs.Placing.{fronts_more, sizes_more, sizes_rise}
 use Rattle.list_write.proofs.Putting.{whole_stays}
 use Rattle.list_write.proofs.Standing.{extends_more, stand_last, stand_more}
-use Rattle.list_write.proofs.Ready.{begins}
+use Rattle.list_write.proofs.Ready.{begins, sized}
 
 pub header_length : (part : Contribution) → length (header_bytes part) ≡ 12
 header_length part =
@@ -48,12 +49,15 @@ module _ (kind : ListKind) (section : List ℕ) (parts : List Contribution) (lis
     (so_far : AreWrittenTo kind section parts lists new_parts moved p first old) (inside : p < length parts) (is_last : IsFirst lists (p + 1) last) (behind : first ≤ last)
     (header : a ≡ old ++ header_bytes (part_at new_parts p))
     (slots : AreSlotsPut section (offsets_at (part_at parts p).at) (offsets_at (part_at new_parts p).at) moved (part_at parts p).slots a b)
-    (more : AreListsPut kind (between lists first last) (last - first) b new) where
+    (all : List ℕ) (put : AreListsPut kind lists (length lists) [] all) (from to : ℕ) (from_is : from ≡ list_sizes lists first) (to_is : to ≡ list_sizes lists last) (copied : new ≡ b ++ take (to - from) (drop from all)) where
+  extends_b : Extends b new
+  extends_b = (take (to - from) (drop from all), copied)
+
   at : (part_at new_parts p).at ≡ length old
   at = begins kind section parts lists can new_parts moved views placed p inside first so_far.is_first ∙ sym so_far.size
 
   behind_a : Extends a new
-  behind_a = extends_more a b new slots.extends more.extends
+  behind_a = extends_more a b new slots.extends extends_b
 
   behind_old : Extends old new
   behind_old = extends_more old a new (header_bytes (part_at new_parts p), header) behind_a
@@ -71,12 +75,15 @@ module _ (kind : ListKind) (section : List ℕ) (parts : List Contribution) (lis
 
   size_new : length new ≡ front_sizes parts (p + 1) + list_sizes lists last
   size_new =
-      let three : length new ≡ length b + list_sizes (between lists first last) (last - first) = more.size in
+      let within : last ≤ length lists = is_last.within in
+      let whole : length all ≡ length {A = ℕ} [] + list_sizes lists (length lists) = put.size in
+      let most = sizes_rise lists last (length lists) within in
+      let rise = sizes_rise lists first last behind in
+      let left : length (drop from all) ≡ length all - from = length-drop from all in
+      let own : length (take (to - from) (drop from all)) ≡ to - from = length-take-le (to - from) (drop from all) (omega (arith, left, whole, most, to_is)) in
+      let sum : length new ≡ length b + length (take (to - from) (drop from all)) = ap length copied ∙ length-append b (take (to - from) (drop from all)) in
       let two = size_b in
-      let sizes = between_sizes lists first last (last - first) (omega arith) in
-      let same : first + (last - first) ≡ last = omega arith in
-      let there : list_sizes lists (first + (last - first)) ≡ list_sizes lists last = ap (list_sizes lists) same in
-      omega (arith, three, two, sizes, there)
+      omega (arith, own, sum, two, rise, from_is, to_is)
 
   headers : (q : ℕ) → q < p + 1 → StandAt (part_at new_parts q).at (header_bytes (part_at new_parts q)) new
   headers q less =
@@ -91,7 +98,7 @@ module _ (kind : ListKind) (section : List ℕ) (parts : List Contribution) (lis
   slot_here slot less =
       let place : length a + 4 * slot ≡ offset_place (part_at new_parts p).at slot = let one = size_a in let there = at in omega (arith, one, there) in
       subst (λ (z : ℕ). IsSlotPut section (offsets_at (part_at parts p).at) (offsets_at (part_at new_parts p).at) moved slot z new) place
-      (slot_more section (offsets_at (part_at parts p).at) (offsets_at (part_at new_parts p).at) moved slot (length a + 4 * slot) b new more.extends (slots.each slot less))
+      (slot_more section (offsets_at (part_at parts p).at) (offsets_at (part_at new_parts p).at) moved slot (length a + 4 * slot) b new extends_b (slots.each slot less))
 
   all_slots : (q slot : ℕ) → q < p + 1 → slot < (part_at parts q).slots → SlotStands section parts new_parts moved q slot new
   all_slots q slot less within =
@@ -103,12 +110,22 @@ module _ (kind : ListKind) (section : List ℕ) (parts : List Contribution) (lis
       ]
 
   list_here : (k : ℕ) → first ≤ k → k < last → WholeStands kind (list_at lists k) (whole_at parts lists k) new
-  list_here k from to =
-      let j = k - first in
-      let place : first + j ≡ k = omega arith in
-      let own = list_between lists first last j k place to in
-      let at = whole_placed parts lists p first last (length b) j k so_far.is_first is_last place to size_b in
-      subst (λ (z : ℕ). WholeStands kind (list_at lists k) z new) at (subst (λ (z : ToWrite). WholeStands kind z (length b + list_sizes (between lists first last) j) new) own (more.each j (omega arith)))
+  list_here k after before =
+      let within : last ≤ length lists = is_last.within in
+      let inside : k < length lists = omega (arith, before, within) in
+      let above : p ≤ (list_at lists k).part = so_far.is_first.behind k after inside in
+      let below : (list_at lists k).part < p + 1 = is_last.before k before in
+      let part : (list_at lists k).part ≡ p = omega (arith, above, below) in
+      let fronts : front_sizes parts ((list_at lists k).part + 1) ≡ front_sizes parts (p + 1) = ap (λ (z : ℕ). front_sizes parts (z + 1)) part in
+      let low = sizes_rise lists first k after in
+      let more = sizes_more lists k inside in
+      let high = sizes_rise lists (k + 1) last (omega (arith, before)) in
+      let two = size_b in
+      let there : length {A = ℕ} [] + list_sizes lists k ≡ list_sizes lists k = omega arith in
+      let stands = subst (λ (z : ℕ). WholeStands kind (list_at lists k) z all) there (put.each k inside) in
+      let place : length b + (list_sizes lists k - from) ≡ whole_at parts lists k = omega (arith, fronts, low, two, from_is) in
+      subst (λ (z : ℕ). WholeStands kind (list_at lists k) z new) place
+      (whole_copied kind (list_at lists k) (list_sizes lists k) from to all b new (sized kind section parts lists can k inside) stands (omega (arith, low, from_is)) (omega (arith, more, high, to_is)) copied)
 
   each : (k : ℕ) → k < last → WholeStands kind (list_at lists k) (whole_at parts lists k) new
   each k less =

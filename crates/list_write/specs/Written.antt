@@ -1,6 +1,6 @@
 -- Lists written anew in their contributions (DWARF 5 sections 7.28 and 7.29): what is to be written, and what then stands where.
 use Rattle.std.specs.Prelude.{◌≡◌, ◌≤◌, ◌<◌, ◌+◌, ◌-◌, ℕ, List, [], ◌∷◌, ◌++◌, length, map, flat_map, filter, take, drop, not, slice_index_or, suc}
-use Rattle.std.specs.List.{Contains, sum_by}
+use Rattle.std.specs.List.{AllZip, Contains, sum_by}
 use Rattle.std.specs.List.Sorted.{IsStrictlyIncreasing}
 use Rattle.spelled.specs.Spelled.{Joined}
 use Rattle.fixed_width.specs.Numbers.{number_at}
@@ -103,6 +103,13 @@ pub record IsToWrite (kind : ListKind) (parts : List Contribution) (list : ToWri
   pub bytes : list.size ≡ entries_bytes entries + 1
   pub carried : HasExpressions kind entries list.expressions
 
+-- a list has entries, and they take so many bytes without padding, with the end; its items have their expressions
+pub record IsSized (kind : ListKind) (list : ToWrite) : Type 0 where
+  pub entries : List Entry
+  pub picked : ArePicks kind list.picks entries
+  pub bytes : list.size ≡ entries_bytes entries + 1
+  pub carried : HasExpressions kind entries list.expressions
+
 -- a slot of a contribution tells a place (DW_FORM_rnglistx and DW_FORM_loclistx count slots)
 abbrev pub Tells : List ℕ → List Contribution → ℕ → ℕ → ℕ → Type 0
 Tells section parts p i at = at ≡ offsets_at (part_at parts p).at + number_at 4 (offset_place (part_at parts p).at i) section
@@ -133,6 +140,31 @@ ShortestWith Ranges entries expressions bytes bare = ShortestList Ranges entries
 ShortestWith Locations entries expressions bytes bare =
     (locations : List (Entry × List ℕ)) × (entries_of locations ≡ entries) × (item_expressions locations ≡ expressions)
     × StandApart ShortestBehind locations bytes bare × ShortestList Locations entries bare
+
+-- a run of view pairs that is written: where it began, and its bytes
+pub record WrittenRun : Type 0 where
+  pub at : ℕ
+  pub bytes : List ℕ
+
+-- A list that is written, wherever it will stand: its contribution by its number, where it began, its bytes, and the runs of view pairs
+-- that stand before it.
+pub record Piece : Type 0 where
+  pub part : ℕ
+  pub at : ℕ
+  pub bytes : List ℕ
+  pub runs : List WrittenRun
+
+-- a run of view pairs is written, each number in its fewest bytes
+pub record IsWrittenRun (run : Run) (written : WrittenRun) : Type 0 where
+  pub from : written.at ≡ run.at
+  pub shortest : Joined ShortestPair run.pairs written.bytes
+
+-- a list is written with its view pairs in the fewest bytes, by its entries as they are picked
+pub record IsPieceOf (kind : ListKind) (list : ToWrite) (piece : Piece) : Type 0 where
+  pub part : piece.part ≡ list.part
+  pub from : piece.at ≡ list.at
+  pub runs : AllZip IsWrittenRun list.views piece.runs
+  pub own : (entries : List Entry) → ArePicks kind list.picks entries → (bare : List ℕ) × ShortestWith kind entries list.expressions piece.bytes bare
 
 -- a list stands at a place of its contribution
 pub record StandsIn (kind : ListKind) (section : List ℕ) (part : Contribution) (at : ℕ) (entries : List Entry) (expressions : List (List ℕ)) : Type 0 where

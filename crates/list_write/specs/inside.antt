@@ -1,4 +1,5 @@
 -- What inner functions and proofs need, and no public clause says.
+pub mod Pieces
 pub mod Places
 pub mod Puts
 pub mod TestLists

@@ -6,6 +6,7 @@ mod kept;
 mod list;
 mod named;
 mod part;
+mod pieces;
 mod places;
 #[cfg(test)]
 mod tests;
@@ -14,4 +15,5 @@ mod write;
 pub use image::{ListImage, Moved};
 pub use kept::kept_plan;
 pub use named::{NamedList, NewExpressions, ViewRun};
-pub use write::write_lists;
+pub use pieces::WrittenPieces;
+pub use write::assemble;

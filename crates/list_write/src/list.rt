@@ -1,15 +1,14 @@
-// The shortest bytes of lists and of the view pairs before them.
-ghost use Rattle.std.specs.Prelude.{◌≡◌, ◌<◌, ◌≤◌, ◌+◌, ℕ, List, [], length, map, slice_index_or, OnOk};
-ghost use Rattle.std.specs.List.{All};
+// The shortest bytes of lists and of view pairs.
+ghost use Rattle.std.specs.Prelude.{◌≡◌, ◌<◌, ◌≤◌, ◌+◌, ℕ, List, [], length, slice_index_or, OnOk};
 ghost use Rattle.spelled.specs.Spelled.{Joined, Appends};
 ghost use Rattle.list_model.specs.Entries.{Entry};
 ghost use Rattle.loc_lists.specs.Views.{ShortestPair};
 ghost use Rattle.list_least.specs.Plans.{IsPick, ArePicks};
 ghost use Rattle.list_least.specs.Shortest.{FitsOperand, ShortestEntry};
-ghost use Rattle.list_write.specs.Written.{AreEnds, ShortestWith, pieces, run_of, to_write, list_at};
-ghost use Rattle.list_write.specs.inside.Puts.{ShortestOperand, ShortestExpression, carries, IsSized, AreRunsPut, AreListsPut};
+ghost use Rattle.list_write.specs.Written.{AreEnds, IsSized, ShortestWith, pieces, to_write};
+ghost use Rattle.list_write.specs.inside.Puts.{ShortestOperand, ShortestExpression, carries};
 
-use crate::named::{NamedList, NewExpressions, ViewRun};
+use crate::named::{NamedList, NewExpressions};
 use dw_base::NoMemory;
 use form_codec::{Width, put_low};
 use leb_codec::put_u;
@@ -77,8 +76,8 @@ pub(crate) fn has_expression(kind: ListKind, pick: &Pick) -> bool
     }
 }
 
-// Appends the entries of a list with the expressions of its items, and its end.
-fn put_list(out: &mut Vec<u8>, kind: ListKind, list: &NamedList) -> Result<(), NoMemory>
+/// Appends the entries of a list with the expressions of its items, and its end.
+pub(crate) fn put_list(out: &mut Vec<u8>, kind: ListKind, list: &NamedList) -> Result<(), NoMemory>
     requires sized { IsSized kind (to_write list.now) }
     requires ends { AreEnds list.now.expressions }
     ensures { OnOk result ((entries : List Entry) → ArePicks kind list.now.plan.picks.items entries → Appends (λ expressions bytes. (bare : List ℕ) × ShortestWith kind entries expressions bytes bare) (to_write list.now).expressions out.old.items out.new.items) }
@@ -103,39 +102,12 @@ fn put_pair(out: &mut Vec<u8>, first: u64, last: u64) -> Result<(), NoMemory>
     put_u(out, last)
 }
 
-// Appends a run of view pairs.
-fn put_run(out: &mut Vec<u8>, pairs: &Vec<ViewPair>) -> Result<(), NoMemory>
+/// Appends a run of view pairs.
+pub(crate) fn put_run(out: &mut Vec<u8>, pairs: &Vec<ViewPair>) -> Result<(), NoMemory>
     ensures { OnOk result (Appends (Joined ShortestPair) pairs.now.items out.old.items out.new.items) }
 {
     for pair in pairs {
         put_pair(out, pair.first, pair.last)?;
-    }
-    Ok(())
-}
-
-// Appends runs of view pairs, one after the other.
-fn put_runs(out: &mut Vec<u8>, runs: &Vec<ViewRun>) -> Result<(), NoMemory>
-    ensures { OnOk result (AreRunsPut (map run_of runs.now.items) (length runs.now.items) out.old.items out.new.items) }
-{
-    for run in runs {
-        put_run(out, &run.pairs)?;
-    }
-    Ok(())
-}
-
-/// Appends lists, one after the other, each behind its view pairs.
-pub(crate) fn put_lists(
-    out: &mut Vec<u8>,
-    kind: ListKind,
-    lists: &[NamedList],
-) -> Result<(), NoMemory>
-    requires sized { (k : ℕ) → k < length lists.now → IsSized kind (list_at (map to_write lists.now) k) }
-    requires ends { All (λ list. AreEnds list.expressions) lists.now }
-    ensures { OnOk result (AreListsPut kind (map to_write lists.now) (length lists.now) out.old.items out.new.items) }
-{
-    for list in lists {
-        put_runs(out, &list.views)?;
-        put_list(out, kind, list)?;
     }
     Ok(())
 }

@@ -1,18 +1,20 @@
 // Sections of lists written anew, by hand from the layouts of DWARF 5 sections 7.7.3, 7.25, 7.28 and 7.29.
-ghost use Rattle.std.specs.Prelude.{◌≡◌, ◌≤◌, ◌+◌, List, length, map, IfSome, IsTrue, OnOk};
-ghost use Rattle.std.specs.List.{All, sum_by};
+ghost use Rattle.std.specs.Prelude.{◌≡◌, ◌≤◌, ◌+◌, List, length, map, IfOk, IfSome, IsTrue, OnOk};
+ghost use Rattle.std.specs.List.{All, AllZip, sum_by};
 ghost use Rattle.list_model.specs.Contributions.{lists_at, IsContribution};
 ghost use Rattle.list_model.specs.Entries.{Entry};
 ghost use Rattle.list_least.specs.Plans.{ArePicks};
 ghost use Rattle.list_least.specs.Shortest.{FitsOperand};
-ghost use Rattle.list_write.specs.Written.{pieces, AreEnds, run_of, to_write, behind_size, pair_size, run_size, AllAreTold};
+ghost use Rattle.list_write.specs.Written.{pieces, AreEnds, IsPieceOf, run_of, to_write, behind_size, pair_size, run_size, AllAreTold};
 ghost use Rattle.list_write.specs.inside.Puts.{carried_count};
 ghost use Rattle.list_write.specs.inside.TestLists.{AreSized, IsEntry, AreEntries, AtsRise, IsHeld, AreHeld, HasList, AreTold, HasRoom};
 
 use crate::list::has_expression;
 use crate::part::{HEADER_SIZE, OFFSET_SIZE};
 use crate::places::front_size;
-use crate::{ListImage, Moved, NamedList, NewExpressions, ViewRun, kept_plan, write_lists};
+use crate::{
+    ListImage, Moved, NamedList, NewExpressions, ViewRun, WrittenPieces, assemble, kept_plan,
+};
 use dw_base::Span;
 use fixed_width::u32_at;
 use leb_codec::len_u;
@@ -246,6 +248,21 @@ fn has_room(section: &[u8], lists: &Vec<NamedList>) -> bool
     size < FIRST_RESERVED
 }
 
+// Lists, each written behind its view pairs.
+fn pieces_of(alloc: Global, kind: ListKind, lists: &Vec<NamedList>) -> Result<WrittenPieces, Fail>
+    requires sized { AreSized kind (map to_write lists.now.items) }
+    requires ends { All (λ list. AreEnds list.expressions) lists.now.items }
+    ensures { IfOk result (λ written. AllZip (IsPieceOf kind) (map to_write lists.now.items) written) }
+{
+    let mut written = WrittenPieces::new(alloc);
+    for list in lists {
+        let Ok(()) = written.push(kind, list) else {
+            return Err("no memory")?;
+        };
+    }
+    Ok(written)
+}
+
 // The image of a section with lists, which it names.
 fn written(
     alloc: Global,
@@ -267,7 +284,8 @@ fn written(
     {
         return Err("lists that can't be written")?;
     }
-    match write_lists(alloc, kind, section, parts, lists) {
+    let pieces = pieces_of(alloc, kind, lists)?;
+    match assemble(alloc, kind, section, parts, &pieces) {
         Ok(image) => Ok(image),
         Err(_) => Err("no memory")?,
     }

@@ -1,7 +1,7 @@
 -- The lists of a kind of a file can be written by their plans, with the new expressions of their items.
 use Rattle.std.proofs.Common.{◌≡◌, ◌≤◌, ◌<◌, ◌+◌, ◌*◌, ◌-◌, ◌^◌, ◌∙◌, ℕ, zero, suc, List, [], ◌∷◌, ◌++◌, length, get_or, map, cond, Bool, true, false, inl, inr, sym, ap, refl, subst, arith}
 use Rattle.std.specs.Prelude.{Option, Some}
-use Rattle.std.specs.List.{All, sum_by}
+use Rattle.std.specs.List.{sum_by}
 use Rattle.std.proofs.lemmas.Bool.{cases_lt}
 use Rattle.std.proofs.lemmas.List.{length-map, get_or_default, nil_from_length}
 use Rattle.std.proofs.lemmas.List.Elements.{All-get_or}
@@ -21,7 +21,7 @@ use Rattle.list_model.proofs.Tiling.{each_part, part_inside}
 use Rattle.loc_lists.specs.Locations.{is_item, items_among, bytes_in}
 use Rattle.list_write.specs.declared.image.Moved.{Moved}
 use Rattle.list_write.specs.declared.named.NamedList.{NamedList}
-use Rattle.list_write.specs.Written.{ToWrite, pieces, AreEnds, to_write, all_runs, run_size, own_size, full_size, behind_size, HasExpressions, IsToWrite, CanBeWritten, AreWritten}
+use Rattle.list_write.specs.Written.{ToWrite, pieces, AreEnds, to_write, all_runs, run_size, own_size, full_size, behind_size, HasExpressions, IsSized, IsToWrite, CanBeWritten, AreWritten}
 use Rattle.list_write.specs.Written.{part_at as old_part_at, list_at as written_at}
 use Rattle.unit_write.specs.declared.places.Places.{Places}
 use Rattle.value_links.specs.declared.lists.ListRead.{ListRead as HeldList}
@@ -107,6 +107,19 @@ module _ (r : Reading) (places : List Places) where
   carried Ranges old list held written plan made = nil_from_length written.expressions (made_count Ranges old written.expressions made)
   carried Locations old list held written plan made = made_items old written.expressions made ∙ items_kept old list held written plan list.meaning refl
 
+-- a list that is planned has its size
+pub planned_sized : (world : World) (places : List Places) (kind : ListKind) → IsWorldOf world.image Narrow world → (n : ℕ) → n < length (lists_held world kind) → (list : HeldList) → list ≡ get_or (lists_held world kind) n list → (one : NamedList) → one ≡ with_plan list one.plan one → IsPlanOf world kind list one.plan → AreExpressionsFor world places kind list one.expressions → IsSized kind (to_write one)
+planned_sized world places kind is n inside list at one named planned made =
+    let old : ListRead = list_at (lists_of is.r kind) n in
+    let held : IsHeld is.r.links kind old list = subst (λ (z : HeldList). IsHeld is.r.links kind old z) (sym at) ((is.holds.lists kind).each n list (omega (arith, inside, (is.holds.lists kind).count))) in
+    let plan : IsPlannedFor is.r kind old (to_write one) = subst (λ (z : NamedList). IsPlannedFor is.r kind old (to_write z)) (sym named) (planned is.r old one is.holds held) in
+    record {
+      entries = plan.entries;
+      picked = plan.picked;
+      bytes = plan.size;
+      carried = carried is.r places kind old list held (to_write one) plan (made.are is.r old is.holds held);
+    }
+
 -- ---- all lists
 
 module _ (world : World) (places : List Places) (kind : ListKind) (named : List NamedList) (planned : ArePlannedTo world places kind (length (lists_held world kind)) named) where
@@ -136,12 +149,6 @@ module _ (world : World) (places : List Places) (kind : ListKind) (named : List 
           writes_at = here.1;
         },
       )
-
-  -- each has its expressions one after the other
-  pub all_ends : All (λ (list : NamedList). AreEnds list.expressions) named
-  all_ends = λ k d inside.
-      let (list, one, at) = found_at k (omega (arith, planned.count, inside)) in
-      subst (λ (z : NamedList). AreEnds z.expressions) (sym (at.named_at d)) at.planned_as.expressions.ends
 
   module _ (r : Reading) (holds : Holds world.image world r) where
     abbrev olds : List ListRead

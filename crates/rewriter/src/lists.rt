@@ -10,7 +10,7 @@ ghost use Rattle.value_links.specs.Sections.{debug_addr, debug_lists};
 ghost use Rattle.value_links.specs.Reading.{Reading};
 ghost use Rattle.value_links.specs.World.{World as AnyWorld, IsWorldOf, Holds, lists_held};
 ghost use Rattle.rewriter.specs.inside.Held.{AllHavePlaces};
-ghost use Rattle.rewriter.specs.inside.Plans.{AreMapsFor, IsPlanOf, ArePotentialsOf, ArePlannedTo, AreRecordedTo, AreViewsUpTo};
+ghost use Rattle.rewriter.specs.inside.Plans.{AreMapsFor, IsPlanOf, ArePotentialsOf, ArePiecesPlanned, AreRecordedTo};
 ghost use Rattle.rewriter.specs.inside.Runs.{views_held, AreRunsWith};
 ghost use Rattle.rewriter.specs.inside.Lists.{AreListsWritten, AreListsRecorded};
 
@@ -20,7 +20,7 @@ use certificates::{Proof, put_record};
 use dw_base::NoMemory;
 use list_least::{Plan, least_in, shortest_lists};
 use list_model::{Item, ListKind, Meaning, entries_say};
-use list_write::{ListImage, NamedList, ViewRun, kept_plan, write_lists};
+use list_write::{ListImage, NamedList, ViewRun, WrittenPieces, assemble, kept_plan};
 use loc_lists::ViewPair;
 use std::alloc::Global;
 use unit_write::{Places, bytes_are_small};
@@ -150,44 +150,45 @@ fn record_plan(
     })
 }
 
-// The lists of a kind that something names, each with its plan, the new expressions of its items, and the view pairs that go with it.
-// Appends the records of those that aren't frozen.
-fn planned_lists(
+// The lists of a kind that something names, each written by its plan with the new expressions of its items, behind the view pairs
+// that go with it. Each is written as soon as it is planned, so that no more than one plan is held. Appends the records of those
+// that aren't frozen.
+fn write_pieces(
     alloc: Global,
     records: &mut Vec<u8>,
     world: &World<'_>,
     maps: &TableMaps,
     places: &Vec<Places>,
     kind: ListKind,
-) -> Result<Vec<NamedList>, NoMemory>
+) -> Result<WrittenPieces, NoMemory>
     requires world { IsWorldOf world.now.image Narrow world.now }
     requires maps { AreMapsFor world.now (debug_addr world.now.image) maps.now }
     requires placed { AllHavePlaces world.now places.now.items }
     requires none { records.old.items ≡ [] }
-    ensures planned { IfOk result (λ lists. ArePlannedTo world.now places.now.items kind (length (lists_held world.now kind)) lists.items) }
-    ensures viewed { IfOk result (λ lists. AreViewsUpTo (lists_held world.now kind) (views_held world.now kind) lists.items (length (views_held world.now kind))) }
-    ensures recorded { IfOk result (λ lists. AreRecordedTo world.now kind (length (lists_held world.now kind)) records.new.items) }
+    ensures planned { IfOk result (λ pieces. ArePiecesPlanned world.now places.now.items kind (length (lists_held world.now kind)) (length (views_held world.now kind)) pieces) }
+    ensures recorded { IfOk result (λ pieces. AreRecordedTo world.now kind (length (lists_held world.now kind)) records.new.items) }
 {
     let addr = world.section(b".debug_addr");
     let section = section_of(world, kind);
     let views = views_for(world, kind);
     let mut next = 0;
-    let mut lists: Vec<NamedList> = Vec::new(alloc);
+    let mut pieces = WrittenPieces::new(alloc);
     for list in world.lists(kind) {
         let planned = plan_of(alloc, world, maps, addr, kind, list)?;
         let plan = record_plan(alloc, records, list, planned)?;
         let expressions = new_expressions(alloc, world, places, kind, list, section)?;
         let runs = runs_with(alloc, &views[next..], list.at)?;
         next += runs.len();
-        lists.push(NamedList {
+        let named = NamedList {
             part: list.part,
             at: list.at,
             plan,
             expressions,
             views: runs,
-        })?;
+        };
+        pieces.push(kind, &named)?;
     }
-    Ok(lists)
+    Ok(pieces)
 }
 
 // The section of lists of a kind.
@@ -227,9 +228,9 @@ pub fn write_kind(
     ensures fits { IfOk result (λ new. length new.image.bytes.items < least_reserved) }
 {
     let mut records = Vec::new(alloc);
-    let lists = planned_lists(alloc, &mut records, world, maps, places, kind)?;
+    let pieces = write_pieces(alloc, &mut records, world, maps, places, kind)?;
     let section = section_of(world, kind);
     let parts = world.contributions(kind);
-    let image = write_lists(alloc, kind, section, parts, &lists)?;
+    let image = assemble(alloc, kind, section, parts, &pieces)?;
     Ok(WrittenLists { image, records })
 }

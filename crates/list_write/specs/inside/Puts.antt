@@ -17,11 +17,13 @@ use Rattle.list_model.specs.declared.entry.Operand.{Operand}
 use Rattle.list_model.specs.Contributions.{offsets_at, offset_place}
 use Rattle.list_model.specs.Costs.{operand_bytes}
 use Rattle.list_model.specs.Entries.{Entry, SpellsOperand}
-use Rattle.list_least.specs.Plans.{entries_bytes, ArePicks}
+use Rattle.list_least.specs.Plans.{ArePicks}
 use Rattle.list_least.specs.Shortest.{ShortestEntry}
 use Rattle.list_write.specs.declared.image.Moved.{Moved}
-use Rattle.list_write.specs.Written.{Run, ToWrite, HasExpressions, ShortestWith, behind_size, part_at, list_at, moved_at, run_at}
-use Rattle.list_write.specs.inside.Places.{front_sizes, run_sizes, views_size, list_sizes, whole_at, IsFirst}
+use Rattle.list_write.specs.declared.pieces.ListExtent.{ListExtent}
+use Rattle.list_write.specs.declared.pieces.RunExtent.{RunExtent}
+use Rattle.list_write.specs.Written.{Run, ToWrite, CanBeWritten, ShortestWith, behind_size, part_at, list_at, moved_at, run_at}
+use Rattle.list_write.specs.inside.Places.{front_sizes, run_sizes, views_size, list_sizes, whole_at, IsFirst, AreExtentsOf}
 
 -- the bytes spell the operand, without padding
 abbrev pub ShortestOperand : Operand → ℕ → List ℕ → Type 0
@@ -144,9 +146,14 @@ pub record AreWrittenTo (kind : ListKind) (section : List ℕ) (parts : List Con
   pub slots : (q slot : ℕ) → q < p → slot < (part_at parts q).slots → SlotStands section parts new_parts moved q slot bytes
   pub each : (k : ℕ) → k < first → WholeStands kind (list_at lists k) (whole_at parts lists k) bytes
 
--- a list has entries, and they take so many bytes without padding, with the end
-pub record IsSized (kind : ListKind) (list : ToWrite) : Type 0 where
-  pub entries : List Entry
-  pub picked : ArePicks kind list.picks entries
-  pub bytes : list.size ≡ entries_bytes entries + 1
-  pub carried : HasExpressions kind entries list.expressions
+-- lists can be written, and all are put one after the other; these are their extents
+pub record AreReady (kind : ListKind) (section : List ℕ) (parts : List Contribution) (lists : List ToWrite) (extents : List ListExtent) (runs : List RunExtent) (bytes : List ℕ) : Type 0 where
+  pub can : CanBeWritten kind section parts lists
+  pub extents_are : AreExtentsOf lists extents runs
+  pub put : AreListsPut kind lists (length lists) [] bytes
+
+-- so many contributions are written with their lists, whose bytes end at a place among those of all lists
+pub record AreCopiedTo (kind : ListKind) (section : List ℕ) (parts : List Contribution) (lists : List ToWrite) (new_parts : List Contribution) (moved : List Moved) (p from : ℕ) (bytes : List ℕ) : Type 0 where
+  pub first : ℕ
+  pub is : from ≡ list_sizes lists first
+  pub written : AreWrittenTo kind section parts lists new_parts moved p first bytes

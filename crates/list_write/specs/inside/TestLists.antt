@@ -9,9 +9,9 @@ use Rattle.list_model.specs.declared.entry.RawEntry.{RawEntry}
 use Rattle.list_model.specs.Contributions.{offsets_at, HoldsList}
 use Rattle.list_model.specs.Entries.{Entry, Says, AreSaid}
 use Rattle.list_least.specs.Shortest.{FitOperands}
-use Rattle.list_write.specs.Written.{ToWrite, part_at, list_at}
+use Rattle.list_write.specs.Written.{ToWrite, IsSized, part_at, list_at}
 use Rattle.list_write.specs.inside.Places.{size_of}
-use Rattle.list_write.specs.inside.Puts.{told_at, IsSized}
+use Rattle.list_write.specs.inside.Puts.{told_at}
 
 -- some bytes spell what is read of an entry
 pub record IsEntry (kind : ListKind) (raw : RawEntry) : Type 0 where

@@ -11,7 +11,7 @@ use Rattle.list_least.specs.declared.plan.Plan.{Plan}
 use Rattle.list_least.specs.Maps.{pair_at, IsMapOf}
 use Rattle.list_write.specs.declared.named.NamedList.{NamedList}
 use Rattle.list_write.specs.declared.named.NewExpressions.{NewExpressions}
-use Rattle.list_write.specs.Written.{AreEnds, pieces, to_write, all_runs, runs_before, list_at}
+use Rattle.list_write.specs.Written.{AreEnds, Piece, IsPieceOf, pieces, to_write, all_runs, runs_before, list_at}
 use Rattle.unit_write.specs.declared.places.Places.{Places}
 use Rattle.value_links.specs.declared.lists.ListRead.{ListRead as HeldList}
 use Rattle.value_links.specs.declared.views.ViewRead.{ViewRead as HeldViews}
@@ -22,7 +22,7 @@ use Rattle.value_links.specs.World.{World, lists_held, Holds, HoldsList}
 use Rattle.rewriter.specs.declared.table_maps.TableMap.{TableMap}
 use Rattle.rewriter.specs.declared.table_maps.TableMaps.{TableMaps}
 use Rattle.rewriter.specs.inside.Lists.{IsPlannedFor, IsRecordedFor, AreNewExpressions}
-use Rattle.rewriter.specs.inside.Runs.{run_held}
+use Rattle.rewriter.specs.inside.Runs.{run_held, views_held}
 
 -- TABLES
 
@@ -117,3 +117,10 @@ pub record AreViewsUpTo (lists : List HeldList) (views : List HeldViews) (named 
 pub record ArePlannedTo (world : World) (places : List Places) (kind : ListKind) (n : ℕ) (named : List NamedList) : Type 0 where
   pub count : length named ≡ n
   pub each : (k : ℕ) (d : HeldList) (e : NamedList) → k < n → IsPlannedAs world places kind (slice_index_or (lists_held world kind) k d) (slice_index_or named k e)
+
+-- The first lists are written, each by a plan, with expressions and behind its view pairs, which are so many of the first of all.
+pub record ArePiecesPlanned (world : World) (places : List Places) (kind : ListKind) (n next : ℕ) (those : List Piece) : Type 0 where
+  pub named : List NamedList
+  pub planned : ArePlannedTo world places kind n named
+  pub viewed : AreViewsUpTo (lists_held world kind) (views_held world kind) named next
+  pub written : AllZip (IsPieceOf kind) (map to_write named) those

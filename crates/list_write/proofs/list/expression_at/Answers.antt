@@ -1,5 +1,5 @@
 use Rattle.std.proofs.Common.{◌≡◌, ◌≤◌, ◌-◌, ◌∙◌, ℕ, List, length, get_or, take, drop, sym, ap, arith}
-use Rattle.list_write.proofs.Pieces.{start_at, start_before, piece_inside, piece_at}
+use Rattle.list_write.proofs.ExpressionPieces.{start_at, start_before, piece_inside, piece_at}
 use Rattle.list_write.proofs.list.expression_at.Goals.{in-Some, in-None}
 use Rattle.list_write.proofs.list.expression_at.Goals as goal
 

@@ -7,7 +7,7 @@ use Rattle.list_write.specs.Written.{pieces, to_write}
 use Rattle.list_write.specs.inside.Puts.{AreEntriesPut}
 use Rattle.list_write.proofs.ApartLaws.{next_inside, counted_most, list_ended}
 use Rattle.list_write.proofs.Entries.{no_entry, picked_at, picked_count, has_picked}
-use Rattle.list_write.proofs.Pieces.{pieces_count}
+use Rattle.list_write.proofs.ExpressionPieces.{pieces_count}
 use Rattle.list_write.proofs.Putting.{plain_put, carrying_put}
 use Rattle.list_write.proofs.list.put_list.Goals.{then-has_expression+in_ok-put_expression, else-has_expression}
 use Rattle.list_write.proofs.list.put_list.Goals as goal

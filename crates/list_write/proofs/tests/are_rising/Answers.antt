@@ -2,8 +2,7 @@ use Rattle.std.proofs.Common.{◌≡◌, ◌<◌, ◌-◌, ℕ, length, map, ap,
 use Rattle.std.proofs.lemmas.Bool.{cases_lt}
 use Rattle.std.proofs.lemmas.List.{length-map}
 use Rattle.list_write.specs.Written.{ToWrite, to_write, list_at}
-use Rattle.list_write.proofs.Placing.{to_write_at}
-use Rattle.list_write.proofs.TestLists.{ats_rise}
+use Rattle.list_write.proofs.TestLists.{to_write_at, ats_rise}
 use Rattle.list_write.proofs.tests.are_rising.Goals as goal
 
 pub loop-number-preserved : goal.loop-number-preserved

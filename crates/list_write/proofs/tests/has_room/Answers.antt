@@ -2,7 +2,8 @@ use Rattle.std.proofs.Common.{◌≡◌, ◌<◌, length, List, map, ap, subst, 
 use Rattle.std.proofs.lemmas.List.{length-map}
 use Rattle.list_write.specs.declared.named.NamedList.{NamedList}
 use Rattle.list_write.specs.Written.{to_write, full_size, list_at}
-use Rattle.list_write.proofs.Placing.{to_write_at, sizes_more}
+use Rattle.list_write.proofs.Placing.{sizes_more}
+use Rattle.list_write.proofs.TestLists.{to_write_at}
 use Rattle.list_write.proofs.tests.has_room.Goals as goal
 
 pub loop-list-preserved : goal.loop-list-preserved

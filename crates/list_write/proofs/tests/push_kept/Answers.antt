@@ -1,10 +1,10 @@
 use Rattle.std.proofs.Common.{◌≡◌, List, length, map, sym, subst, arith}
 use Rattle.list_write.specs.declared.named.NamedList.{NamedList}
-use Rattle.list_write.specs.Written.{pieces, to_write}
-use Rattle.list_write.specs.inside.Puts.{carried_count, IsSized}
+use Rattle.list_write.specs.Written.{IsSized, pieces, to_write}
+use Rattle.list_write.specs.inside.Puts.{carried_count}
 use Rattle.list_write.specs.inside.TestLists.{AreSized}
 use Rattle.list_write.proofs.ApartLaws.{has_all}
-use Rattle.list_write.proofs.Pieces.{pieces_count}
+use Rattle.list_write.proofs.ExpressionPieces.{pieces_count}
 use Rattle.list_write.proofs.TestLists.{sized_more}
 use Rattle.list_write.proofs.tests.push_kept.Goals as goal
 
