@@ -99,5 +99,7 @@ pub fn location_items(
     if walk.dead {
         return Ok(Meaning::Dead);
     }
+    // All lists of a file are held at once.
+    walk.items.shrink_to_fit();
     Ok(Meaning::Live(Items::new(walk.items)))
 }

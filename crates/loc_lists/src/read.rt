@@ -115,6 +115,8 @@ pub fn read_locations(
     let mut place = at as usize;
     loop {
         let Some(read) = read_location(bytes, place, origin)? else {
+            // All lists of a file are held at once.
+            raws.shrink_to_fit();
             return Ok(raws);
         };
         if raws.len() == list_entry_limit(reach) {

@@ -89,5 +89,7 @@ pub fn read_views(
         push(&mut pairs, first.value, last.value)?;
         place = last.end;
     }
+    // All view pairs of a file are held at once.
+    pairs.shrink_to_fit();
     Ok(pairs)
 }

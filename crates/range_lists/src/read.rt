@@ -55,6 +55,8 @@ pub fn read_ranges(
     let mut place = at as usize;
     loop {
         let Some(read) = read_entry(ListKind::Ranges, bytes, place, origin)? else {
+            // All lists of a file are held at once.
+            raws.shrink_to_fit();
             return Ok(raws);
         };
         if raws.len() == list_entry_limit(reach) {

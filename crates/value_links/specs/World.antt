@@ -77,6 +77,10 @@ abbrev pub contributions_held : World → ListKind → List Contribution
 contributions_held world Ranges = world.range_parts
 contributions_held world Locations = world.location_parts
 
+-- the contribution with a number; past the end there is none, and an empty one stands for it
+abbrev pub contribution_at : World → ListKind → ℕ → Contribution
+contribution_at world kind p = slice_index_or (contributions_held world kind) p (record { at = 0; len = 0; slots = 0 })
+
 abbrev pub lists_held : World → ListKind → List HeldList
 lists_held world Ranges = world.ranges
 lists_held world Locations = world.locations

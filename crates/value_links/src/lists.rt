@@ -412,5 +412,6 @@ pub(crate) fn read_lists(
         from += named.len();
         lists.push(counted.list)?;
     }
+    lists.shrink_to_fit();
     Ok(NamedLists { lists, totals })
 }

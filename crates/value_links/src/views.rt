@@ -310,6 +310,7 @@ fn read_runs(
         )?;
         push_run(&mut views, run)?;
     }
+    views.shrink_to_fit();
     Ok(views)
 }
 

@@ -16,7 +16,7 @@ ghost use Rattle.line_write.specs.Readings.{AreRead};
 ghost use Rattle.companions.specs.declared.set.ArangeSet.{ArangeSet as AnySet};
 ghost use Rattle.companions.specs.Aranges.{SetsTile};
 ghost use Rattle.value_links.specs.Sections.{body_named, offset_named, debug_line, debug_addr, debug_lists, debug_aranges, addr_name, lists_name};
-ghost use Rattle.value_links.specs.Reading.{Linkable, Reading, ListRead as AnyRead, ViewRead as AnyViews, unit_at, context_at, lists_of};
+ghost use Rattle.value_links.specs.Reading.{Linkable, Reading, ListRead as AnyRead, ViewRead as AnyViews, of_kind, unit_at, context_at, lists_of};
 ghost use Rattle.list_model.specs.declared.entry.ListKind.TheVariants.{Locations};
 ghost use Rattle.loc_lists.specs.Views.{view_limit};
 ghost use Rattle.value_links.specs.Lists.{IsFrozen, AreListsOf, AreViewsRead, pair_total};
@@ -29,7 +29,8 @@ ghost use Rattle.value_links.specs.Parts.{HoldsParts};
 ghost use Rattle.value_links.specs.inside.ListPlaces.{AreContributions};
 ghost use Rattle.value_links.specs.Whole.{AreAddressesRead};
 ghost use Rattle.value_links.specs.inside.Passes.{starts_of, ArePartsRead, ArePartsInOrder, HoldAllLists, NamesLaterFault};
-ghost use Rattle.value_links.specs.World.{World, Holds, HoldLists, HoldViews, contributions_held, lists_held, table_at, IsWorldOf, HaveOperations};
+ghost use Rattle.value_links.specs.ListPlaces.{IsSlot};
+ghost use Rattle.value_links.specs.World.{World, Holds, HoldLists, HoldViews, contributions_held, contribution_at, lists_held, table_at, IsWorldOf, HaveOperations};
 ghost use Rattle.value_links.specs.Operations.{NamesSectionEntry};
 ghost use Rattle.value_links.specs.inside.Checks.{IsNoExpr};
 ghost use Rattle.value_links.specs.inside.World.{own_table, AreListsApart};
@@ -452,6 +453,17 @@ impl<'a> World<'a> {
         ensures { result.now ≡ lists_held self.now kind }
     {
         self.lists_by_place(kind)
+    }
+
+    /// The place that a slot of a contribution to the section of lists of a kind tells, where all three count from 0: the one of the
+    /// slots and the other of the contributions in their order, and the place from the first byte of the section (DWARF 5 sections
+    /// 7.28 and 7.29).
+    pub fn told(&self, kind: ListKind, part: u32, slot: u32) -> u64
+        requires part { part < length (contributions_held self.now kind) }
+        requires slot { slot < (contribution_at self.now kind part).slots }
+        ensures { (file : List ℕ) (r : Reading) → Holds file self.now r → IsSlot (of_kind r.links kind) part slot result }
+    {
+        told_by(self.parts.lists(kind), part, slot)
     }
 
     /// Whether the list of a kind that begins at a place is frozen: a start or an end in it is a sum of 2^64 or more, units with

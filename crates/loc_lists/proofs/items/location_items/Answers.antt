@@ -1,4 +1,4 @@
-use Rattle.std.proofs.Common.{◌≡◌, ◌<◌, ◌+◌, ℕ, List, length, get_or, suc, sym, subst, arith, rules}
+use Rattle.std.proofs.Common.{◌≡◌, ◌∙◌, ◌<◌, ◌+◌, ℕ, List, length, get_or, suc, sym, subst, arith, rules}
 use Rattle.std.proofs.lemmas.Result.{err_from_is_err_and}
 use Rattle.list_model.specs.declared.entry.RawEntry.{RawEntry}
 use Rattle.list_model.specs.declared.item.Item.{Item}
@@ -53,7 +53,7 @@ returns-then-walk-clause-whole c =
 
 pub returns-clause-meaning : goal.returns-clause-meaning
 returns-clause-meaning c =
-    subst (λ (z : List Item). IsMeaning c.args.addr.now c.args.context.now c.args.raw.now.items (Live z)) (sym c.new-2.ensures)
+    subst (λ (z : List Item). IsMeaning c.args.addr.now c.args.context.now c.args.raw.now.items (Live z)) (sym c.shrink_to_fit.ensures.items ∙ sym c.new-2.ensures)
     (all_live c.args.addr.now c.args.context.now c.args.raw.now.items c.deref-entry-items.result.now c.loop-entry.entry-index c.loop-entry.walk c.deref-entry-items.ensures.value c.loop-entry.auto.entry-index-end c.loop-entry-test.false c.if-walk.false c.loop-entry.invariant)
 
 pub returns-clause-whole : goal.returns-clause-whole

@@ -6,6 +6,7 @@ use Rattle.std.proofs.lemmas.Result.{err_from_is_err_and}
 use Rattle.list_model.specs.declared.entry.RawEntry.{RawEntry}
 use Rattle.list_model.specs.Contributions.{part_end}
 use Rattle.list_model.specs.Reading.{list_entry_limit}
+use Rattle.loc_lists.specs.Locations.{IsLocationList, AreLocationEntries}
 use Rattle.loc_lists.proofs.LocationReads.{part_within, IsFront, no_front, front_push, front_known, front_list, front_fault, full_front, span_within}
 use Rattle.loc_lists.proofs.read.read_locations.Goals as goal
 
@@ -25,11 +26,13 @@ loop-raws-init c =
 
 pub returns-in_default-clause-entries : goal.returns-in_default-clause-entries
 returns-in_default-clause-entries c =
-    front_list c.args.section.now c.args.part.now c.args.at c.loop-raws.place c.loop-raws.raws.items c.requires.inside c.loop-raws.invariant.front (rw c.in_default.is at c.in_ok-read.ensures.location)
+    subst (λ (z : List RawEntry). IsLocationList c.args.section.now c.args.part.now c.args.at z) (sym c.shrink_to_fit.ensures.items)
+    (front_list c.args.section.now c.args.part.now c.args.at c.loop-raws.place c.loop-raws.raws.items c.requires.inside c.loop-raws.invariant.front (rw c.in_default.is at c.in_ok-read.ensures.location))
 
 pub returns-in_default-clause-known : goal.returns-in_default-clause-known
 returns-in_default-clause-known c =
-    front_known (take (part_end c.args.part.now) c.args.section.now) c.args.at c.loop-raws.place c.loop-raws.raws.items c.loop-raws.invariant.front
+    subst AreLocationEntries (sym c.shrink_to_fit.ensures.items)
+    (front_known (take (part_end c.args.part.now) c.args.section.now) c.args.at c.loop-raws.place c.loop-raws.raws.items c.loop-raws.invariant.front)
 
 pub returns-in_default-clause-whole : goal.returns-in_default-clause-whole
 returns-in_default-clause-whole c =

@@ -4,7 +4,7 @@ use Rattle.std.proofs.lemmas.Result.{err_from_is_err_and}
 use Rattle.dw_base.specs.Refusals.{IsFaulty}
 use Rattle.list_model.specs.Contributions.{part_end}
 use Rattle.loc_lists.specs.declared.views.ViewPair.{ViewPair}
-use Rattle.loc_lists.specs.Views.{view_limit, FaultViews}
+use Rattle.loc_lists.specs.Views.{view_limit, FaultViews, IsRunAt}
 use Rattle.loc_lists.proofs.ViewReads.{IsFront, front_push, front_run, first_fault, second_fault}
 use Rattle.loc_lists.proofs.views.read_views.Goals as goal
 
@@ -40,7 +40,9 @@ loop-preserved c =
     }
 
 pub returns-clause-pairs : goal.returns-clause-pairs
-returns-clause-pairs c = front_run c.args.section.now c.args.part.now c.args.at c.loop.place c.loop.pairs.items c.requires.inside c.loop.invariant.front
+returns-clause-pairs c =
+    subst (λ (z : List ViewPair). IsRunAt c.args.section.now c.args.part.now c.args.at z) (sym c.shrink_to_fit.ensures.items)
+    (front_run c.args.section.now c.args.part.now c.args.at c.loop.place c.loop.pairs.items c.requires.inside c.loop.invariant.front)
 
 pub returns-clause-whole : goal.returns-clause-whole
 returns-clause-whole c =

@@ -6,6 +6,7 @@ use Rattle.std.proofs.lemmas.Result.{err_from_is_err_and}
 use Rattle.list_model.specs.declared.entry.RawEntry.{RawEntry}
 use Rattle.list_model.specs.Contributions.{part_end}
 use Rattle.list_model.specs.Reading.{list_entry_limit}
+use Rattle.range_lists.specs.Ranges.{IsRangeList, AreRangeEntries}
 use Rattle.range_lists.proofs.RangeReads.{part_within, IsFront, no_front, front_push, front_known, front_list, front_fault, full_front}
 use Rattle.range_lists.proofs.read.read_ranges.Goals as goal
 
@@ -24,11 +25,13 @@ loop-raws-init c =
 
 pub returns-in_default-clause-entries : goal.returns-in_default-clause-entries
 returns-in_default-clause-entries c =
-    front_list c.args.section.now c.args.part.now c.args.at c.loop-raws.place c.loop-raws.raws.items c.requires.inside c.loop-raws.invariant.front (rw c.in_default.is at c.in_ok-read.ensures.entry)
+    subst (λ (z : List RawEntry). IsRangeList c.args.section.now c.args.part.now c.args.at z) (sym c.shrink_to_fit.ensures.items)
+    (front_list c.args.section.now c.args.part.now c.args.at c.loop-raws.place c.loop-raws.raws.items c.requires.inside c.loop-raws.invariant.front (rw c.in_default.is at c.in_ok-read.ensures.entry))
 
 pub returns-in_default-clause-known : goal.returns-in_default-clause-known
 returns-in_default-clause-known c =
-    front_known (take (part_end c.args.part.now) c.args.section.now) c.args.at c.loop-raws.place c.loop-raws.raws.items c.loop-raws.invariant.front
+    subst AreRangeEntries (sym c.shrink_to_fit.ensures.items)
+    (front_known (take (part_end c.args.part.now) c.args.section.now) c.args.at c.loop-raws.place c.loop-raws.raws.items c.loop-raws.invariant.front)
 
 pub returns-in_default-clause-whole : goal.returns-in_default-clause-whole
 returns-in_default-clause-whole c =

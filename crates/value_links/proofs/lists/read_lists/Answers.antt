@@ -3,7 +3,9 @@ use Rattle.std.proofs.lemmas.Result.{err_from_is_err_and}
 use Rattle.value_links.specs.declared.lists.ListRead.{ListRead as HeldList}
 use Rattle.value_links.specs.Reading.{ListSection, ListRead, Linkable}
 use Rattle.value_links.specs.ListFaults.{FaultOfKind, AreEarlier}
+use Rattle.value_links.specs.Lists.{AreListsOf, AreWithinReach}
 use Rattle.value_links.specs.Parts.{HoldsParts, lists_in, section_held}
+use Rattle.value_links.specs.World.{HoldLists}
 use Rattle.value_links.specs.inside.Namings.{FaultSlots, IsSomeNaming}
 use Rattle.value_links.specs.inside.ListExpressions.{FaultExpressionsBy}
 use Rattle.value_links.specs.inside.NamedLists.{FaultNamed, AreCounted, no_totals, AreReadUpTo, AreExprsReadUpTo, IsNext}
@@ -84,4 +86,5 @@ returns-clause-lists c = λ (file : List ℕ) (r : Linkable) (holds : HoldsParts
     let namings : List (ℕ × ℕ) = c.in_ok-namings.namings.items in
     let few : length c.args.parts.now.units.units.items < 2 ^ 32 = some_few c.args.parts.now.units (c.args.info.now, c.args.abbrevs.now, c.requires.held) in
     let whole : length namings ≤ c.loop-from.from = omega (arith, c.in_ok-namings.namings.ok.0, c.len.ensures, c.loop-from-test.false) in
-    lists_are file r c.args.parts.now holds c.args.kind namings (c.in_ok-namings.ensures.all file r holds) few c.args.reach c.args.before.now c.loop-from.from c.loop-from.lists.items c.loop-from.totals c.loop-from.invariant.up c.loop-from.invariant.exprs whole
+    subst (λ (z : List HeldList). (read : List ListRead) × AreListsOf r c.args.kind read × HoldLists r c.args.kind read z × AreCounted c.args.before.now read c.loop-from.totals × AreWithinReach r c.args.kind c.args.reach read) (sym c.shrink_to_fit.ensures.items)
+    (lists_are file r c.args.parts.now holds c.args.kind namings (c.in_ok-namings.ensures.all file r holds) few c.args.reach c.args.before.now c.loop-from.from c.loop-from.lists.items c.loop-from.totals c.loop-from.invariant.up c.loop-from.invariant.exprs whole)
