@@ -1,18 +1,19 @@
 -- Potentials, from the last one to the first.
-use Rattle.std.proofs.Common.{◌≡◌, ◌≤◌, ◌<◌, ◌+◌, ◌-◌, ◌∙◌, ◌⊎◌, ℕ, zero, suc, List, [], ◌∷◌, length, take, drop, get_or, sym, ap, refl, subst, arith, inl, inr}
-use Rattle.std.specs.Prelude.{min, map, reverse}
+use Rattle.std.proofs.Common.{◌≡◌, ◌≤◌, ◌<◌, ◌+◌, ◌-◌, ◌∙◌, ◌⊎◌, ℕ, zero, suc, List, [], ◌∷◌, length, take, drop, get_or, sym, ap, subst, arith, inl, inr}
+use Rattle.std.specs.Prelude.{min, map}
 use Rattle.std.proofs.lemmas.Bool.{cases_lt}
-use Rattle.std.proofs.lemmas.List.{drop_more, drop_all}
+use Rattle.std.proofs.lemmas.List.{drop_more}
 use Rattle.leb_codec.specs.LineCosts.{IsLeastCost}
 use Rattle.list_model.specs.declared.context.Context.{Context}
 use Rattle.list_model.specs.declared.item.Item.{Item}
 use Rattle.list_model.specs.Items.{Bounds}
 use Rattle.list_model.specs.Costs.{ItemsWithin}
-use Rattle.list_model.specs.Potentials.{potential, OnFrom, AreGreatest}
+use Rattle.list_model.specs.Potentials.{potential, OnFrom}
 use Rattle.list_least.specs.declared.runs.Run.{Run}
 use Rattle.list_least.specs.declared.cheapest.Choice.{Choice}
 use Rattle.list_least.specs.Plans.{bounds_of}
-use Rattle.list_least.specs.inside.Search.{run_at, ItemFirst, IsLess, AreLeft, AreLeftBehind, IsLowered, IsBackTo, IsChoiceAt, IsChosen, AreChosen}
+use Rattle.list_least.specs.Tails.{run_at, AreLeft}
+use Rattle.list_least.specs.inside.Search.{ItemFirst, AreLeftBehind, IsLowered, IsChoiceAt, IsChosen}
 
 -- ---- an item before items
 
@@ -70,57 +71,11 @@ pub end_least : (addr : List ℕ) (context : Context) (base n taken bytes : ℕ)
 end_least addr context base n zero bytes within sum = omega (arith, sum)
 end_least addr context base n (suc taken) bytes within sum = absurd (omega (arith, within))
 
-pub end_back : (addr : List ℕ) (context : Context) (items : List Bounds) (potentials : List ℕ) (runs : List Run) → items ≡ [] → potentials ≡ [] → runs ≡ record { upto = 18446744073709551615; gain = 0 } ∷ [] → IsBackTo addr context items potentials 1 1 0 runs
-end_back addr context items potentials runs e f g =
-    let r : Run = record { upto = 18446744073709551615; gain = 0 } in
-    let done : IsBackTo addr context [] [] 1 1 0 (r ∷ []) = record {
-      same = refl;
-      first_is = refl;
-      greatest = refl;
-      left = λ i base inside.
-          let z : i ≡ 0 = omega (arith, inside.inside) in
-          subst (λ (k : ℕ). IsLess (OnFrom addr context base [] []) 1 (run_at (r ∷ []) k).gain) (sym z) (
-            omega arith,
-            record {
-              enough = record { taken = 0; bytes = 0; within = omega arith; enough = tt; sum = omega arith };
-              least = λ n on. end_least addr context base n on.taken on.bytes on.within on.sum;
-            },
-          );
-      top = record { some = omega arith; first = refl };
-      down = λ i lt. absurd (omega (arith, lt));
-      few = omega arith;
-      little = omega arith;
-      gains = λ i lt. let z : i ≡ 0 = omega (arith, lt) in subst (λ (k : ℕ). (run_at (r ∷ []) k).gain ≤ 0) (sym z) (omega arith);
-      low = omega arith;
-    } in
-    subst (λ (z : List Bounds). IsBackTo addr context z potentials 1 1 0 runs) (sym e) (subst (λ (z : List ℕ). IsBackTo addr context [] z 1 1 0 runs) (sym f) (subst (λ (z : List Run). IsBackTo addr context [] [] 1 1 0 z) (sym g) done))
-
 -- the items of a list, as they are read
-pub none_after : (items : List Item) (i : ℕ) → i ≡ length items → map bounds_of (drop i items) ≡ []
-none_after items i e = ap (map bounds_of) (drop_all i items (omega (arith, e)))
-
 pub one_before_count : (items : List Item) (i count : ℕ) (d : Item) → count ≡ i + 1 → i < length items → map bounds_of (drop i items) ≡ bounds_of (get_or items i d) ∷ map bounds_of (drop count items)
 one_before_count items i count d e lt = ap (map bounds_of) (drop_more items i d lt) ∙ ap (λ z. bounds_of (get_or items i d) ∷ map bounds_of (drop z items)) (sym e)
-
-pub size_seen : (addr : List ℕ) (context : Context) (items : List Item) (count : ℕ) (old : List ℕ) (p under most size : ℕ) (runs seen : List Run) → seen ≡ runs → count ≡ 0 → IsBackTo addr context (map bounds_of (drop count items)) old p under most runs → ((ad : List ℕ) (co : Context) (is : List Bounds) (ps : List ℕ) → AreLeft ad co is ps under seen → IsLeastCost (OnFrom ad co context.base is ps) size) → IsLeastCost (OnFrom addr context context.base (map bounds_of items) (reverse old)) size
-size_seen addr context items count old p under most size runs seen s z back least =
-    let b : IsBackTo addr context (map bounds_of (drop 0 items)) old p under most runs = subst (λ (n : ℕ). IsBackTo addr context (map bounds_of (drop n items)) old p under most runs) z back in
-    least addr context (map bounds_of items) (reverse old) (subst (λ (r : List Run). AreLeft addr context (map bounds_of items) (reverse old) under r) (sym s) b.left)
-
-pub greatest_at : (addr : List ℕ) (context : Context) (items : List Item) (count : ℕ) (old : List ℕ) (p under most : ℕ) (runs : List Run) → count ≡ 0 → IsBackTo addr context (map bounds_of (drop count items)) old p under most runs → AreGreatest addr context (map bounds_of items) (reverse old)
-greatest_at addr context items count old p under most runs z back =
-    let b : IsBackTo addr context (map bounds_of (drop 0 items)) old p under most runs = subst (λ (n : ℕ). IsBackTo addr context (map bounds_of (drop n items)) old p under most runs) z back in
-    b.greatest
 
 -- ---- the bases that are set
 
 pub chosen_step : (addr : List ℕ) (context : Context) (item : Bounds) (items : List Bounds) (ps : List ℕ) (under : ℕ) (runs : List Run) (choice : Choice) → AreLeftBehind addr context item items ps under runs 0 → IsChoiceAt addr context under runs choice → IsChosen addr context item items ps choice
 chosen_step addr context item items ps under runs choice behind at = record { set = at.set; left = under - (run_at runs at.i).gain; is = at.is; behind = (behind at.i choice.base at.in_run (omega arith)).1; sum = at.sum }
-
-pub chosen_none : (addr : List ℕ) (context : Context) (items : List Bounds) (potentials : List ℕ) (choices : List Choice) → items ≡ [] → potentials ≡ [] → choices ≡ [] → AreChosen addr context items (reverse potentials) (reverse choices)
-chosen_none addr context items potentials choices e f g =
-    let done : AreChosen addr context [] (reverse []) (reverse []) = tt in
-    subst (λ (z : List Bounds). AreChosen addr context z (reverse potentials) (reverse choices)) (sym e) (subst (λ (z : List ℕ). AreChosen addr context [] (reverse z) (reverse choices)) (sym f) (subst (λ (z : List Choice). AreChosen addr context [] (reverse []) (reverse z)) (sym g) done))
-
-pub chosen_at : (addr : List ℕ) (context : Context) (items : List Item) (count : ℕ) (ps : List ℕ) (choices : List Choice) → count ≡ 0 → AreChosen addr context (map bounds_of (drop count items)) ps choices → AreChosen addr context (map bounds_of items) ps choices
-chosen_at addr context items count ps choices z h = subst (λ (n : ℕ). AreChosen addr context (map bounds_of (drop n items)) ps choices) z h

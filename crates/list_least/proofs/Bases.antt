@@ -15,7 +15,8 @@ use Rattle.std.proofs.lemmas.Option.{same_Some}
 use Rattle.list_model.specs.Costs.{entry_bytes, BaseWithin}
 use Rattle.list_least.specs.declared.runs.Run.{Run}
 use Rattle.list_least.specs.Maps.{HasNoIndex, IsLeastIndex}
-use Rattle.list_least.specs.inside.Search.{run_at, IsIn, IsAbove, IsBaseBetween, IsRunBytes}
+use Rattle.list_least.specs.Tails.{run_at, IsIn}
+use Rattle.list_least.specs.inside.Search.{IsAbove, IsBaseBetween, IsRunBytes}
 
 none_least : (addr : List ℕ) (context : Context) (from to base : ℕ) (kind : EntryKind) (a n : ℕ) → HasNoIndex addr context from to → from ≤ base → base ≤ to → SetsBase addr context kind a base → entry_bytes kind a 0 ≤ n → 9 ≤ n
 none_least addr context from to base BaseAddressx a n none low high is le = absurd (none a base is low high)

@@ -9,7 +9,8 @@ use Rattle.list_model.specs.Costs.{ItemWithin}
 use Rattle.list_least.specs.declared.costs.Costs.{Costs}
 use Rattle.list_least.specs.declared.costs.Piece.{Piece}
 use Rattle.list_least.specs.declared.runs.Run.{Run}
-use Rattle.list_least.specs.inside.Search.{AreCosts, IsPiece, run_at, GoDown, BeginFrom, StartAtTop, IsIn, ItemFirst, IsLess, AreLeft, AreLeftBehind, IsLeftBetween, IsPushed, AddsDown, IsAbove, IsBehindTo, IsLoweredTo, IsLowered}
+use Rattle.list_least.specs.Tails.{run_at, GoDown, StartAtTop, IsIn, IsLess, AreLeft}
+use Rattle.list_least.specs.inside.Search.{AreCosts, IsPiece, BeginFrom, ItemFirst, AreLeftBehind, IsLeftBetween, IsPushed, AddsDown, IsAbove, IsBehindTo, IsLoweredTo, IsLowered}
 use Rattle.list_least.proofs.Pushing.{keeps, goes_down, begins_from, has_some, has_first, keeps_small, item_less}
 use Rattle.list_least.proofs.Covering.{run_small}
 

@@ -2,7 +2,7 @@
 use Rattle.std.proofs.Common.{◌≡◌, ◌≤◌, ◌<◌, ◌+◌, ◌^◌, ℕ, zero, suc, List, length, sym, subst, arith, inl, inr}
 use Rattle.std.proofs.lemmas.Bool.{cases_lt}
 use Rattle.list_least.specs.declared.runs.Run.{Run}
-use Rattle.list_least.specs.inside.Search.{run_at, GoDown, StartAtTop, IsIn}
+use Rattle.list_least.specs.Tails.{run_at, GoDown, StartAtTop, IsIn}
 
 seek : (runs : List Run) (base fuel i : ℕ) → i + fuel ≡ length runs → i < length runs → base ≤ (run_at runs i).upto → (j : ℕ) × IsIn runs j base
 seek runs base zero i e lt upto = absurd (omega (arith, e, lt))

@@ -15,4 +15,5 @@ pub mod Records
 pub mod Shortest
 mod Maps
 mod Near
+mod Tails
 pub mod Covering

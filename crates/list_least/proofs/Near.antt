@@ -1,21 +1,21 @@
 -- The base that is cheapest to set, by what was the cheapest before the items behind an item.
-use Rattle.std.proofs.Common.{◌≡◌, ◌≤◌, ◌<◌, ◌+◌, ◌-◌, ◌^◌, ◌∙◌, ℕ, List, [], ◌∷◌, ◌++◌, suc, drop, length, sym, ap, refl, subst, arith, inl, inr}
-use Rattle.std.specs.Prelude.{reverse, Option, Some, None}
+use Rattle.std.proofs.Common.{◌≡◌, ◌≤◌, ◌<◌, ◌+◌, ◌-◌, ◌^◌, ℕ, List, [], ◌∷◌, suc, drop, length, sym, ap, refl, subst, arith, inl, inr}
+use Rattle.std.specs.Prelude.{Option, Some, None}
 use Rattle.std.proofs.lemmas.Bool.{cases_lt}
-use Rattle.std.proofs.lemmas.List.{reverse-append, length-append}
 use Rattle.leb_codec.specs.LineCosts.{IsLeastCost}
 use Rattle.list_model.specs.declared.context.Context.{Context}
 use Rattle.list_model.specs.declared.entry.EntryKind.TheVariants.{BaseAddressx, BaseAddress}
 use Rattle.list_model.specs.Items.{Bounds}
 use Rattle.list_model.specs.Costs.{ItemWithin, BaseWithin}
-use Rattle.list_model.specs.Potentials.{potential, AcceptsFirst, AreGreatest}
+use Rattle.list_model.specs.Potentials.{potential, AcceptsFirst}
 use Rattle.list_least.specs.declared.costs.Costs.{Costs}
 use Rattle.list_least.specs.declared.runs.Run.{Run}
 use Rattle.list_least.specs.declared.cheapest.Choice.{Choice}
-use Rattle.list_least.specs.inside.Search.{AreCosts, run_at, GoDown, StartAtTop, IsAbove, IsIn, ItemFirst, AreLeft, AreLeftBehind, IsSet, IsBaseBetween, IsRunBytes, IsChoiceAt, IsChosen, AreChosen, IsBackTo, IsLowered, IsReady, IsNear, as_before, IsNearTo}
+use Rattle.list_least.specs.Tails.{run_at, GoDown, StartAtTop, IsIn, IsSet, IsReady}
+use Rattle.list_least.specs.inside.Search.{AreCosts, IsAbove, ItemFirst, AreLeftBehind, IsBaseBetween, IsRunBytes, IsChoiceAt, IsChosen, IsNear, as_before, IsNearTo}
 use Rattle.list_least.proofs.Bases.{run_least, from_lowest}
 use Rattle.list_least.proofs.Covering.{covered, run_small}
-use Rattle.list_least.proofs.Back.{taken_cases, stays, accept_taken, left_step, end_least, chosen_step}
+use Rattle.list_least.proofs.Back.{taken_cases, stays, accept_taken, end_least, chosen_step}
 
 -- a base that is set is one
 is_within : (addr : List ℕ) (context : Context) (index : Option ℕ) (base set : ℕ) → IsSet addr context index base set → BaseWithin addr context base set
@@ -127,78 +127,71 @@ ready_start addr context set to between is below e = record {
   least = λ base n m fits w on. omega (arith, between.least base n (omega arith) (omega (arith, fits, e)) w, end_least addr context base m on.taken on.bytes on.within on.sum);
 }
 
--- one item more
-ready_more : (addr : List ℕ) (context : Context) (item : Bounds) (items : List Bounds) (ps : List ℕ) (choice : Choice) → IsNear addr context item items ps choice → IsReady addr context (item ∷ items) (choice.bytes ∷ ps) choice
-ready_more addr context item items ps choice near =
-    let chosen = near.chosen in
-    record {
-      set = chosen.set;
-      left = chosen.left;
-      is = chosen.is;
-      fits = near.fits;
-      behind = record {
-        enough = stays addr context choice.base item items choice.bytes ps chosen.left chosen.left (omega arith) chosen.behind.enough;
-        least = λ n on. elim (taken_cases addr context choice.base item items choice.bytes ps on.taken on.bytes n on.within on.enough on.sum) [
-          | inl le ↦ omega (arith, le, chosen.sum)
-          | inr f ↦ chosen.behind.least n f
-        ];
-      };
-      sum = chosen.sum;
-      least = λ base n m fits w on. elim (taken_cases addr context base item items choice.bytes ps on.taken on.bytes m on.within on.enough on.sum) [
-        | inl le ↦ omega (arith, le)
-        | inr f ↦ near.least base n m fits w f
-      ];
-    }
+-- ---- the base that is best before an item with a potential
 
-accept_near : (addr : List ℕ) (context : Context) (item : Bounds) (items : List Bounds) (ps : List ℕ) (choice : Choice) → IsNear addr context item items ps choice → AcceptsFirst addr context (item ∷ items) (choice.bytes ∷ ps)
-accept_near addr context item items ps choice near base set taken bytes fits sets some within enough =
-    accept_taken addr context item items choice.bytes ps base set taken bytes (λ n f. near.least base set n fits sets f) some within enough
-
-greatest_near : (addr : List ℕ) (context : Context) (item : Bounds) (items : List Bounds) (ps : List ℕ) (choice : Choice) → IsNear addr context item items ps choice → (r : ℕ) → AcceptsFirst addr context (item ∷ items) (r ∷ ps) → r ≤ choice.bytes
-greatest_near addr context item items ps choice near r accepts =
-    let chosen = near.chosen in
-    let f = chosen.behind.enough in
-    let on = f.others in
-    let x : r ≤ chosen.set + (f.first + on.bytes) + potential (drop on.taken ps) = accepts choice.base chosen.set (suc on.taken) (f.first + on.bytes) near.fits (is_within addr context choice.index choice.base chosen.set chosen.is) (omega arith) (omega (arith, on.within)) (f.first, on.bytes, f.one, on.enough, omega arith) in
-    omega (arith, x, on.sum, f.sum, chosen.sum)
-
--- all that is known of the items from one on
-abbrev pub IsKnown : List ℕ → Context → List Bounds → List ℕ → ℕ → ℕ → ℕ → List Run → List Choice → Choice → Type 0
-IsKnown addr context items potentials first under most runs choices before =
-    IsBackTo addr context items potentials first under most runs × AreChosen addr context items (reverse potentials) (reverse choices) × IsReady addr context items (reverse potentials) before × (before.bytes ≤ 9 + first)
-
-pub known_more : (addr : List ℕ) (context : Context) (item : Bounds) (items whole : List Bounds) (old new : List ℕ) (p under most lower : ℕ) (choices more : List Choice) (before choice : Choice) (costs : Costs) (runs seen next next_seen last : List Run) → seen ≡ runs → next_seen ≡ next → whole ≡ item ∷ items → new ≡ old ++ choice.bytes ∷ [] → more ≡ choices ++ choice ∷ [] →
-    IsKnown addr context items old p under most runs choices before → AreCosts addr context item costs → costs.free ≤ 17 →
-    ((ad : List ℕ) (co : Context) (it : Bounds) (is : List Bounds) (ps : List ℕ) (un : ℕ) → AreCosts ad co it costs → AreLeft ad co is ps un seen → AreLeftBehind ad co it is ps (un + costs.free) next 0) →
-    ((it : Bounds) (is : List Bounds) (ps : List ℕ) → AreCosts addr context it costs → IsReady addr context is ps before → AreLeftBehind addr context it is ps (under + costs.free) next_seen 0 → IsNear addr context it is ps choice) →
-    choice.bytes ≤ before.bytes + 17 → ((j : ℕ) → j < length next → (run_at next j).gain ≤ most + 17) → lower ≡ under + costs.free - choice.bytes → IsLowered lower next last → IsKnown addr context whole new choice.bytes (under + costs.free - lower) (most + 17) last more choice
-known_more addr context item items whole old new p under most lower choices more before choice costs runs seen next next_seen last s t e f g known are free behind near few small h low =
-    let back = known.0 in
-    let turned : choice.bytes ∷ reverse old ≡ reverse new = sym (ap reverse f ∙ reverse-append old (choice.bytes ∷ [])) in
-    let turned2 : choice ∷ reverse choices ≡ reverse more = sym (ap reverse g ∙ reverse-append choices (choice ∷ [])) in
-    let size : length new ≡ length old + 1 = ap length f ∙ length-append old (choice.bytes ∷ []) in
-    let l : AreLeft addr context items (reverse old) under seen = subst (λ (z : List Run). AreLeft addr context items (reverse old) under z) (sym s) back.left in
-    let b : AreLeftBehind addr context item items (reverse old) (under + costs.free) next 0 = behind addr context item items (reverse old) under are l in
-    let n : IsNear addr context item items (reverse old) choice = near item items (reverse old) are known.2 (subst (λ (z : List Run). AreLeftBehind addr context item items (reverse old) (under + costs.free) z 0) (sym t) b) in
-    let done : AreChosen addr context (item ∷ items) (choice.bytes ∷ reverse old) (choice ∷ reverse choices) = (refl, n.chosen, known.1) in
-    subst (λ (z : List Bounds). IsKnown addr context z new choice.bytes (under + costs.free - lower) (most + 17) last more choice) (sym e) (
+module _ (addr : List ℕ) (context : Context) (item : Bounds) (items : List Bounds) (ps : List ℕ) (choice : Choice) (near : IsNear addr context item items ps choice) where
+  -- it is the one with which the base stays for the item, where none can be set for the potential in fewer bytes
+  kept_best : (p : ℕ) → ((base n : ℕ) → base < 2 ^ 64 → BaseWithin addr context base n → choice.bytes ≤ n + p) → IsReady addr context (item ∷ items) (p ∷ ps) choice
+  kept_best p low =
+      let chosen = near.chosen in
       record {
-        same = omega (arith, size, back.same);
-        first_is = ap potential turned;
-        greatest = subst (λ (z : List ℕ). AreGreatest addr context (item ∷ items) z) turned (accept_near addr context item items (reverse old) choice n, greatest_near addr context item items (reverse old) choice n, back.greatest);
-        left = subst (λ (z : List ℕ). AreLeft addr context (item ∷ items) z (under + costs.free - lower) last) turned (left_step addr context item items choice.bytes (reverse old) (under + costs.free) lower (under + costs.free - lower) next last h refl low b);
-        top = low.top;
-        down = low.down;
-        few = omega (arith, few, known.3, back.few);
-        little = omega (arith, back.little, free);
-        gains = λ j lt. let k = low.small j lt in omega (arith, k.2, small k.0 k.1);
-        low = omega (arith, back.low);
-      },
-      subst (λ (z : List ℕ). AreChosen addr context (item ∷ items) z (reverse more)) turned (subst (λ (z : List Choice). AreChosen addr context (item ∷ items) (choice.bytes ∷ reverse old) z) turned2 done),
-      subst (λ (z : List ℕ). IsReady addr context (item ∷ items) z choice) turned (ready_more addr context item items (reverse old) choice n),
-      omega arith,
-    )
+        set = chosen.set;
+        left = chosen.left;
+        is = chosen.is;
+        fits = near.fits;
+        behind = record {
+          enough = stays addr context choice.base item items p ps chosen.left chosen.left (omega arith) chosen.behind.enough;
+          least = λ n on. elim (taken_cases addr context choice.base item items p ps on.taken on.bytes n on.within on.enough on.sum) [
+            | inl le ↦ omega (arith, le, chosen.sum, low choice.base chosen.set near.fits (is_within addr context choice.index choice.base chosen.set chosen.is))
+            | inr f ↦ chosen.behind.least n f
+          ];
+        };
+        sum = chosen.sum;
+        least = λ base n m fits w on. elim (taken_cases addr context base item items p ps on.taken on.bytes m on.within on.enough on.sum) [
+          | inl le ↦ omega (arith, le, low base n fits w)
+          | inr f ↦ near.least base n m fits w f
+        ];
+      }
 
-pub ready_none : (addr : List ℕ) (context : Context) (items : List Bounds) (potentials : List ℕ) (before : Choice) → items ≡ [] → potentials ≡ [] → IsReady addr context [] [] before → IsReady addr context items (reverse potentials) before
-ready_none addr context items potentials before e f ready =
-    subst (λ (z : List Bounds). IsReady addr context z (reverse potentials) before) (sym e) (subst (λ (z : List ℕ). IsReady addr context [] (reverse z) before) (sym f) ready)
+  pub kept_under : (p : ℕ) → choice.bytes ≤ p → IsReady addr context (item ∷ items) (p ∷ ps) choice
+  kept_under p le = kept_best p (λ base n fits w. omega (arith, le))
+
+  module _ (set : Choice) (to p : ℕ) (between : IsBaseBetween addr context 0 to set.bytes) (e : to ≡ 18446744073709551615) where
+    pub kept_over : choice.bytes ≤ set.bytes + p → IsReady addr context (item ∷ items) (p ∷ ps) choice
+    kept_over le = kept_best p (λ base n fits w. omega (arith, le, between.least base n (omega arith) (omega (arith, fits, e)) w))
+
+    -- it is the cheapest of all, and the base doesn't stay for the item
+    pub set_anew : IsSet addr context set.index set.base set.bytes → set.base ≤ to → set.bytes + p < choice.bytes → IsReady addr context (item ∷ items) (p ∷ ps) (record { bytes = set.bytes + p; base = set.base; index = set.index })
+    set_anew is below less =
+        let within : set.base < 2 ^ 64 = omega (arith, below, e) in
+        record {
+          set = set.bytes;
+          left = p;
+          is = is;
+          fits = within;
+          behind = record {
+            enough = record { taken = 0; bytes = 0; within = omega arith; enough = tt; sum = omega arith };
+            least = λ n on. elim (taken_cases addr context set.base item items p ps on.taken on.bytes n on.within on.enough on.sum) [
+              | inl le ↦ le
+              | inr f ↦ omega (arith, less, near.least set.base set.bytes n within (is_within addr context set.index set.base set.bytes is) f)
+            ];
+          };
+          sum = refl;
+          least = λ base n m fits w on. elim (taken_cases addr context base item items p ps on.taken on.bytes m on.within on.enough on.sum) [
+            | inl le ↦ omega (arith, le, between.least base n (omega arith) (omega (arith, fits, e)) w)
+            | inr f ↦ omega (arith, less, near.least base n m fits w f)
+          ];
+        }
+
+  -- a potential is accepted where it is no greater than this
+  pub accepted_up_to : (p : ℕ) → p ≤ choice.bytes → AcceptsFirst addr context (item ∷ items) (p ∷ ps)
+  accepted_up_to p le base set taken bytes fits sets some within enough =
+      accept_taken addr context item items p ps base set taken bytes (λ n f. omega (arith, le, near.least base set n fits sets f)) some within enough
+
+  pub no_more_accepted : (p : ℕ) → AcceptsFirst addr context (item ∷ items) (p ∷ ps) → p ≤ choice.bytes
+  no_more_accepted p accepts =
+      let chosen = near.chosen in
+      let f = chosen.behind.enough in
+      let on = f.others in
+      let x : p ≤ chosen.set + (f.first + on.bytes) + potential (drop on.taken ps) = accepts choice.base chosen.set (suc on.taken) (f.first + on.bytes) near.fits (is_within addr context choice.index choice.base chosen.set chosen.is) (omega arith) (omega (arith, on.within)) (f.first, on.bytes, f.one, on.enough, omega arith) in
+      omega (arith, x, on.sum, f.sum, chosen.sum)

@@ -10,7 +10,8 @@ use Rattle.list_model.specs.Costs.{ItemWithin}
 use Rattle.list_model.specs.Potentials.{OnFrom}
 use Rattle.list_least.specs.declared.costs.Costs.{Costs}
 use Rattle.list_least.specs.declared.runs.Run.{Run}
-use Rattle.list_least.specs.inside.Search.{AreCosts, IsPiece, run_at, GoDown, BeginFrom, IsIn, ItemFirst, IsLess, AreLeftBehind, IsPushed, AddsDown}
+use Rattle.list_least.specs.Tails.{run_at, GoDown, IsIn, IsLess}
+use Rattle.list_least.specs.inside.Search.{AreCosts, IsPiece, BeginFrom, ItemFirst, AreLeftBehind, IsPushed, AddsDown}
 
 -- an item and what is left behind it, both least
 pub item_first_least : (addr : List ℕ) (context : Context) (base : ℕ) (item : Bounds) (items : List Bounds) (ps : List ℕ) (k l : ℕ) → IsLeastCost (ItemWithin addr context base item) k → IsLeastCost (OnFrom addr context base items ps) l → IsLeastCost (ItemFirst addr context base item items ps) (l + k)

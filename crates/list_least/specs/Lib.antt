@@ -2,4 +2,5 @@ pub mod Laws
 pub mod Maps
 pub mod Plans
 pub mod Shortest
+pub mod Tails
 pub mod inside

@@ -1,8 +1,9 @@
 // The base that is set at the least cost.
-ghost use Rattle.std.specs.Prelude.{◌≡◌, ◌≤◌, ◌<◌, ◌+◌, ◌^◌, [], length, ℕ, IsTrue, false};
+ghost use Rattle.std.specs.Prelude.{◌≡◌, ◌≤◌, ◌<◌, ◌+◌, ◌^◌, [], ◌∷◌, length, ℕ, IsTrue, false};
 ghost use Rattle.std.specs.Option.{ForSome, option_copied};
 ghost use Rattle.list_least.specs.Maps.{IsMapOf};
-ghost use Rattle.list_least.specs.inside.Search.{GoDown, StartAtTop, AreCosts, AreLeftBehind, IsBaseBetween, IsRunBytes, IsSet, IsChoiceAt, IsReady, IsNear, IsNearTo};
+ghost use Rattle.list_least.specs.Tails.{GoDown, StartAtTop, IsSet, IsReady};
+ghost use Rattle.list_least.specs.inside.Search.{AreCosts, AreLeftBehind, IsBaseBetween, IsRunBytes, IsChoiceAt, IsNear, IsNearTo};
 ghost use Rattle.list_model.specs.Items.{HasTable, IsIndexed};
 ghost use Rattle.list_model.specs.Costs.{ItemWithin};
 ghost use Rattle.leb_codec.specs.LineCosts.{IsLeastCost};
@@ -176,6 +177,35 @@ pub(crate) fn cheapest(
         best = nearer(runs, i, under, &best, costs, context, addr, indexes);
     }
     best
+}
+
+// The base that is set at the least cost before an item with a potential. `choice` is the best where the base stays for the item.
+pub(crate) fn best_before(
+    choice: &Choice,
+    potential: u64,
+    context: &Context,
+    addr: &[u8],
+    indexes: Option<&AddressMap>,
+) -> Choice
+    requires table { HasTable addr.now context.now.table }
+    requires mapped { ForSome (option_copied indexes) (IsMapOf addr.now context.now.table) }
+    requires small { choice.now.bytes ≤ 2 ^ 62 }
+    ensures ready { (item : _) (items : _) (potentials : _) → IsNear addr.now context.now item items potentials choice.now → IsReady addr.now context.now (item ∷ items) (potential ∷ potentials) result }
+    ensures few { result.bytes ≤ choice.now.bytes }
+{
+    if choice.bytes <= potential {
+        return *choice;
+    }
+    let set = setting_between(context, addr, indexes, 0, u64::MAX);
+    let bytes = set.bytes + potential;
+    if choice.bytes <= bytes {
+        return *choice;
+    }
+    Choice {
+        bytes,
+        base: set.base,
+        index: set.index,
+    }
 }
 
 // The base that is set at the least cost where nothing but the end is left.

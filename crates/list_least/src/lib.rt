@@ -14,6 +14,7 @@ mod pick;
 mod plan;
 mod potentials;
 mod runs;
+mod tail;
 #[cfg(test)]
 mod tests;
 
@@ -22,3 +23,4 @@ pub use laws::{few_bases, no_shorter, shortest_lists};
 pub use map::AddressMap;
 pub use pick::Pick;
 pub use plan::{Plan, least, least_in};
+pub use tail::{Longer, Tail};

@@ -2,7 +2,8 @@
 ghost use Rattle.std.specs.Prelude.{◌≡◌, drop, ◌≤◌, ◌<◌, ◌+◌, ◌^◌, length, IfOk, OnOk, ℕ};
 ghost use Rattle.leb_codec.specs.LineCosts.{IsLeastCost};
 ghost use Rattle.list_model.specs.Costs.{ItemWithin};
-ghost use Rattle.list_least.specs.inside.Search.{run_at, GoDown, BeginFrom, IsPushed, AddsDown, StartAtTop, IsAbove, IsIn, AreCosts, AreLeft, AreLeftBehind, IsLowered};
+ghost use Rattle.list_least.specs.Tails.{run_at, GoDown, StartAtTop, IsIn, AreLeft};
+ghost use Rattle.list_least.specs.inside.Search.{BeginFrom, IsPushed, AddsDown, IsAbove, AreCosts, AreLeftBehind, IsLowered};
 
 use crate::costs::{Costs, is_free, piece_at};
 use dw_base::NoMemory;

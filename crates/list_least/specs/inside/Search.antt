@@ -1,20 +1,22 @@
 -- What the search for the shortest bytes knows on its way, from the last item to the first.
 -- Inner functions and proofs alone need what stands here.
-use Rattle.std.specs.Prelude.{◌≡◌, ◌≤◌, ◌<◌, ◌+◌, ◌-◌, ◌*◌, ◌^◌, ◌⊎◌, ℕ, List, [], ◌∷◌, length, if◌then◌else◌, false, slice_index_or, min, nat_lt, ◌++◌, reverse, Option, Some, None}
+use Rattle.std.specs.Prelude.{◌≡◌, ◌≤◌, ◌<◌, ◌+◌, ◌-◌, ◌^◌, ◌⊎◌, ℕ, List, [], ◌∷◌, length, if◌then◌else◌, false, slice_index_or, min, nat_lt, ◌++◌, Option, Some, None, unwrap_or}
 use Rattle.leb_codec.specs.LineCosts.{IsLeastCost}
 use Rattle.list_model.specs.declared.context.Context.{Context}
-use Rattle.list_model.specs.Items.{Bounds, IsIndexed}
+use Rattle.list_model.specs.Items.{Bounds}
 use Rattle.list_model.specs.Items.Bounds.{between, elsewhere}
 use Rattle.list_model.specs.Costs.{ItemWithin, BaseWithin}
-use Rattle.list_model.specs.Potentials.{OnFrom, potential, AreGreatest}
+use Rattle.list_model.specs.Potentials.{OnFrom}
 use Rattle.leb_codec.specs.Leb.{least_unsigned_len}
 use Rattle.list_model.specs.declared.item.Item.{Item}
 use Rattle.list_least.specs.Plans.{bounds_of, item_at}
+use Rattle.list_least.specs.Tails.{run_at, StartAtTop, GoDown, IsIn, IsLess, AreLeft, IsSet, IsReady, IsTailOf}
 use Rattle.list_least.specs.inside.Lookups.{IsIndexOf}
 use Rattle.list_least.specs.declared.costs.Costs.{Costs}
 use Rattle.list_least.specs.declared.costs.Piece.{Piece}
 use Rattle.list_least.specs.declared.runs.Run.{Run}
 use Rattle.list_least.specs.declared.cheapest.Choice.{Choice}
+use Rattle.list_least.specs.declared.tail.Step.{Step}
 
 -- n bytes are enough for an item under every base
 abbrev pub FreeWithin : List ℕ → Context → Bounds → ℕ → Type 0
@@ -78,28 +80,9 @@ free_of start end first last = if nat_lt end start then 1 + both_bytes first las
 
 -- ---- bases with as many bytes
 
--- the run with a number, from 0
-abbrev pub run_at : List Run → ℕ → Run
-run_at runs i = slice_index_or runs i (record { upto = 0; gain = 0 })
-
--- the runs go down
-abbrev pub GoDown : List Run → Type 0
-GoDown runs = (i : ℕ) → i + 1 < length runs → (run_at runs (i + 1)).upto < (run_at runs i).upto
-
 -- each run begins at this base or above it
 abbrev pub BeginFrom : List Run → ℕ → Type 0
 BeginFrom runs bottom = (i : ℕ) → i < length runs → bottom ≤ (run_at runs i).upto
-
--- the first run begins at the greatest address
-pub record StartAtTop (runs : List Run) : Type 0 where
-  pub some : 0 < length runs
-  pub first : (run_at runs 0).upto + 1 ≡ 2 ^ 64
-
--- a base is one of those of a run: from where it begins down to the next one
-pub record IsIn (runs : List Run) (i base : ℕ) : Type 0 where
-  pub inside : i < length runs
-  pub upto : base ≤ (run_at runs i).upto
-  pub beyond : i + 1 < length runs → (run_at runs (i + 1)).upto < base
 
 -- n bytes are enough for an item and what follows it under its base
 pub record ItemFirst (addr : List ℕ) (context : Context) (base : ℕ) (item : Bounds) (items : List Bounds) (potentials : List ℕ) (n : ℕ) : Type 0 where
@@ -108,14 +91,6 @@ pub record ItemFirst (addr : List ℕ) (context : Context) (base : ℕ) (item : 
   pub one : ItemWithin addr context base item first
   pub others : OnFrom addr context base items potentials rest
   pub sum : first + rest ≤ n
-
--- the least cost is less than a number by so much
-abbrev pub IsLess : (ℕ → Type 0) → ℕ → ℕ → Type 0
-IsLess F under gain = (gain ≤ under) × IsLeastCost F (under - gain)
-
--- under each base of a run, the bytes that are left for items are less than a number by the gain of the run
-abbrev pub AreLeft : List ℕ → Context → List Bounds → List ℕ → ℕ → List Run → Type 0
-AreLeft addr context items potentials under runs = (i base : ℕ) → IsIn runs i base → IsLess (OnFrom addr context base items potentials) under (run_at runs i).gain
 
 -- the same under each base of a run, from one up, for an item and those behind it where the base stays
 abbrev pub AreLeftBehind : List ℕ → Context → Bounds → List Bounds → List ℕ → ℕ → List Run → ℕ → Type 0
@@ -167,19 +142,6 @@ pub record IsBaseBetween (addr : List ℕ) (context : Context) (from to bytes : 
   pub below : base ≤ to
   pub enough : BaseWithin addr context base bytes
 
--- What is known of the items from one on: their potentials, the last first, and the bytes under each base.
-pub record IsBackTo (addr : List ℕ) (context : Context) (items : List Bounds) (potentials : List ℕ) (first under most : ℕ) (runs : List Run) : Type 0 where
-  pub same : length potentials ≡ length items
-  pub first_is : first ≡ potential (reverse potentials)
-  pub greatest : AreGreatest addr context items (reverse potentials)
-  pub left : AreLeft addr context items (reverse potentials) under runs
-  pub top : StartAtTop runs
-  pub down : GoDown runs
-  pub few : first ≤ 1 + 26 * length items
-  pub little : under ≤ 1 + 17 * length items
-  pub gains : (i : ℕ) → i < length runs → (run_at runs i).gain ≤ most
-  pub low : most ≤ 17 * length items
-
 -- the bytes of a base of the run with a number, and of what is left under it
 pub record IsRunBytes (addr : List ℕ) (context : Context) (under : ℕ) (runs : List Run) (i bytes : ℕ) : Type 0 where
   pub lowest : ℕ
@@ -187,11 +149,6 @@ pub record IsRunBytes (addr : List ℕ) (context : Context) (under : ℕ) (runs 
   pub above : IsAbove runs (i + 1) lowest
   pub between : IsBaseBetween addr context lowest (run_at runs i).upto set
   pub sum : bytes ≡ set + (under - (run_at runs i).gain)
-
--- so many bytes set a base: by its index where there is one
-abbrev pub IsSet : List ℕ → Context → Option ℕ → ℕ → ℕ → Type 0
-IsSet addr context None base bytes = bytes ≡ 9
-IsSet addr context (Some index) base bytes = IsIndexed addr context index base × (bytes ≡ 1 + least_unsigned_len index)
 
 -- a base that is set, and what is left under it by the runs
 pub record IsChoiceAt (addr : List ℕ) (context : Context) (under : ℕ) (runs : List Run) (choice : Choice) : Type 0 where
@@ -214,16 +171,6 @@ abbrev pub AreChosen : List ℕ → Context → List Bounds → List ℕ → Lis
 AreChosen addr context (item ∷ items) (p ∷ ps) (choice ∷ choices) = (choice.bytes ≡ p) × IsChosen addr context item items ps choice × AreChosen addr context items ps choices
 AreChosen addr context [] [] [] = Unit {0}
 AreChosen addr context _ _ _ = ⊥
-
--- a base that is set before items at the least cost of all, and the bytes from there on
-pub record IsReady (addr : List ℕ) (context : Context) (items : List Bounds) (potentials : List ℕ) (before : Choice) : Type 0 where
-  pub set : ℕ
-  pub left : ℕ
-  pub is : IsSet addr context before.index before.base set
-  pub fits : before.base < 2 ^ 64
-  pub behind : IsLeastCost (OnFrom addr context before.base items potentials) left
-  pub sum : before.bytes ≡ set + left
-  pub least : (base n m : ℕ) → base < 2 ^ 64 → BaseWithin addr context base n → OnFrom addr context base items potentials m → before.bytes ≤ n + m
 
 -- the same before an item and those behind it, where the base stays for the item
 pub record IsNear (addr : List ℕ) (context : Context) (item : Bounds) (items : List Bounds) (potentials : List ℕ) (choice : Choice) : Type 0 where
@@ -260,3 +207,8 @@ pub record IsLowered (by : ℕ) (old new : List Run) : Type 0 where
   pub top : StartAtTop new
   pub small : (j : ℕ) → j < length new → (k : ℕ) × (k < length old) × ((run_at new j).gain ≡ (run_at old k).gain - by)
   pub each : (j base : ℕ) → IsIn new j base → (k : ℕ) × IsIn old k base × ((run_at new j).gain ≡ (run_at old k).gain - by)
+
+-- an item is put before the tail of others, with a potential or else with its greatest
+pub record IsStep (addr : List ℕ) (context : Context) (item : Bounds) (items : List Bounds) (potentials : List ℕ) (given : Option ℕ) (step : Step) : Type 0 where
+  pub near : IsNear addr context item items potentials step.choice
+  pub tail : length items < 16384 → IsTailOf addr context (item ∷ items) (unwrap_or given step.choice.bytes ∷ potentials) step.tail

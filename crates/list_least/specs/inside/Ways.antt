@@ -15,7 +15,8 @@ use Rattle.list_least.specs.declared.pick.Pick.{Pick}
 use Rattle.list_least.specs.declared.pick.Chosen.{Chosen}
 use Rattle.list_least.specs.declared.fill.Left.{Left}
 use Rattle.list_least.specs.Plans.{bounds_of, entries_bytes, ArePicks}
-use Rattle.list_least.specs.inside.Search.{IsSet, AreAllCosts, AreChosen}
+use Rattle.list_least.specs.Tails.{IsSet}
+use Rattle.list_least.specs.inside.Search.{AreAllCosts, AreChosen}
 use Rattle.list_least.specs.declared.costs.Costs.{Costs}
 use Rattle.list_least.specs.declared.cheapest.Choice.{Choice}
 

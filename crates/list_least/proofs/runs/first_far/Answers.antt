@@ -1,5 +1,5 @@
 use Rattle.std.proofs.Common.{◌≤◌, arith}
-use Rattle.list_least.specs.inside.Search.{run_at}
+use Rattle.list_least.specs.Tails.{run_at}
 use Rattle.list_least.proofs.Behind.{goes_low}
 use Rattle.list_least.proofs.runs.first_far.Goals as goal
 

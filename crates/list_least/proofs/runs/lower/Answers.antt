@@ -1,5 +1,5 @@
 use Rattle.std.proofs.Common.{subst, sym, arith}
-use Rattle.list_least.specs.inside.Search.{StartAtTop}
+use Rattle.list_least.specs.Tails.{StartAtTop}
 use Rattle.list_least.proofs.Behind.{lowers, lowers_on, lowered_seen, not_lowered}
 use Rattle.list_least.proofs.runs.lower.Goals as goal
 

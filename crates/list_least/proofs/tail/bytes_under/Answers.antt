@@ -1,8 +1,8 @@
 use Rattle.std.proofs.Common.{subst, sym, arith}
 use Rattle.leb_codec.specs.LineCosts.{IsLeastCost}
 use Rattle.list_model.specs.Potentials.{OnFrom}
-use Rattle.list_least.proofs.potentials.size_under.Goals.{then-loop-i-test+else-base-runs, else-loop-i-test}
-use Rattle.list_least.proofs.potentials.size_under.Goals as goal
+use Rattle.list_least.proofs.tail.bytes_under.Goals.{then-loop-i-test+else-base-runs, else-loop-i-test}
+use Rattle.list_least.proofs.tail.bytes_under.Goals as goal
 
 pub returns : goal.returns
 returns c addr context items ps left =

@@ -1,6 +1,6 @@
 use Rattle.std.specs.Prelude.{◌≤◌, ◌<◌, ◌-◌, length}
-use Rattle.list_least.specs.inside.Search.{run_at}
-use Rattle.list_least.proofs.potentials.size_under.Given as goal
+use Rattle.list_least.specs.Tails.{run_at}
+use Rattle.list_least.proofs.tail.bytes_under.Given as goal
 
 abbrev pub invariant-loop-i : goal.invariant-loop-i
 invariant-loop-i l = (l.i < length l.runs) × (l.base ≤ (run_at l.runs l.i).upto)
