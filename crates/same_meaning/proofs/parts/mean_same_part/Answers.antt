@@ -1,0 +1,23 @@
+use Rattle.std.proofs.Common.{◌≡◌, ◌≤◌, ◌<◌, arith}
+use Rattle.std.proofs.lemmas.Grind.{common_steps}
+use Rattle.value_links.specs.World.{contribution_at}
+use Rattle.same_meaning.proofs.PartMeanings.{slot_differs, slots_more, slots_agree}
+use Rattle.same_meaning.proofs.parts.mean_same_part.Goals as goal
+
+pub returns-then-not-branch : goal.returns-then-not-branch
+returns-then-not-branch c =
+    let a = c.args.before.now in
+    let inside : c.loop-slot.slot < (contribution_at a c.args.kind c.args.part).slots = grind (arith, common_steps) in
+    slot_differs a c.args.after.now c.args.kind c.args.part c.loop-slot.slot inside c.in_ok-mean_same_slot.field-0 c.if-not-branch.true c.in_ok-mean_same_slot.ensures
+
+pub loop-slot-preserved : goal.loop-slot-preserved
+loop-slot-preserved c =
+    slots_more c.args.before.now c.args.after.now c.args.kind c.args.part c.loop-slot.slot c.loop-slot.invariant c.in_ok-mean_same_slot.field-0 c.if-not-branch.false c.in_ok-mean_same_slot.ensures
+
+pub returns : goal.returns
+returns c =
+    let a = c.args.before.now in
+    let b = c.args.after.now in
+    let past : (contribution_at a c.args.kind c.args.part).slots ≤ c.loop-slot.slot = grind (arith, common_steps) in
+    let count : (contribution_at b c.args.kind c.args.part).slots ≡ (contribution_at a c.args.kind c.args.part).slots = grind (arith, common_steps) in
+    slots_agree a b c.args.kind c.args.part c.loop-slot.slot past count c.loop-slot.invariant

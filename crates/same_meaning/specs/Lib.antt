@@ -1,0 +1,4 @@
+pub mod Differences
+pub mod Kept
+pub mod Laws
+pub mod inside
