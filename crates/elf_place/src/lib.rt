@@ -9,7 +9,9 @@ mod placing;
 mod spots;
 
 pub use bodies::NewBody;
+pub use order::moving_order;
 pub use placing::place;
+pub use spots::next_multiple;
 
 #[cfg(test)]
 mod tests;

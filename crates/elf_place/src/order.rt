@@ -20,7 +20,8 @@ fn movable_sections(alloc: Global, image: &Image<'_>) -> Result<Vec<(u64, u32)>,
     Ok(all)
 }
 
-/// The same by offset and, where the offsets are equal, by number.
+/// The offsets and numbers of the movable sections of an image, in the order in which they are placed: by offset and, where offsets are
+/// equal, by number (System V ABI, "Sections"). The only error is want of memory.
 pub fn moving_order(alloc: Global, image: &Image<'_>) -> Result<Vec<(u64, u32)>, AllocError>
     ensures order { IfOk result (λ order. IsMovingOrder image.now (map (λ place. place.1) order.items)) }
     ensures few { IfOk result (λ order. length order.items ≤ section_count image.now) }

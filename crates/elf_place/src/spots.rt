@@ -26,7 +26,7 @@ pub struct Plan {
     pub end: u64,
 }
 
-/// The next multiple of an alignment, where 0 counts as 1.
+/// The next multiple of an alignment from a place on, where an alignment of 0 counts as 1 (System V ABI, "Section Header", sh_addralign).
 pub fn next_multiple(start: u64, align: u64) -> u64
     requires low { start ≤ 2 ^ 62 }
     requires small { align ≤ 4096 }

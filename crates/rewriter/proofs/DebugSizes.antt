@@ -8,7 +8,7 @@ use Rattle.elf_sections.specs.Names.{name_of, is_debug_name}
 use Rattle.value_links.specs.Sections.{body_named, body_or_none, section_named, debug_line, line_name}
 use Rattle.value_links.specs.Faults.{IsValid}
 use Rattle.value_links.proofs.SectionLaws.{sections_are_found}
-use Rattle.rewriter.proofs.ValidImages.{image_in_order}
+use Rattle.value_links.proofs.ValidImages.{image_in_order}
 
 take_short : (n : ℕ) (xs : List ℕ) → length (take n xs) ≤ n
 take_short zero xs = omega arith

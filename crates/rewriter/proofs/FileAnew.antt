@@ -46,7 +46,7 @@ use Rattle.rewriter.proofs.WideExpressions.{expressions_are_wide}
 use Rattle.rewriter.proofs.Tidied.{are_tidy}
 use Rattle.rewriter.proofs.LeastColumns.{least_columns, first_columns}
 use Rattle.rewriter.proofs.LeastLayouts.{least_layouts, ranks_there, first_ranks_there}
-use Rattle.rewriter.proofs.ValidImages.{image_in_order}
+use Rattle.value_links.proofs.ValidImages.{image_in_order}
 
 -- the new sections of a file, one by one
 module _ (file written : List ℕ) (new : NewSections) (has : HasSections file new written) where

@@ -24,7 +24,6 @@ pub mod DebugSizes
 pub mod FewRows
 pub mod Final
 pub mod Following
-pub mod FoundPairs
 pub mod FrozenLists
 pub mod HeadsStay
 pub mod HeldExpressions
@@ -96,7 +95,6 @@ pub mod UnitRoom
 pub mod UnitsStay
 pub mod UseLaws
 pub mod UsedDeclarations
-pub mod ValidImages
 pub mod ValuesStay
 pub mod ViewRuns
 pub mod ViewsRead

@@ -10,7 +10,6 @@ pub mod FewParts
 pub mod FewPrograms
 pub mod FirstParts
 pub mod FirstReasons
-pub mod FoundPairs
 pub mod HeaderFields
 pub mod KeptFound
 pub mod KeptImages
@@ -39,7 +38,6 @@ pub mod Stable
 pub mod StableMeanings
 pub mod StandingValues
 pub mod UnitMeanings
-pub mod ValidImages
 pub mod ValueExpressions
 pub mod Zipped
 pub mod ZippedMeanings

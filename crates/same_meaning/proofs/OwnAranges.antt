@@ -17,7 +17,7 @@ use Rattle.value_links.proofs.ReadingOnce.{reading_once}
 use Rattle.value_links.specs.World.{World}
 use Rattle.same_meaning.specs.Kept.{HasOtherAranges}
 use Rattle.same_meaning.specs.inside.Compared.{IsSomeWorld}
-use Rattle.same_meaning.proofs.ValidImages.{image_in_order}
+use Rattle.value_links.proofs.ValidImages.{image_in_order}
 use Rattle.same_meaning.specs.inside.Parts.{DifferOutsideFields}
 
 -- no other section of a file that is read has the name

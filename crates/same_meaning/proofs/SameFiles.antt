@@ -28,7 +28,7 @@ use Rattle.same_meaning.proofs.Stable.{stable_nat, stable_list, stable_option, s
 use Rattle.same_meaning.proofs.StableMeanings.{stable_program, stable_part, stable_entry, stable_set}
 use Rattle.same_meaning.proofs.KeptImages.{image_same, none_outside, none_field, none_place, none_body}
 use Rattle.same_meaning.proofs.OwnAranges.{own_body, AreOther, other_aranges}
-use Rattle.same_meaning.proofs.ValidImages.{image_in_order}
+use Rattle.value_links.proofs.ValidImages.{image_in_order}
 
 -- UNITS
 

@@ -65,3 +65,5 @@ pub mod Viewings
 pub mod ViewTotals
 pub mod ViewLists
 pub mod ViewRuns
+pub mod ValidImages
+pub mod FoundPairs

@@ -1,6 +1,6 @@
 use Rattle.std.proofs.Common.{rules, refl}
 use Rattle.std.proofs.lemmas.List.Sorted.{answers_always}
-use Rattle.rewriter.proofs.FoundPairs.{pair_found, pair_not_found}
+use Rattle.value_links.proofs.FoundPairs.{pair_found, pair_not_found}
 use Rattle.rewriter.proofs.numbers.views_place.Goals as goal
 
 -- the closure gives both places

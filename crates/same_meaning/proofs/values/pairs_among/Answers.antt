@@ -2,7 +2,7 @@ use Rattle.std.proofs.Common.{◌≡◌, ◌∙◌, rules, ap, sym, get_or}
 use Rattle.std.proofs.lemmas.List.{get_or_default}
 use Rattle.std.proofs.lemmas.List.Sorted.{answers_always}
 use Rattle.value_links.specs.declared.views.ViewRead.{ViewRead}
-use Rattle.same_meaning.proofs.FoundPairs.{pair_found, pair_not_found}
+use Rattle.value_links.proofs.FoundPairs.{pair_found, pair_not_found}
 use Rattle.same_meaning.proofs.values.pairs_among.Goals as goal
 
 -- the closure gives both places
