@@ -1,6 +1,6 @@
 -- The least form of a column, from what is held of all forms.
 use Rattle.std.proofs.Common.{◌≡◌, ◌≢◌, ◌≤◌, ◌<◌, ◌+◌, ◌*◌, ◌^◌, ℕ, List, [], ◌∷◌, length, sym, ap, refl, subst, arith, inl, inr}
-use Rattle.std.specs.Prelude.{ℤ, pos, ◌⊎◌, Bool, true, false, if◌then◌else◌, ◌==◌}
+use Rattle.std.specs.Prelude.{ℤ, pos, ◌⊎◌, ◌↔◌, Bool, true, false, if◌then◌else◌, ◌==◌}
 use Rattle.std.proofs.lemmas.Bool.{cases_Bool}
 use Rattle.spelled.specs.Spelled.{AreBytes}
 use Rattle.fixed_width.specs.Numbers.{number}
@@ -20,7 +20,7 @@ use Rattle.column_forms.specs.declared.tally.Candidate.{Candidate}
 use Rattle.column_forms.specs.declared.choice.Choice.{Choice}
 use Rattle.form_codec.specs.Columns.{IsChoice, EntriesWithin, AreSpelled, ColumnWithin, ComesFirst, IsLeastForm, IsFirstForm, constant_bytes}
 use Rattle.column_forms.specs.Columns.{IsChosen}
-use Rattle.column_forms.specs.Tallies.{IsEntriesSize, AreTallied, AreBounded, IsTally, candidate_at, meanings_in}
+use Rattle.column_forms.specs.Tallies.{IsEntriesSize, AreTallied, AreBounded, IsTally, Tallying, candidate_at, meanings_in}
 use Rattle.column_forms.specs.inside.Choices.{IsBestOf, AreOut, bytes_of}
 use Rattle.column_forms.proofs.Sums.{is_or_not}
 
@@ -189,3 +189,47 @@ pub never_none : (section : List ℕ) (values : List Value) (cs ds : List Candid
 never_none section [] cs ds c count column e some t s out = let none : count ≡ 0 = t.count in absurd (omega arith)
 never_none section (v ∷ vs) cs ds c count column e some t s out =
     some_form cs c (meant_in section v) (meanings_in section vs) column t.tallied s (subst (λ (z : List Candidate). AreOut z (length z)) e out)
+
+-- the least form of a column with another constant, which is the same if the form is implicit_const
+least_with : (ms : List Meaning) (code : ℕ) (c d : ℤ) → (code ≡ implicit_const → c ≡ d) → IsLeastForm ms code c → IsLeastForm ms code d
+least_with ms code c d same l = elim (is_or_not code) [
+  | inl is ↦ subst (λ (z : ℤ). IsLeastForm ms code z) (same is) l
+  | inr other ↦
+      record {
+        bytes = l.bytes;
+        enough = record {
+          choice = l.enough.choice;
+          entries = l.enough.entries;
+          within = entries_constant code c d ms l.enough.entries other l.enough.within;
+          cost =
+              let e : constant_bytes code c ≡ constant_bytes code d = grind (arith) in
+              omega (arith, l.enough.cost);
+        };
+        least = l.least;
+      }
+]
+
+-- the form of the best column is the own one exactly where that is a least form
+pub own_is_least : (section : List ℕ) (values : List Value) (t : Tallying) (column new : Spec) → IsTally section values t → AreSpelled column.form column.constant (meanings_in section values) → IsChosen column (meanings_in section values) new → (new.form ≡ column.form) ↔ IsLeastForm (meanings_in section values) column.form column.constant
+own_is_least section values t column new tally s b = (to, from)
+  where
+    ms : List Meaning
+    ms = meanings_in section values
+
+    only : (code : ℕ) (c d : ℤ) (n m : ℕ) → code ≡ implicit_const → EntriesWithin code c ms n → EntriesWithin code d ms m → c ≡ d
+    only code c d n m is w v =
+        let x : c ≡ t.constant = tally.tallied.only c n (subst (λ (z : ℕ). EntriesWithin z c ms n) is w) in
+        let y : d ≡ t.constant = tally.tallied.only d m (subst (λ (z : ℕ). EntriesWithin z d ms m) is v) in
+        cc (x, y)
+
+    to : new.form ≡ column.form → IsLeastForm ms column.form column.constant
+    to e =
+        let l : IsLeastForm ms column.form new.constant = subst (λ (z : ℕ). IsLeastForm ms z new.constant) e b.least.least in
+        let own = entries_some column.form column.constant ms s in
+        least_with ms column.form new.constant column.constant (λ is. only column.form new.constant column.constant l.enough.entries own.0 is l.enough.within own.1) l
+
+    from : IsLeastForm ms column.form column.constant → new.form ≡ column.form
+    from l = elim (b.first column.form column.constant l) [
+      | inl is ↦ is
+      | inr (differs, le) ↦ absurd (differs refl)
+    ]

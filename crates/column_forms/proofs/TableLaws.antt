@@ -1,6 +1,6 @@
 -- Columns of an abbreviation table.
 use Rattle.std.proofs.Common.{◌≡◌, ◌≤◌, ◌<◌, ◌+◌, ◌-◌, ◌^◌, ℕ, zero, suc, List, [], ◌∷◌, ◌++◌, length, get_or, ◌∙◌, sym, ap, refl, subst, arith, inl, inr}
-use Rattle.std.specs.Prelude.{slice_set, pos, ◌⊎◌, Option, None, Some, IfSome}
+use Rattle.std.specs.Prelude.{slice_set, pos, ◌⊎◌, ◌↔◌, Bool, IsTrue, Option, None, Some, IfSome}
 use Rattle.std.proofs.lemmas.Bool.{cases_lt}
 use Rattle.std.proofs.lemmas.List.{length-set, get_or-set_same, get_or-set_other, get_or_default, get_or_append_left}
 use Rattle.std.proofs.Math.Seq.{get_or-append_seam}
@@ -8,12 +8,12 @@ use Rattle.std.proofs.lemmas.Option.{IfSome_then}
 use Rattle.form_codec.specs.declared.value.Value.{Value}
 use Rattle.abbrev_tables.specs.declared.decl.Spec.{Spec}
 use Rattle.abbrev_tables.specs.Listings.{spec_at}
-use Rattle.form_codec.specs.Columns.{AreSpelled}
+use Rattle.form_codec.specs.Columns.{AreSpelled, IsLeastForm}
 use Rattle.column_forms.specs.Columns.{IsChosen}
 use Rattle.column_forms.specs.Tallies.{IsTally, Tallying, meanings_in}
 use Rattle.column_forms.specs.Rows.{AreHere, value_at}
 use Rattle.column_forms.specs.TableColumns.{tally_at, IsTallyOf, AreTalliesOf, AddsRow, HaveAtMost, HaveRoomForRow, AreBestFor}
-use Rattle.column_forms.specs.inside.TableColumns.{IsNextTally, HasOneMore, AreCounted, IsBestOfTally}
+use Rattle.column_forms.specs.inside.TableColumns.{IsNextTally, HasOneMore, AreCounted, IsBestOfTally, IsLeastOfTally}
 
 abbrev no_spec : Spec
 no_spec = record { name = 0; form = 0; constant = pos 0 }
@@ -136,3 +136,11 @@ all_best section values olds news ts k all same long each held = record {
   count = long ∙ all;
   each = λ i lt. each i (omega arith) section (values i) (held i (omega arith));
 }
+
+-- what a column's sums tell of its form
+pub least_some : (t : Tallying) (column : Spec) (told : Bool) (o : Option Tallying) → o ≡ Some t → ((section : List ℕ) (values : List Value) → IsTally section values t → AreSpelled column.form column.constant (meanings_in section values) → IsTrue told ↔ IsLeastForm (meanings_in section values) column.form column.constant) → IsLeastOfTally o column told
+least_some t column told o is tells section values held some s = tells section values (subst (λ (z : Option Tallying). IsTallyOf section values z) is held) s
+
+-- without sums there are no values
+pub least_none : (column : Spec) (told : Bool) (o : Option Tallying) → o ≡ None → IsLeastOfTally o column told
+least_none column told o is section values held some s = absurd (some (subst (λ (z : Option Tallying). IsTallyOf section values z) is held))

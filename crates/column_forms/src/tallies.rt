@@ -1,9 +1,11 @@
 // The sums of all columns of an abbreviation table.
-ghost use Rattle.std.specs.Prelude.{◌≡◌, ◌≤◌, ◌<◌, ◌+◌, ◌^◌, ℕ, List, [], length, IfOk, IfSome, OnOk};
+ghost use Rattle.std.specs.Prelude.{◌≡◌, ◌≢◌, ◌≤◌, ◌<◌, ◌+◌, ◌^◌, ◌↔◌, ℕ, List, [], length, IsTrue, IfOk, IfSome, OnOk};
 ghost use Rattle.form_codec.specs.declared.value.Value.{Value as AValue};
+ghost use Rattle.form_codec.specs.Columns.{AreSpelled, IsLeastForm};
+ghost use Rattle.column_forms.specs.Tallies.{meanings_in};
 ghost use Rattle.column_forms.specs.Rows.{AreHere};
 ghost use Rattle.column_forms.specs.TableColumns.{AreTalliesOf, AddsRow, HaveRoomForRow, HaveAtMost, AreBestFor};
-ghost use Rattle.column_forms.specs.inside.TableColumns.{IsNextTally, HasOneMore, IsBestOfTally};
+ghost use Rattle.column_forms.specs.inside.TableColumns.{IsNextTally, HasOneMore, IsBestOfTally, IsLeastOfTally};
 
 use crate::tally::Tally;
 use abbrev_tables::Spec;
@@ -52,6 +54,17 @@ fn best_for(tally: &Option<Tally>, column: Spec) -> Spec
     }
 }
 
+// Whether a column that has values is in a least form.
+fn is_least_for(tally: &Option<Tally>, column: Spec) -> bool
+    ensures { IsLeastOfTally tally.now column result }
+{
+    match tally {
+        Some(tally) => tally.is_least(column),
+        // A column without a value takes no bytes, and isn't asked for.
+        None => true,
+    }
+}
+
 impl Tallies {
     /// The sums of so many columns, of which none has a value. The only error is want of memory.
     pub fn new(alloc: Global, count: usize) -> Result<Tallies, NoMemory>
@@ -92,5 +105,14 @@ impl Tallies {
             best.push(best_for(&self.columns[k], columns[k]))?;
         }
         Ok(best)
+    }
+
+    /// Whether the column with a number is in a form that takes the fewest bytes, as `Tally::is_least` says; of one without a value
+    /// nothing is said. `column` is the one whose values were counted.
+    pub fn is_least(&self, k: usize, column: Spec) -> bool
+        requires { k < length self.now }
+        ensures { (section : List ℕ) (values : ℕ → List AValue) → AreTalliesOf section values self.now → values k ≢ [] → AreSpelled column.form column.constant (meanings_in section (values k)) → IsTrue result ↔ IsLeastForm (meanings_in section (values k)) column.form column.constant }
+    {
+        is_least_for(&self.columns[k], column)
     }
 }

@@ -5,7 +5,7 @@ ghost use Rattle.form_codec.specs.declared.value.Value.{Value as AValue};
 ghost use Rattle.form_codec.specs.Forms.{Meaning};
 ghost use Rattle.form_codec.specs.Forms.Meaning.{Whole};
 ghost use Rattle.form_codec.specs.Values.{meant_in, IsValueIn};
-ghost use Rattle.form_codec.specs.Columns.{AreSpelled};
+ghost use Rattle.form_codec.specs.Columns.{AreSpelled, IsLeastForm};
 ghost use Rattle.column_forms.specs.Columns.{IsChosen};
 ghost use Rattle.form_codec.specs.Written.{HasConstant};
 ghost use Rattle.column_forms.specs.Tallies.{meanings_in, IsTally, IsHere};
@@ -183,5 +183,15 @@ impl Tally {
             },
             None => column,
         }
+    }
+
+    /// Whether a column has a form that takes the fewest bytes, counted as `best` counts them. `column` is the one whose values were
+    /// counted, each in its form, and so one of DW_FORM_implicit_const has the one constant that they have. One of DW_FORM_ref1, ref2,
+    /// ref4 or ref8 isn't in a least form, since these are never chosen.
+    pub fn is_least(&self, column: Spec) -> bool
+        ensures { (section : List ℕ) (values : List AValue) → IsTally section values self.now → AreSpelled column.form column.constant (meanings_in section values) → IsTrue result ↔ IsLeastForm (meanings_in section values) column.form column.constant }
+    {
+        // Among the least forms the best one is the column's own, if that is one of them.
+        self.best(column).form == column.form
     }
 }

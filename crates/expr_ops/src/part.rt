@@ -28,8 +28,8 @@ pub(crate) struct ReadPart {
 }
 
 impl Width {
-    // The number of bytes.
-    pub(crate) fn size(self) -> usize
+    /// The number of bytes.
+    pub fn size(self) -> usize
         ensures { result ≡ size_of self }
     {
         match self {

@@ -1,9 +1,10 @@
 -- The columns of an abbreviation table, whose values come entry by entry.
 -- Inner functions and proofs alone need what stands here.
-use Rattle.std.specs.Prelude.{◌≡◌, ◌≤◌, ◌<◌, ◌+◌, ◌⊎◌, ℕ, List, [], ◌∷◌, ◌++◌, length, Option, IfSome}
+use Rattle.std.specs.Prelude.{◌≡◌, ◌≢◌, ◌≤◌, ◌<◌, ◌+◌, ◌⊎◌, ◌↔◌, ℕ, Bool, IsTrue, List, [], ◌∷◌, ◌++◌, length, Option, IfSome}
 use Rattle.form_codec.specs.declared.value.Value.{Value}
 use Rattle.abbrev_tables.specs.declared.decl.Spec.{Spec}
-use Rattle.column_forms.specs.Tallies.{Tallying, IsHere}
+use Rattle.form_codec.specs.Columns.{AreSpelled, IsLeastForm}
+use Rattle.column_forms.specs.Tallies.{Tallying, IsHere, meanings_in}
 use Rattle.column_forms.specs.Rows.{value_at}
 use Rattle.column_forms.specs.TableColumns.{tally_at, IsTallyOf, IsBestFor}
 
@@ -25,3 +26,8 @@ pub record AreCounted (first : ℕ) (row : List Value) (done : ℕ) (old new : L
 -- a column is the best for all values of which this is held
 abbrev pub IsBestOfTally : Option Tallying → Spec → Spec → Type 0
 IsBestOfTally tally old new = (section : List ℕ) (values : List Value) → IsTallyOf section values tally → IsBestFor section values old new
+
+-- of a column with values of which this is held it is told whether it is in a least form, where its form spells them
+abbrev pub IsLeastOfTally : Option Tallying → Spec → Bool → Type 0
+IsLeastOfTally tally column told =
+    (section : List ℕ) (values : List Value) → IsTallyOf section values tally → values ≢ [] → AreSpelled column.form column.constant (meanings_in section values) → IsTrue told ↔ IsLeastForm (meanings_in section values) column.form column.constant

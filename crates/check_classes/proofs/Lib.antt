@@ -1,0 +1,6 @@
+mod FileOffsets
+mod FirstPlaces
+mod TreeEnds
+mod PaddedUnits
+mod OtherPrograms
+mod TidyRows

@@ -1,0 +1,78 @@
+-- The bytes of view pairs of a file that is read.
+use Rattle.std.proofs.Common.{◌≡◌, ◌≤◌, ◌<◌, ◌+◌, ◌-◌, ◌*◌, ◌++◌, ◌∙◌, ℕ, zero, suc, List, [], ◌∷◌, length, drop, refl, sym, ap, subst, arith}
+use Rattle.std.specs.Prelude.{slice_index_or}
+use Rattle.std.proofs.lemmas.List.{length-append, length-drop, length-map, append_assoc, take-append-drop, get_or-map}
+use Rattle.std.proofs.Math.Seq.{drop-append_seam}
+use Rattle.spelled.specs.Spelled.{Joined}
+use Rattle.list_model.specs.declared.entry.ListKind.TheVariants.{Locations}
+use Rattle.list_model.specs.Contributions.{part_end}
+use Rattle.list_model.proofs.Tiling.{part_inside}
+use Rattle.loc_lists.specs.declared.views.ViewPair.{ViewPair}
+use Rattle.loc_lists.specs.Views.{SpellsPair}
+use Rattle.value_links.specs.declared.views.ViewRead.{ViewRead as HeldViews}
+use Rattle.value_links.specs.Sections.{debug_lists}
+use Rattle.value_links.specs.Reading.{ViewRead, Reading, part_at, view_at, list_at}
+use Rattle.value_links.specs.ListPlaces.{IsListPlace}
+use Rattle.value_links.specs.Whole.{IsReading}
+use Rattle.value_links.specs.World.{World, Holds}
+use Rattle.value_links.proofs.Viewings.{views_told}
+use Rattle.value_links.proofs.PartPlaces.{part_stands}
+use Rattle.check_list_places.specs.Followers.{RunHasLength}
+use Rattle.check_list_places.specs.inside.Lengths.{AreNumbersUpTo}
+use Rattle.check_list_places.proofs.EntriesUpTo.{drop_on}
+
+-- behind a front of what stands at a place
+behind : (bytes : List ℕ) (at : ℕ) (first rest : List ℕ) → drop at bytes ≡ first ++ rest → drop (at + length first) bytes ≡ rest
+behind bytes at first rest e = sym (drop_on at (length first) bytes) ∙ ap (drop (length first)) e ∙ drop-append_seam first rest
+
+-- pairs that stand at a place are twice as many numbers
+pub pairs_numbers : (bytes : List ℕ) (at : ℕ) (pairs : List ViewPair) (run rest : List ℕ) (count : ℕ) → count ≡ 2 * length pairs → Joined SpellsPair pairs run → drop at bytes ≡ run ++ rest → AreNumbersUpTo bytes at count (at + length run)
+pairs_numbers bytes at [] run rest zero size joined e = let none : length run ≡ 0 = ap length joined in omega (arith, none)
+pairs_numbers bytes at [] run rest (suc count) size joined e = absurd (omega (arith, size))
+pairs_numbers bytes at (pair ∷ pairs) run rest zero size joined e = absurd (omega (arith, size))
+pairs_numbers bytes at (pair ∷ pairs) run rest (suc zero) size joined e = absurd (omega (arith, size))
+pairs_numbers bytes at (pair ∷ pairs) run rest (suc (suc count)) size (first, later, (one, two, low, high, parts), joined, whole) e =
+    let all : drop at bytes ≡ one ++ (two ++ (later ++ rest)) = e ∙ ap (λ (z : List ℕ). z ++ rest) (whole ∙ ap (λ (z : List ℕ). z ++ later) parts) ∙ append_assoc (one ++ two) later rest ∙ append_assoc one two (later ++ rest) in
+    let next : drop (at + length one) bytes ≡ two ++ (later ++ rest) = behind bytes at one (two ++ (later ++ rest)) all in
+    let last : drop (at + length one + length two) bytes ≡ later ++ rest = behind bytes (at + length one) two (later ++ rest) next in
+    let more = pairs_numbers bytes (at + length one + length two) pairs later rest count (omega (arith, size)) joined last in
+    let end : at + length one + length two + length later ≡ at + length run = (let sum : length run ≡ length one + length two + length later = ap length whole ∙ length-append first later ∙ ap (λ (n : ℕ). n + length later) (ap length parts ∙ length-append one two) in omega (arith, sum)) in
+    (pair.first, one, two ++ (later ++ rest), low, all, (pair.last, two, later ++ rest, high, next, subst (λ (n : ℕ). AreNumbersUpTo bytes (at + length one + length two) count n) end more))
+
+module _ (world : World) (s : Reading) (read : IsReading world.image s) (holds : Holds world.image world s) where
+  -- The run with a number, as it is held: where its numbers end, and how many bytes it has as it is read.
+  pub run_stands : (number : ℕ) (held : HeldViews) → number < length world.views → held ≡ slice_index_or world.views number held → (len : ℕ) × AreNumbersUpTo s.links.locations.section held.at (2 * length held.pairs.items) (held.at + len) × RunHasLength s (view_at s.views number) len × ((view_at s.views number).at ≡ held.at) × (held.at + len ≤ length s.links.locations.section)
+  run_stands number held inside is =
+      let as_read : HeldViews → ViewRead = λ (run : HeldViews). record { list = run.list; at = run.at; pairs = run.pairs.items } in
+      let section = s.links.locations in
+      let none : ViewRead = record { list = 0; at = 0; pairs = [] } in
+      let v : ViewRead = view_at s.views number in
+      let same : v ≡ as_read held = ap (λ (views : List ViewRead). slice_index_or views number none) holds.views ∙ get_or-map as_read world.views number held none inside ∙ ap as_read (sym is) in
+      let known : number < length s.views = subst (λ (n : ℕ). number < n) (sym (ap length holds.views ∙ length-map world.views as_read)) inside in
+      let of = read.views.each number known in
+      let p : ℕ = (list_at s.location_lists of.k).part in
+      let begins = ((read.lists Locations).each of.k of.inside).begins in
+      let ends : part_end (part_at section p) ≤ length section.section = (part_inside section.section (part_at section p) (part_stands section.section section.parts (read.links.lists Locations).tiled p begins.0)).1 in
+      let run = of.read in
+      let front : drop v.at section.section ≡ run.run ++ (run.rest ++ drop (part_end (part_at section p) - v.at) (drop v.at section.section)) =
+      sym (take-append-drop (part_end (part_at section p) - v.at) (drop v.at section.section)) ∙ ap (λ (z : List ℕ). z ++ drop (part_end (part_at section p) - v.at) (drop v.at section.section)) run.whole ∙ append_assoc run.run run.rest (drop (part_end (part_at section p) - v.at) (drop v.at section.section)) in
+      let numbers = pairs_numbers section.section v.at v.pairs run.run (run.rest ++ drop (part_end (part_at section p) - v.at) (drop v.at section.section)) (2 * length v.pairs) refl run.spelled front in
+      let at : v.at ≡ held.at = ap (λ (z : ViewRead). z.at) same in
+      let (u, value, unit, linked) = of.named in
+      let told = views_told s.links u linked.id v.list v.at linked.name linked.meaning linked.links in
+      let together = told.together (p, subst (λ (n : ℕ). IsListPlace section p n) of.at begins) in
+      let lies : v.at < part_end (part_at section together.0) = together.2.1.before in
+      let last : part_end (part_at section together.0) ≤ length section.section = (part_inside section.section (part_at section together.0) (part_stands section.section section.parts (read.links.lists Locations).tiled together.0 together.2.0)).1 in
+      let sum : length section.section - v.at ≡ length run.run + length (run.rest ++ drop (part_end (part_at section p) - v.at) (drop v.at section.section)) = sym (length-drop v.at section.section) ∙ ap length front ∙ length-append run.run (run.rest ++ drop (part_end (part_at section p) - v.at) (drop v.at section.section)) in
+      let room : held.at + length run.run ≤ length section.section = omega (arith, at, lies, last, sum) in
+      (length run.run, subst (λ (z : ViewRead). AreNumbersUpTo section.section z.at (2 * length z.pairs) (z.at + length run.run)) same numbers, record { p = p; part = record { k = of.k; inside = of.inside; list = of.at; part = refl }; bytes = run.run; rest = run.rest; stands = run.whole; read = run.spelled; count = refl }, at, room)
+
+  -- the run that is taken from those that are held
+  pub run_taken : (views : List HeldViews) (number : ℕ) (held : HeldViews) → views ≡ world.views → held ≡ slice_index_or views number held → held ≡ slice_index_or world.views number held
+  run_taken views number held same is = is ∙ ap (λ (all : List HeldViews). slice_index_or all number held) same
+
+  -- and its numbers in the bytes of the section
+  pub numbers_taken : (section : List ℕ) (held : HeldViews) (pairs : List ViewPair) (end : ℕ) → section ≡ debug_lists world.image Locations → pairs ≡ held.pairs.items → AreNumbersUpTo s.links.locations.section held.at (2 * length held.pairs.items) end → AreNumbersUpTo section held.at (2 * length pairs) end
+  numbers_taken section held pairs end bytes same numbers =
+      subst (λ (all : List ViewPair). AreNumbersUpTo section held.at (2 * length all) end) (sym same)
+      (subst (λ (z : List ℕ). AreNumbersUpTo z held.at (2 * length held.pairs.items) end) (holds.sections Locations ∙ sym bytes) numbers)

@@ -1,0 +1,47 @@
+use Rattle.std.proofs.Common.{◌≡◌, ◌<◌, ◌+◌, ◌∙◌, ℕ, List, [], ◌∷◌, ◌++◌, length, get_or, sym, ap, subst, arith}
+use Rattle.std.proofs.lemmas.Grind.{common_steps}
+use Rattle.std.proofs.lemmas.List.{length_push}
+use Rattle.value_links.specs.declared.lists.ListRead.{ListRead}
+use Rattle.value_links.specs.declared.views.ViewRead.{ViewRead}
+use Rattle.value_links.specs.Reading.{view_at}
+use Rattle.value_links.specs.World.{lists_held}
+use Rattle.check_list_places.specs.declared.due.Place.{Place}
+use Rattle.check_list_places.specs.Followers.{RunHasLength}
+use Rattle.check_list_places.specs.inside.Compared.{OfBoth}
+use Rattle.check_list_places.specs.inside.DuePlaces.{runs_held, IsNextDue}
+use Rattle.check_list_places.proofs.HeldThings.{AreRunsSwept}
+use Rattle.check_list_places.proofs.DueWorlds.{first_known, next_more, swept_more}
+use Rattle.check_list_places.proofs.due.push_runs.Goals as goal
+
+pub run_len-len-requires-clause-inside : goal.run_len-len-requires-clause-inside
+run_len-len-requires-clause-inside c =
+    let a = c.args.before.now in
+    let firsts = c.args.firsts.now in
+    let count : c.len-in-loop-due-2.result ≡ length c.loop-due.due.items = grind (arith, common_steps) in
+    let same : c.len.result ≡ length c.loop-due.due.items = grind (arith, common_steps) in
+    let inside : length c.loop-due.due.items < length (runs_held a c.args.kind) = omega (arith, same, c.loop-due-test.true, ap (λ (z : List ViewRead). length z) c.runs_of-views.ensures) in
+    let known = first_known a c.args.after.now c.args.kind c.requires.before c.requires.after firsts (length c.loop-due.due.items) c.requires.firsts inside in
+    subst (λ (z : ℕ). get_or firsts z 0 < length c.args.after.now.views) (sym count) known
+
+pub loop-due-preserved : goal.loop-due-preserved
+loop-due-preserved c =
+    let a = c.args.before.now in
+    let b = c.args.after.now in
+    let kind = c.args.kind in
+    let number : ℕ = c.args.number in
+    let firsts = c.args.firsts.now in
+    let due : List Place = c.loop-due.due.items in
+    let d : ListRead = c.index-lists-number.result in
+    let e : ViewRead = c.index-views-len.result in
+    let same : c.len.result ≡ length due = grind (arith, common_steps) in
+    let again : c.len-in-loop-due.result ≡ length due = grind (arith, common_steps) in
+    let third : c.len-in-loop-due-2.result ≡ length due = grind (arith, common_steps) in
+    let inside : length due < length (runs_held a kind) = omega (arith, same, c.loop-due-test.true, ap (λ (z : List ViewRead). length z) c.runs_of-views.ensures) in
+    let with : (get_or (runs_held a kind) (length due) e).list ≡ (get_or (lists_held a kind) number d).at =
+    ap (λ (z : List ViewRead). (get_or z (length due) e).list) (sym c.runs_of-views.ensures) ∙ ap (λ (z : ℕ). (get_or c.runs_of-views.result.now z e).list) (sym again) ∙ c.if-views-len.true ∙ ap (λ (z : List ListRead). (get_or z number d).at) c.lists.ensures in
+    let has : OfBoth b b (λ r s. RunHasLength s (view_at s.views (get_or firsts (length due) 0)) c.run_len-len.result) = subst (λ (z : ℕ). OfBoth b b (λ r s. RunHasLength s (view_at s.views (get_or firsts z 0)) c.run_len-len.result)) third c.run_len-len.ensures.len in
+    let items : c.push.new.self.items ≡ due ++ c.loop-due.next ∷ [] = c.in_ok-push.ensures.items in
+    let next = next_more a b kind number firsts due d e c.loop-due.next c.run_len-len.result c.saturating_add.result c.requires.inside inside c.requires.firsts with has c.saturating_add.ensures c.loop-due.invariant.0 in
+    let swept = swept_more a b kind number (length c.args.due.now.items) (length due) d e c.requires.inside inside with c.loop-due.invariant.1 in
+    let long : length due + 1 ≡ length c.push.new.self.items = sym (ap (λ (z : List Place). length z) items ∙ length_push due c.loop-due.next) in
+    (subst (λ (z : List Place). OfBoth a b (λ r s. IsNextDue kind r s number z (record { part = c.loop-due.next.part; at = c.saturating_add.result }))) (sym items) next, subst (AreRunsSwept a kind number (length c.args.due.now.items)) long swept)

@@ -1,0 +1,4 @@
+pub mod Followers
+pub mod Due
+pub mod Rows
+pub mod inside

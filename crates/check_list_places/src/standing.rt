@@ -1,0 +1,64 @@
+// Where the lists and view pairs of a file stand.
+ghost use Rattle.std.specs.Prelude.{◌≡◌, ◌<◌, ℕ, length, map, slice_index_or, IfOk};
+ghost use Rattle.dw_base.specs.declared.fault.Reach.{Reach};
+ghost use Rattle.value_links.specs.declared.lists.ListRead.{ListRead as HeldList};
+ghost use Rattle.value_links.specs.World.{IsWorldOf, lists_held};
+ghost use Rattle.check_list_places.specs.inside.Compared.{OfBoth};
+ghost use Rattle.check_list_places.specs.inside.DuePlaces.{runs_held, standing, IsPartOfList, StandRuns};
+
+use crate::due::{Place, runs_of};
+use dw_base::NoMemory;
+use list_model::ListKind;
+use std::alloc::Global;
+use value_links::World;
+
+/// Where the lists of a kind stand, by their numbers.
+pub(crate) fn list_places(
+    alloc: Global,
+    world: &World<'_>,
+    kind: ListKind,
+) -> Result<Vec<Place>, NoMemory>
+    ensures { IfOk result (λ places. places.items ≡ map standing (lists_held world.now kind)) }
+{
+    let mut places = Vec::new(alloc);
+    for list in world.lists(kind) {
+        let place = Place {
+            part: list.part,
+            at: list.at,
+        };
+        places.push(place)?;
+    }
+    Ok(places)
+}
+
+// The number of the contribution of the list of a kind that begins at a place.
+fn part_of_list(world: &World<'_>, kind: ListKind, at: u64) -> u32
+    requires world { (reach : Reach) × IsWorldOf world.now.image reach world.now }
+    requires there { (k : ℕ) × (k < length (lists_held world.now kind)) × ((list : HeldList) → (slice_index_or (lists_held world.now kind) k list).at ≡ at) }
+    ensures { OfBoth world.now world.now (λ r s. IsPartOfList kind s at result) }
+{
+    let lists = world.lists(kind);
+    match lists.binary_search_by_key(&at, |list| list.at) {
+        Ok(number) => lists[number].part,
+        // A list begins there.
+        Err(_) => unreachable!(),
+    }
+}
+
+/// Where the runs of view pairs stand that go with lists of a kind, by their numbers. Their contributions are those of their lists.
+pub(crate) fn run_places(
+    alloc: Global,
+    world: &World<'_>,
+    kind: ListKind,
+) -> Result<Vec<Place>, NoMemory>
+    requires { (reach : Reach) × IsWorldOf world.now.image reach world.now }
+    ensures count { IfOk result (λ places. length places.items ≡ length (runs_held world.now kind)) }
+    ensures each { IfOk result (λ places. OfBoth world.now world.now (λ r s. StandRuns kind s (length places.items) places.items)) }
+{
+    let mut places = Vec::new(alloc);
+    for run in runs_of(world, kind) {
+        let part = part_of_list(world, kind, run.list);
+        places.push(Place { part, at: run.at })?;
+    }
+    Ok(places)
+}

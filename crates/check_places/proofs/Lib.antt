@@ -1,0 +1,10 @@
+pub mod DuePlaces
+pub mod DueOrders
+pub mod Gaps
+pub mod MovableParts
+pub mod Offs
+pub mod Headers
+pub mod Strays
+pub mod MisplacedRows
+pub mod LaidOut
+pub mod InPlace

@@ -1,0 +1,4 @@
+pub mod Firsts
+pub mod Misplaced
+pub mod Laws
+pub mod inside

@@ -1,0 +1,26 @@
+pub mod TableNamers
+pub mod UnitsOfTables
+pub mod ColumnEntries
+pub mod LeastColumns
+pub mod ColumnMeanings
+pub mod DeclarationPlaces
+pub mod DeclarationsOfWorlds
+mod TableBytes
+mod FirstNamers
+mod SameUnits
+mod TableNumbers
+mod PairLaws
+mod EntryPairs
+mod SectionOffsets
+mod PlacesInside
+mod UntidyRows
+mod UseLaws
+mod Countable
+mod LeastPlaces
+mod WrittenLaws
+mod TablePlaces
+mod CodeLaws
+mod SortedOnce
+mod OutlineLaws
+mod TableReadings
+mod UntidyTables

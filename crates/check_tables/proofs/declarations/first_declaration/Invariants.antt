@@ -1,0 +1,6 @@
+use Rattle.check_places.specs.Firsts.{IsLeastFound}
+use Rattle.check_tables.specs.inside.UntidyDeclarations.{IsUntidyAmong}
+use Rattle.check_tables.proofs.declarations.first_declaration.Given as goal
+
+abbrev pub invariant-loop-i : goal.invariant-loop-i
+invariant-loop-i l = IsLeastFound (IsUntidyAmong l.after.units l.after.tables l.i) l.first

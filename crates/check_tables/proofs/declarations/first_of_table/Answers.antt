@@ -1,0 +1,13 @@
+use Rattle.check_tables.proofs.ColumnMeanings.{units_listed, columns_held}
+use Rattle.check_tables.proofs.declarations.first_of_table.Goals as goal
+
+pub gather-requires-clause-named : goal.gather-requires-clause-named
+gather-requires-clause-named c = (c.requires.section, units_listed c.args.units.now.items c.args.table.now c.args.named.now.items c.requires)
+
+pub first_of_values-requires-clause-values : goal.first_of_values-requires-clause-values
+first_of_values-requires-clause-values c =
+    (c.args.units.now.items, columns_held c.args.units.now.items c.args.table.now c.args.named.now.items c.requires c.in_ok-values.values c.in_ok-values.ensures)
+
+pub returns : goal.returns
+returns c =
+    c.first_of_values.ensures c.args.units.now.items (columns_held c.args.units.now.items c.args.table.now c.args.named.now.items c.requires c.in_ok-values.values c.in_ok-values.ensures)

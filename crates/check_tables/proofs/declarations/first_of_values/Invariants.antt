@@ -1,0 +1,7 @@
+use Rattle.std.proofs.Common.{ℕ, List}
+use Rattle.entry_read.specs.Units.{HeadAndForest}
+use Rattle.check_tables.specs.inside.UntidyDeclarations.{HoldsColumns, IsUntidyBelow}
+use Rattle.check_tables.proofs.declarations.first_of_values.Given as goal
+
+abbrev pub invariant-loop-number : goal.invariant-loop-number
+invariant-loop-number l = (units : List HeadAndForest) → HoldsColumns units l.table l.values → (p : ℕ) → IsUntidyBelow units l.table l.number p → ⊥

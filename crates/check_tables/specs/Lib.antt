@@ -1,0 +1,3 @@
+pub mod Untidy
+pub mod Rows
+pub mod inside

@@ -1,0 +1,10 @@
+use Rattle.check_places.specs.Firsts.{IsLeastFound}
+use Rattle.long_numbers.specs.inside.LongEntries.{IsLongAmongValues}
+use Rattle.long_numbers.proofs.EntryNumbers.{HaveCome}
+use Rattle.long_numbers.proofs.entry_values.first_in_values.Given as goal
+
+abbrev pub invariant-loop-column : goal.invariant-loop-column
+invariant-loop-column l = record {
+  come : HaveCome l.info l.columns l.fn.from l.column-index l.at;
+  least : IsLeastFound (IsLongAmongValues l.info l.columns l.fn.from l.column-index) l.first;
+}

@@ -1,0 +1,10 @@
+use Rattle.check_places.specs.Firsts.{IsLeastFound}
+use Rattle.value_links.specs.Sections.{debug_lists}
+use Rattle.value_links.specs.World.{lists_held}
+use Rattle.long_numbers.proofs.FoundAmong.{HoldsBelow}
+use Rattle.long_numbers.proofs.ListPlaces.{IsLongNumbered}
+use Rattle.long_numbers.proofs.lists.first_in_lists.Given as goal
+
+-- the least place in the lists so far
+abbrev pub invariant-loop-list : goal.invariant-loop-list
+invariant-loop-list l = IsLeastFound (HoldsBelow (IsLongNumbered l.kind (debug_lists l.world.image l.kind) (lists_held l.world l.kind)) l.list-index) l.found
