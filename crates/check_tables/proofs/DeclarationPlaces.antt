@@ -1,6 +1,6 @@
 -- The first untidy declaration of a table, and of all tables.
-use Rattle.std.proofs.Common.{◌≡◌, ◌≢◌, ◌≤◌, ◌<◌, ◌+◌, ◌⊎◌, ◌∙◌, inl, inr, ℕ, zero, suc, Bool, List, [], ◌∷◌, ◌++◌, length, take, drop, min, sym, ap, subst, arith}
-use Rattle.std.specs.Prelude.{Option, Some, None, ◌↔◌, IsTrue}
+use Rattle.std.proofs.Common.{◌≡◌, ◌≢◌, ◌≤◌, ◌<◌, ◌+◌, ◌⊎◌, ◌∙◌, inl, inr, ℕ, zero, suc, Bool, List, [], ◌∷◌, ◌++◌, length, take, drop, sym, ap, subst, arith}
+use Rattle.std.specs.Prelude.{◌↔◌, IsTrue}
 use Rattle.std.proofs.lemmas.Bool.{cases_lt}
 use Rattle.std.proofs.lemmas.List.{get_or-take, get_or-drop, length-append, length-drop, length-take-le}
 use Rattle.form_codec.specs.Forms.{Meaning}
@@ -15,11 +15,11 @@ use Rattle.entry_read.specs.Units.{HeadAndForest, declarations_of, IsTable}
 use Rattle.entry_read.proofs.Declarations.{columns_inside, declared_is}
 use Rattle.value_links.specs.declared.units.NamedTable.{NamedTable}
 use Rattle.value_links.specs.Uses.{column_meanings, taken_meanings}
-use Rattle.check_places.specs.Firsts.{IsLeastPlace, IsLeastFound}
+use Rattle.check_places.specs.Firsts.{IsLeastPlace}
 use Rattle.check_tables.specs.declared.column_values.ColumnValues.{ColumnValues}
 use Rattle.check_tables.specs.Untidy.{IsFallen}
 use Rattle.check_tables.specs.inside.ColumnValues.{Headed, meant_with_heads, without_heads, HoldsValues}
-use Rattle.check_tables.specs.inside.UntidyDeclarations.{AreShortTo, HasLongColumnIn, HoldsColumns, IsUntidyBelow, IsUntidyIn, lesser_of}
+use Rattle.check_tables.specs.inside.UntidyDeclarations.{AreShortTo, HasLongColumnIn, HoldsColumns, IsUntidyBelow, IsUntidyIn}
 
 -- PLACES
 
@@ -129,24 +129,3 @@ module _ (units : List HeadAndForest) (table : NamedTable) (stands : IsTable tab
               absurd (omega (arith, ap (λ (z : ℕ). (decl_at table.table.decls z).at) same, place, at, less))
         ]
       ]
-
--- THE LEAST OF SEVERAL
-
--- the same of what holds at the same places
-pub found_as : (P Q : ℕ → Type 0) → ((p : ℕ) → P p → Q p) → ((p : ℕ) → Q p → P p) → (found : Option ℕ) → IsLeastFound P found → IsLeastFound Q found
-found_as P Q to from None none = λ p holds. none p (from p holds)
-found_as P Q to from (Some p) least = (to p least.0, λ q less holds. least.1 q less (from q holds))
-
--- the lesser of two places is the least at which one or the other holds
-pub lesser_found : (P Q : ℕ → Type 0) (a b : Option ℕ) → IsLeastFound P a → IsLeastFound Q b → IsLeastFound (λ (p : ℕ). P p ⊎ Q p) (lesser_of a b)
-lesser_found P Q None None none other = λ p holds. elim holds [ inl here ↦ none p here | inr here ↦ other p here ]
-lesser_found P Q None (Some q) none other = (inr other.0, λ p less holds. elim holds [ inl here ↦ none p here | inr here ↦ other.1 p less here ])
-lesser_found P Q (Some p) None least none = (inl least.0, λ q less holds. elim holds [ inl here ↦ least.1 q less here | inr here ↦ none q here ])
-lesser_found P Q (Some p) (Some q) least other = elim (cases_lt p q) [
-  | inl before ↦
-      let is : p ≡ min p q = omega arith in
-      subst (λ (z : ℕ). IsLeastPlace (λ (x : ℕ). P x ⊎ Q x) z) is (inl least.0, λ x less holds. elim holds [ inl here ↦ least.1 x less here | inr here ↦ other.1 x (omega arith) here ])
-  | inr after ↦
-      let is : q ≡ min p q = omega arith in
-      subst (λ (z : ℕ). IsLeastPlace (λ (x : ℕ). P x ⊎ Q x) z) is (inr other.0, λ x less holds. elim holds [ inl here ↦ least.1 x (omega arith) here | inr here ↦ other.1 x less here ])
-]

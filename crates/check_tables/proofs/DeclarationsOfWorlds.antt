@@ -16,16 +16,17 @@ use Rattle.check_places.specs.Firsts.{IsLeastFound}
 use Rattle.check_tables.specs.declared.table_namers.Namers.{Namers}
 use Rattle.check_tables.specs.Untidy.{place_of, HasUnused, IsUntidyDeclaration}
 use Rattle.check_tables.specs.inside.TableNamers.{units_with, AreNamers}
-use Rattle.check_tables.specs.inside.UntidyDeclarations.{AreAllNamers, IsUntidyIn, IsUntidyAmong, lesser_of}
+use Rattle.check_tables.specs.inside.UntidyDeclarations.{AreAllNamers, IsUntidyIn, IsUntidyAmong}
+use Rattle.check_tables.specs.inside.Marked.{lesser_of}
 use Rattle.check_tables.proofs.UnitsOfTables.{unit_count, of_table}
-use Rattle.check_tables.proofs.DeclarationPlaces.{found_as, lesser_found}
+use Rattle.check_tables.proofs.LeastPlaces.{least_same, least_either}
 
 -- ALL TABLES
 
 -- one table more
 pub among_more : (units : List HeadAndForest) (tables : List NamedTable) (i : ℕ) (found place : Option ℕ) → IsLeastFound (IsUntidyAmong units tables i) found → IsLeastFound (IsUntidyIn units (table_at tables i)) place → IsLeastFound (IsUntidyAmong units tables (i + 1)) (lesser_of found place)
 among_more units tables i found place before here =
-    found_as (λ (p : ℕ). IsUntidyAmong units tables i p ⊎ IsUntidyIn units (table_at tables i) p) (IsUntidyAmong units tables (i + 1)) to from (lesser_of found place) (lesser_found (IsUntidyAmong units tables i) (IsUntidyIn units (table_at tables i)) found place before here)
+    least_same (λ (p : ℕ). IsUntidyAmong units tables i p ⊎ IsUntidyIn units (table_at tables i) p) (IsUntidyAmong units tables (i + 1)) (lesser_of found place) to from (least_either (IsUntidyAmong units tables i) (IsUntidyIn units (table_at tables i)) found place before here)
   where
     to : (p : ℕ) → IsUntidyAmong units tables i p ⊎ IsUntidyIn units (table_at tables i) p → IsUntidyAmong units tables (i + 1) p
     to p (inl (n, below, untidy)) = (n, omega arith, untidy)
@@ -61,7 +62,7 @@ module _ (world : World) (r : Reading) (read : IsReading world.image r) (holds :
 
   -- the first of all tables is the first of all
   pub first_of_all : (n : ℕ) (found : Option ℕ) → n ≡ length world.tables → IsLeastFound (IsUntidyAmong world.units world.tables n) found → IsLeastFound (IsUntidyDeclaration r.links) found
-  first_of_all n found all least = found_as (IsUntidyAmong world.units world.tables n) (IsUntidyDeclaration r.links) (λ p untidy. untidy_to n p (omega arith) untidy) (λ p untidy. untidy_from n p (omega arith) untidy) found least
+  first_of_all n found all least = least_same (IsUntidyAmong world.units world.tables n) (IsUntidyDeclaration r.links) found (λ p untidy. untidy_to n p (omega arith) untidy) (λ p untidy. untidy_from n p (omega arith) untidy) least
 
   module _ (used : (q : ℕ) → HasUnused r.links q → ⊥) where
     -- each declaration of the table of a unit has uses

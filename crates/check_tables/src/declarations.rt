@@ -1,15 +1,16 @@
 // Declarations: their codes rise, and their columns are in least forms.
-ghost use Rattle.std.specs.Prelude.{◌≡◌, ◌<◌, ◌↔◌, ◌⊎◌, ℕ, List, length, IsTrue, IfOk};
+ghost use Rattle.std.specs.Prelude.{◌<◌, ◌↔◌, ◌⊎◌, ℕ, List, length, IsTrue, IfOk};
 ghost use Rattle.dw_base.specs.declared.fault.Reach.{Reach};
 ghost use Rattle.entry_read.specs.Units.{HeadAndForest, declarations_of, IsTable};
 ghost use Rattle.value_links.specs.World.{IsWorldOf};
 ghost use Rattle.check_places.specs.Firsts.{IsLeastFound};
 ghost use Rattle.check_tables.specs.Untidy.{HasUnused, IsFallen, IsUntidyDeclaration};
 ghost use Rattle.check_tables.specs.inside.Compared.{OfBoth};
-ghost use Rattle.check_tables.specs.inside.UntidyDeclarations.{AreAllNamers, HasLongColumnIn, HoldsColumns, IsUntidyIn, lesser_of};
+ghost use Rattle.check_tables.specs.inside.UntidyDeclarations.{AreAllNamers, HasLongColumnIn, HoldsColumns, IsUntidyIn};
 
 use crate::column_values::ColumnValues;
 use crate::table_namers::units_by_table;
+use crate::table_places::lesser;
 use abbrev_tables::Table;
 use dw_base::NoMemory;
 use entry_read::Unit;
@@ -77,17 +78,6 @@ fn first_of_table(
 {
     let values = ColumnValues::gather(alloc, units, named, &table.table)?;
     Ok(first_of_values(&values, table))
-}
-
-// The lesser of two places, where there are any.
-fn lesser(place: Option<u64>, other: Option<u64>) -> Option<u64>
-    ensures { result ≡ lesser_of place other }
-{
-    match (place, other) {
-        (Some(p), Some(q)) => Some(p.min(q)),
-        (Some(p), None) => Some(p),
-        (None, other) => other,
-    }
 }
 
 /// The first declaration of a written file that has a column which isn't in a least form, or a code that isn't above the one before it, by

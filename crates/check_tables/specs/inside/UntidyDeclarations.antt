@@ -1,5 +1,5 @@
 -- The declarations of tables, as it is looked for the first untidy one.
-use Rattle.std.specs.Prelude.{◌≡◌, ◌≢◌, ◌<◌, ◌+◌, ◌⊎◌, ℕ, List, [], length, min, Option, Some, None}
+use Rattle.std.specs.Prelude.{◌≡◌, ◌≢◌, ◌<◌, ◌+◌, ◌⊎◌, ℕ, List, [], length}
 use Rattle.form_codec.specs.Columns.{AreSpelled, IsLeastForm}
 use Rattle.abbrev_tables.specs.Listings.{decl_at, spec_at}
 use Rattle.column_forms.specs.Tallies.{meanings_in}
@@ -35,12 +35,6 @@ IsUntidyIn units table p = IsUntidyBelow units table (length table.table.decls) 
 -- one of those of the first so many tables is
 abbrev pub IsUntidyAmong : List HeadAndForest → List NamedTable → ℕ → ℕ → Type 0
 IsUntidyAmong units tables n p = (i : ℕ) × (i < n) × IsUntidyIn units (table_at tables i) p
-
--- the lesser of two places, where there are any
-abbrev pub lesser_of : Option ℕ → Option ℕ → Option ℕ
-lesser_of None other = other
-lesser_of (Some p) None = Some p
-lesser_of (Some p) (Some q) = Some (min p q)
 
 -- The listed units are all that name the table, and each declaration of it has uses.
 pub record AreAllNamers (units : List HeadAndForest) (table : NamedTable) (named : List ℕ) : Type 0 where
