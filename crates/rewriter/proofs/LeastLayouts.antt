@@ -34,7 +34,7 @@ use Rattle.unit_write.specs.Moved.{NewValues, IsMovedEntry, AreMovedValues, IsPl
 use Rattle.unit_write.specs.Slots.{spot_place, spot_at, list_spot, IsSpotPlaced, IsListSlotFor, aims_anew, IsLaidOut, AreSpotNumbers}
 use Rattle.value_links.specs.Sections.{debug_info, debug_abbrev}
 use Rattle.value_links.specs.Reading.{UnitRead, Reading, declarations, unit_at, IsUnitRead}
-use Rattle.value_links.specs.Layouts.{place_told, all_aims, list_expressions, AreOwnedLists, HasLayout, HasLeastLayout}
+use Rattle.value_links.specs.Layouts.{place_told, all_aims, list_expressions, AreOwnedLists, HasSlots, HasLayout, HasLeastLayout}
 use Rattle.value_links.specs.Certificates.{AreFirstRanks, HaveRanks}
 use Rattle.value_links.specs.World.{World, head_and_forest, table_at, operations_at}
 use Rattle.rewriter.specs.declared.tables.NewTable.{NewTable}
@@ -195,8 +195,8 @@ module _ (s : Reading) (u : ℕ) (read unit : HeadAndForest) (table : Listing) (
       let bytes : bytes_in unit.forest.section old_span ≡ expression_bytes (meaning_at unit.forest k) = sym (ap (λ (v : Value). expression_bytes (meant_in unit.forest.section v)) at) in
       subst (λ (z : List ℕ). IsExpression Wide (with_refs refs (all_meant z (ops_of held k))) (bytes_in new.forest.section span)) bytes (subst (IsExpression Wide (with_refs refs (all_meant (bytes_in unit.forest.section old_span) (ops_of held k)))) made e.written.expression)
 
-  layout_there : HasLayout s u laid.rows laid.sizes
-  layout_there = record {
+  slots_there : HasSlots s u laid.rows laid.sizes
+  slots_there = record {
     ops = operations_anew unit.forest held op_numbers;
     spelled = spelled_there;
     owned = owned;
@@ -206,8 +206,10 @@ module _ (s : Reading) (u : ℕ) (read unit : HeadAndForest) (table : Listing) (
     count = laid.slots.count ∙ sym all_still;
     each = laid.layout.same_length;
     slots = row_there;
-    sized = laid.tight;
   }
+
+  layout_there : HasLayout s u laid.rows laid.sizes
+  layout_there = record { made = slots_there; sized = laid.tight }
 
   ranked_there : IsRanked s u ranks
   ranked_there = record { rows = laid.rows; sizes = laid.sizes; layout = layout_there; least = laid.least; ranked = (laid.accepted, laid.first) }

@@ -1,4 +1,3 @@
-pub mod AddressTables
 pub mod AllColumns
 pub mod ApartLaws
 pub mod Appends
@@ -61,7 +60,6 @@ pub mod NewExpressions
 pub mod OffsetSizes
 pub mod OpNumbers
 pub mod OwnedAnew
-pub mod OwnedLists
 pub mod PairCounts
 pub mod PickedLists
 pub mod Placement

@@ -26,10 +26,11 @@ use Rattle.value_links.specs.Layouts.{AreNumbersOf, AreOwnedLists, list_expressi
 use Rattle.value_links.specs.Lists.{IsOwner, expressions_at}
 use Rattle.value_links.specs.Reading.{Linkable, Reading, unit_at, list_at}
 use Rattle.value_links.specs.World.{World, Holds}
+use Rattle.list_lookup.specs.Owned.{IsOwnedBy, AreOwnedIn}
 use Rattle.rewriter.specs.declared.tables.NewTable.{NewTable}
 use Rattle.rewriter.specs.declared.new_places.NewPlaces.{NewPlaces}
 use Rattle.rewriter.specs.inside.Numbers.{IsNewExpression}
-use Rattle.rewriter.specs.inside.Owned.{IsOwnedBy, AreOwnedIn, AreListAims}
+use Rattle.rewriter.specs.inside.Owned.{AreListAims}
 use Rattle.rewriter.specs.inside.Placed.{PlacesAnew, places_at}
 use Rattle.rewriter.specs.inside.Follows.{AreReadAnew}
 use Rattle.rewriter.proofs.Links.{some_of}

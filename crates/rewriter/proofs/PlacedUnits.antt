@@ -32,9 +32,10 @@ use Rattle.value_links.specs.Sections.{debug_info}
 use Rattle.value_links.specs.Reading.{unit_at, declarations}
 use Rattle.value_links.specs.World.{World, table_at, operations_at, IsWorldOf}
 use Rattle.value_links.specs.declared.units.NamedTable.{NamedTable}
+use Rattle.list_lookup.specs.Owned.{AreOwnedIn}
 use Rattle.rewriter.specs.declared.tables.NewTable.{NewTable}
 use Rattle.rewriter.specs.inside.Tables.{TableAnew, table_anew, new_table_at}
-use Rattle.rewriter.specs.inside.Owned.{AreOwnedIn, AreListAims}
+use Rattle.rewriter.specs.inside.Owned.{AreListAims}
 use Rattle.rewriter.specs.inside.Taken.{IsTakenFrom}
 use Rattle.rewriter.specs.inside.Placed.{unit_in, written_in, operations_for, AreWritable}
 use Rattle.rewriter.specs.inside.Held.{HasTable, table_for, IsPlacedFrom}

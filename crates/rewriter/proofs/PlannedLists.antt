@@ -46,10 +46,11 @@ use Rattle.value_links.specs.Reading.{ListRead, Linkable, Reading, of_kind, list
 use Rattle.value_links.specs.Lists.{IsOwner, IsFrozen, IsListOf, item_count, AreListsOf}
 use Rattle.value_links.specs.Classes.{AreLeastBytes}
 use Rattle.value_links.specs.World.{World, lists_held, IsMeaningOf, HoldsMeaning, HoldsList, Holds, IsWorldOf}
-use Rattle.rewriter.specs.inside.Plans.{with_plan, IsContextIn, IsPlanOf}
+use Rattle.list_lookup.specs.Maps.{IsContextIn}
+use Rattle.list_lookup.proofs.AddressTables.{context_same}
+use Rattle.rewriter.specs.inside.Plans.{with_plan, IsPlanOf}
 use Rattle.rewriter.specs.inside.Lists.{IsPlannedFor, IsRecordedFor}
 use Rattle.rewriter.proofs.Standing.{held_count}
-use Rattle.rewriter.proofs.AddressTables.{context_same}
 
 -- ---- counts
 

@@ -15,7 +15,7 @@ use Rattle.unit_write.specs.Placing.{columns_of}
 use Rattle.value_links.specs.declared.units.NamedTable.{NamedTable}
 use Rattle.value_links.specs.Sections.{debug_info, debug_abbrev}
 use Rattle.value_links.specs.Reading.{UnitRead, unit_at, IsUnitRead}
-use Rattle.value_links.specs.World.{World, head_and_forest, table_at, IsWorldOf}
+use Rattle.value_links.specs.World.{World, IsWorldOf}
 use Rattle.rewriter.specs.declared.tables.NewTable.{NewTable}
 use Rattle.rewriter.specs.inside.Held.{table_for}
 use Rattle.rewriter.specs.inside.Placed.{unit_in, written_in, AreWritable}

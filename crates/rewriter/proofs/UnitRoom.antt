@@ -1,4 +1,4 @@
--- How many units a valid file has, and that there is room for them, however long they get when they are written anew.
+-- How many tables the units of a valid file have, and that there is room for the units, however long they get when they are written anew.
 use Rattle.std.proofs.Common.{◌≡◌, ◌≤◌, ◌<◌, ◌+◌, ◌*◌, ◌^◌, ◌∙◌, ℕ, List, [], ◌∷◌, length, map, sym, ap, refl, subst, arith}
 use Rattle.std.specs.List.{sum_by}
 use Rattle.std.proofs.lemmas.List.Sums.{sum_by-cons}
@@ -11,15 +11,8 @@ use Rattle.value_links.specs.Reading.{UnitRead, unit_heads}
 use Rattle.value_links.specs.World.{World, head_and_forest, IsWorldOf}
 use Rattle.value_links.proofs.HeldUnits.{few_units}
 use Rattle.rewriter.proofs.DebugSizes.{debug_short}
-use Rattle.rewriter.proofs.Standing.{held_count}
 
--- each unit has an entry, so that they are fewer than 2^32
-pub units_are_few : (world : World) (reach : Reach) → IsWorldOf world.image reach world → length world.units < 2 ^ 32
-units_are_few world reach is =
-    let read : length is.r.links.units < 2 ^ 32 = few_units (debug_info world.image) (debug_abbrev world.image) is.r.links.units is.read.links.units in
-    subst (λ (z : ℕ). z < 2 ^ 32) (sym (held_count world.image world is.r is.holds)) read
-
--- and each has a number of its table
+-- each unit has a number of its table, so that there are fewer than 2^32 of these
 pub numbers_are_few : (world : World) (reach : Reach) (table_of : List ℕ) → IsWorldOf world.image reach world → table_of ≡ world.table_of → length table_of < 2 ^ 32
 numbers_are_few world reach table_of is same =
     let read : length is.r.links.units < 2 ^ 32 = few_units (debug_info world.image) (debug_abbrev world.image) is.r.links.units is.read.links.units in

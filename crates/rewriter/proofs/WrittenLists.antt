@@ -30,6 +30,7 @@ use Rattle.value_links.specs.Reading.{ListRead, ListSection, Reading, of_kind, l
 use Rattle.value_links.specs.Lists.{IsOwner, IsFrozen, item_count, expressions_at, owner_unit}
 use Rattle.value_links.specs.ListFaults.{list_total, entry_total, expression_bytes}
 use Rattle.value_links.specs.World.{World, contributions_held, lists_held, HoldsMeaning, Holds, IsWorldOf, HoldsList as IsHeld}
+use Rattle.list_lookup.proofs.GrownLists.{each_more, counted_more}
 use Rattle.rewriter.specs.inside.Numbers.{IsNewExpression}
 use Rattle.rewriter.specs.inside.Plans.{with_plan, IsPlanOf, AreExpressionsFor, IsPlannedAs, ArePlannedTo, AreViewsUpTo}
 use Rattle.rewriter.specs.inside.Runs.{views_held}
@@ -38,7 +39,6 @@ use Rattle.rewriter.proofs.ApartLaws.{items_said}
 use Rattle.rewriter.proofs.DebugSizes.{debug_short}
 use Rattle.rewriter.proofs.ListPieces.{pieces_most, behind_most}
 use Rattle.rewriter.proofs.ListTotals.{few_entries, few_expression_bytes}
-use Rattle.rewriter.proofs.PickedLists.{each_more, counted_more}
 use Rattle.rewriter.proofs.PlannedLists.{items_counted, planned_most}
 use Rattle.rewriter.proofs.ViewRuns.{runs_are, runs_own, sizes_apart, runs_few}
 

@@ -17,7 +17,6 @@ mod new_places;
 #[cfg(test)]
 mod number_tests;
 mod numbers;
-mod owned;
 #[cfg(test)]
 mod place_tests;
 mod places;
@@ -25,7 +24,6 @@ mod places;
 mod section_tests;
 mod sections;
 mod spots;
-mod table_maps;
 mod tables;
 mod taken;
 #[cfg(test)]

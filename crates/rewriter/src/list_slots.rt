@@ -12,8 +12,9 @@ ghost use Rattle.entry_arena.specs.Arena.{Arena};
 ghost use Rattle.unit_write.specs.Slots.{IsListSlotFor, AreListSlots};
 ghost use Rattle.value_links.specs.Sections.{debug_lists};
 ghost use Rattle.value_links.specs.World.{IsWorldOf, lists_held};
+ghost use Rattle.list_lookup.specs.Owned.{IsOwnedBy};
 ghost use Rattle.rewriter.specs.inside.Held.{OperationNames};
-ghost use Rattle.rewriter.specs.inside.Owned.{IsOwnedBy, AreListAims, AddsListSlots};
+ghost use Rattle.rewriter.specs.inside.Owned.{AreListAims, AddsListSlots};
 ghost use Rattle.rewriter.specs.inside.Placed.{unit_in};
 
 use crate::list_expressions::read_again;

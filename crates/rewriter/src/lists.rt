@@ -9,16 +9,17 @@ ghost use Rattle.list_model.specs.declared.item.Meaning.TheVariants.{Live, Dead}
 ghost use Rattle.value_links.specs.Sections.{debug_addr, debug_lists};
 ghost use Rattle.value_links.specs.Reading.{Reading};
 ghost use Rattle.value_links.specs.World.{World as AnyWorld, IsWorldOf, Holds, lists_held};
+ghost use Rattle.list_lookup.specs.Maps.{AreMapsFor};
 ghost use Rattle.rewriter.specs.inside.Held.{AllHavePlaces};
-ghost use Rattle.rewriter.specs.inside.Plans.{AreMapsFor, IsPlanOf, ArePotentialsOf, ArePiecesPlanned, AreRecordedTo};
+ghost use Rattle.rewriter.specs.inside.Plans.{IsPlanOf, ArePotentialsOf, ArePiecesPlanned, AreRecordedTo};
 ghost use Rattle.rewriter.specs.inside.Runs.{views_held, AreRunsWith};
 ghost use Rattle.rewriter.specs.inside.Lists.{AreListsWritten, AreListsRecorded};
 
 use crate::list_expressions::new_expressions;
-use crate::table_maps::TableMaps;
 use certificates::{Proof, put_record};
 use dw_base::NoMemory;
 use list_least::{Plan, least_in, shortest_lists};
+use list_lookup::TableMaps;
 use list_model::{Item, ListKind, Meaning, entries_say};
 use list_write::{ListImage, NamedList, ViewRun, WrittenPieces, assemble, kept_plan};
 use loc_lists::ViewPair;

@@ -3,17 +3,17 @@ ghost use Rattle.std.specs.Prelude.{◌≤◌, ◌<◌, ◌+◌, ◌^◌, ℕ, l
 ghost use Rattle.dw_base.specs.declared.fault.Reach.TheVariants.{Narrow};
 ghost use Rattle.unit_write.specs.Most.{most_bytes};
 ghost use Rattle.value_links.specs.World.{IsWorldOf};
-ghost use Rattle.rewriter.specs.inside.Owned.{AreOwnedIn};
+ghost use Rattle.list_lookup.specs.Owned.{AreOwnedIn};
 ghost use Rattle.rewriter.specs.inside.Placed.{unit_in, AreTaken, AreWritable, ArePlacesOf, AreRanksOf};
 ghost use Rattle.rewriter.specs.inside.Held.{IsPlacedFrom};
 
 use crate::list_slots::list_slots;
-use crate::owned::owned_lists;
 use crate::spots::spots_of;
 use crate::tables::NewTable;
 use crate::taken::{taken_unit, written_unit};
 use certificates::{Proof, put_record};
 use dw_base::NoMemory;
+use list_lookup::owned_lists;
 use std::alloc::Global;
 use unit_write::{Places, lay_out, place_unit, slots_fit};
 use value_links::World;

@@ -49,9 +49,9 @@ abbrev pub all_aims : Arena → (ℕ → List Operation) → List (List Operatio
 all_aims f ops lists = aims_of f ops ++ flat_map expression_aims lists
 
 -- The unit with a number has these operations in its expressions, and so have the location lists that it owns. There is a row for each of
--- its slots. The sizes are those of the numbers that stand in the slots, each in its fewest bytes. That the slots stand in so many bytes is
--- what is said of the forms of columns and of tidy units and expressions.
-pub record HasLayout (s : Reading) (u : ℕ) (rows : List SlotRow) (sizes : List ℕ) : Type 0 where
+-- its slots, and a size. Under these sizes the number of a slot that tells a place is that of the place in the file; that of a length counts the
+-- other numbers of its expression in their fewest bytes, and is the length where none of them has a byte too many.
+pub record HasSlots (s : Reading) (u : ℕ) (rows : List SlotRow) (sizes : List ℕ) : Type 0 where
   pub ops : ℕ → List Operation
   pub spelled : (k : ℕ) (span : Span) → IsExprAt (unit_at s.links u).forest k span → IsExpression Wide (ops k) (bytes_in (unit_at s.links u).forest.section span)
   pub owned : List ℕ
@@ -61,6 +61,11 @@ pub record HasLayout (s : Reading) (u : ℕ) (rows : List SlotRow) (sizes : List
   pub count : length rows ≡ length (all_aims (unit_at s.links u).forest ops lists)
   pub each : length sizes ≡ length rows
   pub slots : (i : ℕ) → i < length rows → IsRowOf (unit_at s.links u).forest ops (map (λ (e : Entry). e.at) (unit_at s.links u).forest.entries) sizes (unit_at s.links u).head.at (place_told (unit_at s.links u).head.at (aim_at (all_aims (unit_at s.links u).forest ops lists) i)) i (aim_at (all_aims (unit_at s.links u).forest ops lists) i) (row_at rows i)
+
+-- The sizes are those of the numbers that stand in the slots, each in its fewest bytes. That the slots stand in so many bytes is
+-- what is said of the forms of columns and of tidy units and expressions.
+pub record HasLayout (s : Reading) (u : ℕ) (rows : List SlotRow) (sizes : List ℕ) : Type 0 where
+  pub made : HasSlots s u rows sizes
   pub sized : (i : ℕ) → i < length rows → slice_index sizes i ≡ need (row_at rows i).form (slot_number sizes (row_at rows i))
 
 -- among all sizes under which each slot holds its own number theirs is the least sum

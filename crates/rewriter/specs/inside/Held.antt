@@ -5,7 +5,6 @@ use Rattle.spelled.specs.Spelled.{Appends}
 use Rattle.leb_codec.specs.Records.{OfLayout, SpellsRecord}
 use Rattle.form_codec.specs.declared.value.Value.{Value}
 use Rattle.form_codec.specs.declared.value.Value.TheVariants as value
-use Rattle.form_codec.specs.Forms.Meaning.{InUnit}
 use Rattle.form_codec.specs.Values.{meant_in}
 use Rattle.expr_ops.specs.declared.op.Op.{Op}
 use Rattle.expr_ops.specs.declared.names.Named.{Named}

@@ -14,8 +14,9 @@ use Rattle.unit_write.specs.declared.slots.ListSlot.{ListSlot}
 use Rattle.unit_write.specs.declared.slots.Spot.{Spot}
 use Rattle.unit_write.specs.Slots.{AreSpotsOf, AreListSlots, IsLaidOut, all_spots}
 use Rattle.value_links.specs.World.{World, table_at, operations_at}
+use Rattle.list_lookup.specs.Owned.{AreOwnedIn}
 use Rattle.rewriter.specs.declared.tables.NewTable.{NewTable}
-use Rattle.rewriter.specs.inside.Owned.{AreOwnedIn, AreListAims}
+use Rattle.rewriter.specs.inside.Owned.{AreListAims}
 use Rattle.rewriter.specs.inside.Tables.{new_table_at}
 use Rattle.rewriter.specs.inside.Taken.{taken_unit, IsTakenFrom}
 

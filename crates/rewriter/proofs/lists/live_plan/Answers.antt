@@ -8,8 +8,8 @@ use Rattle.list_model.specs.Potentials.{AcceptsList, AreGreatest}
 use Rattle.list_least.specs.declared.plan.Plan.{Plan}
 use Rattle.list_least.specs.Plans.{bounds_of, IsPlanned}
 use Rattle.value_links.specs.Reading.{lists_of, list_at, context_at}
+use Rattle.list_lookup.proofs.AddressTables.{context_table}
 use Rattle.rewriter.specs.inside.Plans.{IsPlanOf, ArePotentialsOf}
-use Rattle.rewriter.proofs.AddressTables.{context_table}
 use Rattle.rewriter.proofs.PlannedLists.{held_list, has_owner, owner_context, few_items, are_of_kind, planned_by, recorded_by, if_all}
 use Rattle.rewriter.proofs.lists.live_plan.Goals as goal
 

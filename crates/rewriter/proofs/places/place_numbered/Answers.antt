@@ -6,8 +6,8 @@ use Rattle.entry_arena.specs.Operations.{HeldOps}
 use Rattle.slot_layout.specs.Rows.{most_slots}
 use Rattle.unit_write.specs.declared.slots.ListSlot.{ListSlot}
 use Rattle.unit_write.specs.Slots.{AreListSlots}
+use Rattle.list_lookup.proofs.UnitCounts.{units_are_few}
 use Rattle.rewriter.specs.inside.Placed.{unit_in}
-use Rattle.rewriter.proofs.UnitRoom.{units_are_few}
 use Rattle.rewriter.proofs.Meant.{taken_is}
 use Rattle.rewriter.proofs.Final.{named_is, new_table_is}
 use Rattle.rewriter.proofs.TakenLaws.{taken_operations, taken_list_slots, taken_most}

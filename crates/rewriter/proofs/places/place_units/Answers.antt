@@ -1,8 +1,8 @@
 use Rattle.std.proofs.Common.{◌≡◌, ◌<◌, ◌+◌, ◌∙◌, ℕ, List, length, get_or, subst, sym, ap, arith}
 use Rattle.std.proofs.lemmas.Grind.{common_steps}
 use Rattle.unit_write.specs.declared.places.Places.{Places}
-use Rattle.rewriter.specs.declared.owned.Owned.{Owned}
-use Rattle.rewriter.specs.inside.Owned.{AreOwnedIn}
+use Rattle.list_lookup.specs.declared.owned.Owned.{Owned}
+use Rattle.list_lookup.specs.Owned.{AreOwnedIn}
 use Rattle.rewriter.proofs.Placement.{ArePlacedUpTo, AreRanksUpTo, placed_none, room_next, placed_more, ranks_none, ranks_more, ranks_all}
 use Rattle.rewriter.proofs.places.place_units.Goals as goal
 

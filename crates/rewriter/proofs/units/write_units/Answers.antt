@@ -1,8 +1,8 @@
 use Rattle.std.proofs.Common.{◌≡◌, ◌<◌, ◌^◌, ℕ, List, length, sym, subst, arith}
 use Rattle.std.proofs.lemmas.Grind.{common_steps}
 use Rattle.dw_base.specs.declared.fault.Reach.TheVariants.{Narrow}
+use Rattle.list_lookup.proofs.UnitCounts.{units_are_few}
 use Rattle.rewriter.specs.inside.Held.{StandAnew}
-use Rattle.rewriter.proofs.UnitRoom.{units_are_few}
 use Rattle.rewriter.proofs.Stand.{stand_none, stand_more}
 use Rattle.rewriter.proofs.Written.{unit_to}
 use Rattle.rewriter.proofs.WrittenUnits.{units_written}

@@ -1,7 +1,7 @@
 use Rattle.std.proofs.Common.{rules}
 use Rattle.std.proofs.lemmas.List.Sorted.{answers_always}
-use Rattle.rewriter.proofs.AddressTables.{map_missing, map_found}
-use Rattle.rewriter.proofs.table_maps.TableMaps.of.Goals as goal
+use Rattle.list_lookup.proofs.AddressTables.{map_missing, map_found}
+use Rattle.list_lookup.proofs.table_maps.TableMaps.of.Goals as goal
 
 -- the closure gives a place
 pub unreachable-requires : goal.unreachable-requires

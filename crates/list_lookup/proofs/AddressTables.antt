@@ -28,11 +28,11 @@ use Rattle.value_links.specs.Reading.{Reading, UnitRead, no_context, no_unit, co
 use Rattle.value_links.specs.Values.{root_of}
 use Rattle.value_links.specs.Contexts.{IsTableOf, IsContext}
 use Rattle.value_links.specs.World.{World, Holds, IsWorldOf}
-use Rattle.rewriter.specs.declared.table_maps.TableMap.{TableMap}
-use Rattle.rewriter.specs.declared.table_maps.TableMaps.{TableMaps}
-use Rattle.rewriter.specs.inside.Plans.{context_in, table_by, IsTableIn, AreTablesIn, AreAllTables, IsTableMap, AreTableMaps, AreMapsFor, IsContextIn}
-use Rattle.rewriter.proofs.PickedLists.{each_more, counted_more}
-use Rattle.rewriter.proofs.Standing.{held_count}
+use Rattle.value_links.proofs.HeldUnits.{held_count}
+use Rattle.list_lookup.specs.declared.table_maps.TableMap.{TableMap}
+use Rattle.list_lookup.specs.declared.table_maps.TableMaps.{TableMaps}
+use Rattle.list_lookup.specs.Maps.{context_in, table_by, IsTableIn, AreTablesIn, AreAllTables, IsTableMap, AreTableMaps, AreMapsFor, IsContextIn}
+use Rattle.list_lookup.proofs.GrownLists.{each_more, counted_more}
 
 -- ---- the table of a context stands in .debug_addr
 
@@ -50,7 +50,7 @@ context_same file world r u holds = ap (λ (z : List Context). get_or z u no_con
 module _ (world : World) (reach : Reach) (is : IsWorldOf world.image reach world) where
   pub table_stands : (u : ℕ) (table : AddrTable) → u < length world.units → (context_in world u).table ≡ Some table → IsAddrTable (debug_addr world.image) table
   table_stands u table inside named =
-      let count : length world.units ≡ length is.r.links.units = held_count world.image world is.r is.holds in
+      let count : length world.units ≡ length is.r.links.units = held_count is.r.links.units world.units is.holds.units in
       let context = zip_at (λ (unit : UnitRead) (context : Context). IsContext is.r.links.addresses (root_of unit).attributes context) is.r.links.units is.r.links.contexts u no_unit no_context is.read.links.contexts (omega arith) in
       let same : (context_at is.r.links u).table ≡ Some table = ap (λ (z : Context). z.table) (sym (context_same world.image world is.r u is.holds)) ∙ named in
       let found = subst (λ (z : Option AddrTable). IsTableOf is.r.links.addresses (root_of (get_or is.r.links.units u no_unit)).attributes z) same context.table in

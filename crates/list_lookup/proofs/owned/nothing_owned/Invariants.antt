@@ -1,5 +1,5 @@
-use Rattle.rewriter.specs.inside.Owned.{OwnNothing}
-use Rattle.rewriter.proofs.owned.nothing_owned.Given as goal
+use Rattle.list_lookup.specs.Owned.{OwnNothing}
+use Rattle.list_lookup.proofs.owned.nothing_owned.Given as goal
 
 -- of the units before
 abbrev pub invariant-loop : goal.invariant-loop

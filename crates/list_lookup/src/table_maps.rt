@@ -1,10 +1,10 @@
 // The maps of the address tables that units name.
 ghost use Rattle.std.specs.Prelude.{◌≡◌, ℕ, List, length, IfOk};
-ghost use Rattle.dw_base.specs.declared.fault.Reach.TheVariants.{Narrow};
+ghost use Rattle.dw_base.specs.declared.fault.Reach.{Reach};
 ghost use Rattle.list_least.specs.Maps.{IsMapOf};
 ghost use Rattle.value_links.specs.Sections.{debug_addr};
 ghost use Rattle.value_links.specs.World.{World as AnyWorld, IsWorldOf};
-ghost use Rattle.rewriter.specs.inside.Plans.{AreAllTables, AreTablesIn, AreMapsFor, IsContextIn};
+ghost use Rattle.list_lookup.specs.Maps.{AreAllTables, AreTablesIn, AreMapsFor, IsContextIn};
 
 use dw_base::NoMemory;
 use list_least::AddressMap;
@@ -29,7 +29,7 @@ pub struct TableMaps {
 
 // The tables of the contexts of all units, in the order of the units.
 fn all_tables(alloc: Global, world: &World<'_>) -> Result<Vec<(u64, u64)>, NoMemory>
-    requires world { IsWorldOf world.now.image Narrow world.now }
+    requires world { (reach : Reach) × IsWorldOf world.now.image reach world.now }
     ensures { IfOk result (λ tables. AreTablesIn world.now (length world.now.units) tables.items) }
 {
     let mut tables: Vec<(u64, u64)> = Vec::new(alloc);
@@ -43,7 +43,7 @@ fn all_tables(alloc: Global, world: &World<'_>) -> Result<Vec<(u64, u64)>, NoMem
 
 // The same, each once, by rising place.
 fn tables_of(alloc: Global, world: &World<'_>) -> Result<Vec<(u64, u64)>, NoMemory>
-    requires world { IsWorldOf world.now.image Narrow world.now }
+    requires world { (reach : Reach) × IsWorldOf world.now.image reach world.now }
     ensures { IfOk result (λ tables. AreAllTables world.now tables.items) }
 {
     let mut tables = all_tables(alloc, world)?;
@@ -54,8 +54,8 @@ fn tables_of(alloc: Global, world: &World<'_>) -> Result<Vec<(u64, u64)>, NoMemo
 
 impl TableMaps {
     /// The maps of the tables that the units of a file name.
-    pub(crate) fn new(alloc: Global, world: &World<'_>, addr: &[u8]) -> Result<TableMaps, NoMemory>
-        requires world { IsWorldOf world.now.image Narrow world.now }
+    pub fn new(alloc: Global, world: &World<'_>, addr: &[u8]) -> Result<TableMaps, NoMemory>
+        requires world { (reach : Reach) × IsWorldOf world.now.image reach world.now }
         requires addr { addr.now ≡ debug_addr world.now.image }
         ensures { IfOk result (AreMapsFor world.now addr.now) }
     {
@@ -74,7 +74,7 @@ impl TableMaps {
     }
 
     /// The map of the table of a context.
-    pub(crate) fn of(&self, context: &Context) -> &AddressMap
+    pub fn of(&self, context: &Context) -> &AddressMap
         requires { (world : AnyWorld) × (addr : List ℕ) × AreMapsFor world addr self.now × IsContextIn world context.now }
         ensures { (world : AnyWorld) (addr : List ℕ) → AreMapsFor world addr self.now → IsContextIn world context.now → IsMapOf addr context.now.table result.now }
     {

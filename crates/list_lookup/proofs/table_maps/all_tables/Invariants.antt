@@ -1,5 +1,5 @@
-use Rattle.rewriter.specs.inside.Plans.{AreTablesIn}
-use Rattle.rewriter.proofs.table_maps.all_tables.Given as goal
+use Rattle.list_lookup.specs.Maps.{AreTablesIn}
+use Rattle.list_lookup.proofs.table_maps.all_tables.Given as goal
 
 abbrev pub invariant-loop-unit : goal.invariant-loop-unit
 invariant-loop-unit l = AreTablesIn l.world l.unit l.tables.items

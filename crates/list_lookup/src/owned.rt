@@ -1,8 +1,8 @@
 // The location lists that units own.
 ghost use Rattle.std.specs.Prelude.{length, IfOk};
-ghost use Rattle.dw_base.specs.declared.fault.Reach.TheVariants.{Narrow};
+ghost use Rattle.dw_base.specs.declared.fault.Reach.{Reach};
 ghost use Rattle.value_links.specs.World.{IsWorldOf};
-ghost use Rattle.rewriter.specs.inside.Owned.{OwnNothing, AreAllOwned};
+ghost use Rattle.list_lookup.specs.Owned.{OwnNothing, AreAllOwned};
 
 use dw_base::NoMemory;
 use list_model::ListKind;
@@ -32,7 +32,7 @@ fn nothing_owned(alloc: Global, units: usize) -> Result<Vec<Owned>, NoMemory>
 /// For each unit of a file the location lists that it owns: those that an entry of it names, and none of a unit before. The only error
 /// is want of memory.
 pub fn owned_lists(alloc: Global, world: &World<'_>) -> Result<Vec<Owned>, NoMemory>
-    requires world { IsWorldOf world.now.image Narrow world.now }
+    requires world { (reach : Reach) × IsWorldOf world.now.image reach world.now }
     ensures { IfOk result (λ all. AreAllOwned world.now (length world.now.locations) all.items) }
 {
     let mut all = nothing_owned(alloc, world.units().len())?;

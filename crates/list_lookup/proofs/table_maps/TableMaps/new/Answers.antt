@@ -1,18 +1,17 @@
 use Rattle.std.proofs.Common.{◌<◌, ℕ, List, length, refl, sym, subst}
-use Rattle.dw_base.specs.declared.fault.Reach.TheVariants.{Narrow}
 use Rattle.list_model.specs.Addresses.{IsAddrTable}
 use Rattle.list_least.specs.Maps.{pair_at}
 use Rattle.value_links.specs.Sections.{debug_addr}
-use Rattle.rewriter.specs.inside.Plans.{table_by}
-use Rattle.rewriter.proofs.AddressTables.{each_stands, map_more}
-use Rattle.rewriter.proofs.table_maps.TableMaps.new.Goals as goal
+use Rattle.list_lookup.specs.Maps.{table_by}
+use Rattle.list_lookup.proofs.AddressTables.{each_stands, map_more}
+use Rattle.list_lookup.proofs.table_maps.TableMaps.new.Goals as goal
 
 pub new-requires : goal.new-requires
 new-requires c =
     let i : ℕ = c.loop-pair.pair-index in
     let same = c.deref-pair-items.ensures.value in
     let inside : i < length c.in_ok-named.named.items = subst (λ (z : List (ℕ × ℕ)). i < length z) same c.loop-pair-test.true in
-    let stands = each_stands c.args.world.now Narrow c.requires.world c.in_ok-named.named.items c.in_ok-named.ensures i inside in
+    let stands = each_stands c.args.world.now c.requires.world.0 c.requires.world.1 c.in_ok-named.named.items c.in_ok-named.ensures i inside in
     let here = subst (λ (z : List (ℕ × ℕ)). IsAddrTable (debug_addr c.args.world.now.image) (table_by (pair_at z i))) (sym same) stands in
     subst (λ (z : List ℕ). IsAddrTable z (table_by (pair_at c.deref-pair-items.result.now i))) (sym c.requires.addr) here
 

@@ -1,5 +1,5 @@
-use Rattle.rewriter.specs.inside.Owned.{AreAllOwned}
-use Rattle.rewriter.proofs.owned.owned_lists.Given as goal
+use Rattle.list_lookup.specs.Owned.{AreAllOwned}
+use Rattle.list_lookup.proofs.owned.owned_lists.Given as goal
 
 -- among the lists before
 abbrev pub invariant-loop-number : goal.invariant-loop-number

@@ -1,19 +1,18 @@
 use Rattle.std.proofs.Common.{◌≡◌, ◌<◌, ◌+◌, ◌∙◌, ℕ, List, length, get_or, sym, ap, subst, arith}
 use Rattle.std.proofs.lemmas.Grind.{common_steps}
-use Rattle.dw_base.specs.declared.fault.Reach.TheVariants.{Narrow}
 use Rattle.value_links.specs.declared.lists.ListRead.{ListRead as HeldList}
-use Rattle.rewriter.specs.declared.owned.Owned.{Owned}
-use Rattle.rewriter.specs.inside.Owned.{AreAllOwned}
-use Rattle.rewriter.proofs.OwnedLists.{owner_held, owned_none, owned_one}
-use Rattle.rewriter.proofs.owned.owned_lists.Goals as goal
-use Rattle.rewriter.proofs.owned.owned_lists.Goals.{in-Some+in_ok-push, in_default}
+use Rattle.list_lookup.specs.declared.owned.Owned.{Owned}
+use Rattle.list_lookup.specs.Owned.{AreAllOwned}
+use Rattle.list_lookup.proofs.OwnedLists.{owner_held, owned_none, owned_one}
+use Rattle.list_lookup.proofs.owned.owned_lists.Goals as goal
+use Rattle.list_lookup.proofs.owned.owned_lists.Goals.{in-Some+in_ok-push, in_default}
 
 pub index_mut-requires : goal.index_mut-requires
 index_mut-requires c =
     let world = c.args.world.now in
     let inside : c.loop-number.number < length world.locations = grind (arith, common_steps) in
     let here : c.list-item.result ≡ get_or world.locations c.loop-number.number c.list-item.result = c.list-item.is ∙ ap (λ (z : List HeldList). get_or z c.loop-number.number c.list-item.result) c.lists-list-items.ensures in
-    let known = owner_held world Narrow c.requires.world c.loop-number.number c.in-Some.unit c.list-item.result inside here c.in-Some.is in
+    let known = owner_held world c.requires.world.0 c.requires.world.1 c.loop-number.number c.in-Some.unit c.list-item.result inside here c.in-Some.is in
     omega (arith, known, c.loop-number.invariant.units)
 
 pub loop-number-preserved : goal.loop-number-preserved
@@ -26,7 +25,7 @@ loop-number-preserved c =
     elim c.match-list.branch [
       | in-Some+in_ok-push w ↦
           let u : ℕ = w.in-Some.unit in
-          let known : u < length c.loop-number.all.items = omega (arith, owner_held world Narrow c.requires.world n u list inside here w.in-Some.is, c.loop-number.invariant.units) in
+          let known : u < length c.loop-number.all.items = omega (arith, owner_held world c.requires.world.0 c.requires.world.1 n u list inside here w.in-Some.is, c.loop-number.invariant.units) in
           let old : w.index_mut.result.now ≡ get_or c.loop-number.all.items u w.index_mut.result.now = w.index_mut.ensures.value in
           subst (λ (z : List Owned). AreAllOwned world (n + 1) z) (sym (ap (λ v. v.items) w.all-is)) (owned_one world n list inside here c.loop-number.all.items c.loop-number.invariant u w.index_mut.result.now (record { lists = w.push.new.self }) w.in-Some.is known old w.in_ok-push.ensures.items)
       | in_default w ↦

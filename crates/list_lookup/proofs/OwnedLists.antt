@@ -13,9 +13,9 @@ use Rattle.value_links.specs.Layouts.{AreNumbersOf}
 use Rattle.value_links.specs.Lists.{IsOwner}
 use Rattle.value_links.specs.Reading.{list_at}
 use Rattle.value_links.specs.World.{World, IsWorldOf}
-use Rattle.rewriter.specs.declared.owned.Owned.{Owned}
-use Rattle.rewriter.specs.inside.Owned.{IsOwnedBy, AreOwnedUpTo, OwnNothing, AreAllOwned}
-use Rattle.rewriter.proofs.Standing.{held_count}
+use Rattle.value_links.proofs.HeldUnits.{held_count}
+use Rattle.list_lookup.specs.declared.owned.Owned.{Owned}
+use Rattle.list_lookup.specs.Owned.{IsOwnedBy, AreOwnedUpTo, OwnNothing, AreAllOwned}
 
 -- NUMBERS
 
@@ -69,7 +69,7 @@ owner_held world reach is k u list inside here owner =
     let held = (is.holds.lists Locations).each k list (omega (arith, inside, count)) in
     let own : (get_or world.locations k list).owner ≡ Some u = ap (λ (z : HeldList). z.owner) (sym here) ∙ owner in
     let owned = subst (λ (z : Option ℕ). IsOwner is.r.links Locations (list_at is.r.location_lists k).at z) own held.owner in
-    omega (arith, owned.0.known, held_count world.image world is.r is.holds)
+    omega (arith, owned.0.known, held_count is.r.links.units world.units is.holds.units)
 
 module _ (world : World) (n : ℕ) (list : HeldList) (inside : n < length world.locations) (here : list ≡ get_or world.locations n list) where
   same_list : (d : HeldList) → get_or world.locations n d ≡ list

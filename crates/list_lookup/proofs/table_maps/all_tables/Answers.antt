@@ -1,16 +1,15 @@
 use Rattle.std.proofs.Common.{◌≡◌, ◌<◌, ◌+◌, ◌^◌, ◌∙◌, length, sym, ap, subst, arith}
 use Rattle.std.proofs.lemmas.Grind.{common_steps}
-use Rattle.dw_base.specs.declared.fault.Reach.TheVariants.{Narrow}
 use Rattle.list_model.specs.declared.context.Context.{Context}
-use Rattle.rewriter.specs.inside.Plans.{context_in, AreTablesIn}
-use Rattle.rewriter.proofs.UnitRoom.{units_are_few}
-use Rattle.rewriter.proofs.AddressTables.{no_tables, table_more, table_none, context_same}
-use Rattle.rewriter.proofs.table_maps.all_tables.Goals as goal
-use Rattle.rewriter.proofs.table_maps.all_tables.Goals.{in-Some+in_ok-push, in_default}
+use Rattle.list_lookup.specs.Maps.{context_in, AreTablesIn}
+use Rattle.list_lookup.proofs.AddressTables.{no_tables, table_more, table_none, context_same}
+use Rattle.list_lookup.proofs.UnitCounts.{units_are_few}
+use Rattle.list_lookup.proofs.table_maps.all_tables.Goals as goal
+use Rattle.list_lookup.proofs.table_maps.all_tables.Goals.{in-Some+in_ok-push, in_default}
 
 pub overflow_cast-unit : goal.overflow_cast-unit
 overflow_cast-unit c =
-    let few : length c.args.world.now.units < 2 ^ 32 = units_are_few c.args.world.now Narrow c.requires.world in
+    let few : length c.args.world.now.units < 2 ^ 32 = units_are_few c.args.world.now c.requires.world.0 c.requires.world.1 in
     let known : c.loop-unit.unit < length c.args.world.now.units = grind (arith, common_steps) in
     record { fits = omega (arith, few, known) }
 
@@ -20,8 +19,8 @@ loop-unit-init c = no_tables c.args.world.now c.new-tables.result.items c.new-ta
 pub loop-unit-preserved : goal.loop-unit-preserved
 loop-unit-preserved c =
     let world = c.args.world.now in
-    let holds = c.requires.world.holds in
-    let here : c.context.result ≡ context_in world c.loop-unit.unit = c.context.ensures world.image c.requires.world.r holds ∙ sym (context_same world.image world c.requires.world.r c.loop-unit.unit holds) in
+    let holds = c.requires.world.1.holds in
+    let here : c.context.result ≡ context_in world c.loop-unit.unit = c.context.ensures world.image c.requires.world.1.r holds ∙ sym (context_same world.image world c.requires.world.1.r c.loop-unit.unit holds) in
     elim c.match-context.branch [
       | in-Some+in_ok-push w ↦
           table_more world c.loop-unit.unit c.loop-unit.tables.items c.match-context.tables.items w.in-Some.table c.loop-unit.invariant (ap (λ (z : Context). z.table) (sym here) ∙ w.in-Some.is) (ap (λ z. z.items) w.tables-is ∙ w.in_ok-push.ensures.items)

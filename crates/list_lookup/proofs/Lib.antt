@@ -1,0 +1,4 @@
+pub mod AddressTables
+pub mod GrownLists
+pub mod OwnedLists
+pub mod UnitCounts
