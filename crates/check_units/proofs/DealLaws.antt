@@ -6,9 +6,8 @@ use Rattle.std.proofs.lemmas.Bool.{cases_lt, cases_eq, true≢false}
 use Rattle.std.proofs.lemmas.List.{take_all, drop_all, drop-drop, length-drop, length_push, get_or_push, get_or_append_left, ext_get_or}
 use Rattle.leb_codec.specs.Layout.{SlotForm, uleb, call, SlotRow, row_at, steps_to, step_count, ranks_by_slot}
 use Rattle.slot_layout.specs.declared.slots.Slot.{Slot}
-use Rattle.slot_layout.specs.Rows.{form_of, rows_of}
+use Rattle.slot_layout.specs.Rows.{form_of, rows_of, CanHaveSize}
 use Rattle.slot_layout.proofs.GrowLaws.{no_slot, row_is, count_rows}
-use Rattle.check_units.specs.Refused.{CanHaveSize}
 use Rattle.check_units.specs.inside.Checks.{HasItsRanks}
 use Rattle.check_units.specs.inside.Dealing.{steps_before, AreDealt, AreCuts, pieces}
 

@@ -8,15 +8,31 @@ use Rattle.std.proofs.lemmas.List.Elements.{All-from_get_or}
 use Rattle.leb_codec.specs.Layout.{SlotRow, row_at, slot_number, need, size_after, IsSlotNumber, HoldsNumber}
 use Rattle.slot_layout.specs.declared.slots.Slot.{Slot}
 use Rattle.slot_layout.specs.Rows.{form_of, row_of, rows_of, most_slots}
-use Rattle.slot_layout.specs.inside.Rounds.{AreSlots, AreStarts}
+use Rattle.slot_layout.specs.inside.Rounds.{AreStarts}
 use Rattle.slot_layout.proofs.SumLaws.{sum_range}
 use Rattle.check_units.specs.declared.steps.Step.{Step}
 use Rattle.check_units.specs.inside.Growing.{IsNeededUnder}
-use Rattle.check_units.specs.inside.Checks.{AreChecked}
-use Rattle.slot_layout.proofs.GrowLaws.{no_slot, row_is, slot_from, slot_to}
+use Rattle.check_units.specs.inside.Checks.{AreSlotsToCheck, AreChecked}
+use Rattle.slot_layout.proofs.GrowLaws.{no_slot, row_is, count_rows}
 
-pub slots_of : (rows : List SlotRow) (sizes : List ℕ) → AreChecked rows sizes → AreSlots rows
-slots_of rows sizes checked = record { few = checked.few; inside = checked.inside; small = checked.small }
+pub slots_of : (rows : List SlotRow) (sizes : List ℕ) → AreChecked rows sizes → AreSlotsToCheck rows
+slots_of rows sizes checked = record { few = checked.few; inside = checked.inside; fitting = checked.fitting }
+
+-- what is known of a slot's row, of the slot
+module _ (slots : List Slot) (are : AreSlotsToCheck (rows_of slots)) (i : ℕ) (inside : i < length slots) where
+  pub slot_from : (get_or slots i no_slot).from ≤ (get_or slots i no_slot).to
+  slot_from =
+      let h = (are.inside i (omega (arith, count_rows slots))).0 in rw (row_is slots i inside) at h
+
+  pub slot_to : (get_or slots i no_slot).to ≤ length slots
+  slot_to =
+      let h = (are.inside i (omega (arith, count_rows slots))).1 in
+      let k = rw (row_is slots i inside) at h in
+      omega (arith, k, count_rows slots)
+
+  pub slot_fixed : (get_or slots i no_slot).fixed < 2 ^ 62
+  slot_fixed =
+      let h = are.fitting i (omega (arith, count_rows slots)) in rw (row_is slots i inside) at h
 
 -- sums of so many sizes are small
 pub sum_few : (sizes : List ℕ) (k : ℕ) → length sizes ≤ most_slots → ((i : ℕ) → i < length sizes → get_or sizes i 0 < 2 ^ 32) → sum (take k sizes) < 2 ^ 63
@@ -25,7 +41,7 @@ sum_few sizes k few small =
     omega (arith, sum_by-take-le (λ s. s) sizes k, sum_by-le (λ s. s) (2 ^ 32) sizes all, few)
 
 -- what is tested of a slot's size is that it holds its number
-module _ (slots : List Slot) (are : AreSlots (rows_of slots)) (sizes starts : List ℕ) (are_starts : AreStarts sizes starts) (long : length sizes ≡ length slots) (i : ℕ) (inside : i < length slots) where
+module _ (slots : List Slot) (are : AreSlotsToCheck (rows_of slots)) (sizes starts : List ℕ) (are_starts : AreStarts sizes starts) (long : length sizes ≡ length slots) (i : ℕ) (inside : i < length slots) where
   abbrev slot : Slot
   slot = get_or slots i no_slot
 

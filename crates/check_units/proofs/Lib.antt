@@ -6,4 +6,5 @@ pub mod GrowthLaws
 pub mod HoldLaws
 pub mod Lowest
 pub mod StepLaws
+pub mod Tightness
 pub mod Verdicts

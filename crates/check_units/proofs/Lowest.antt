@@ -6,15 +6,14 @@ use Rattle.std.proofs.lemmas.Bool.{cases_lt, cond-true, cond-false, lt-ltb, le-l
 use Rattle.std.proofs.lemmas.List.Sums.{sum_by-cons}
 use Rattle.leb_codec.specs.LebLaws.{UnsignedLens}
 use Rattle.leb_codec.specs.Layout.{SlotForm, uleb, call, SlotRow, row_at, slot_number, size_after, steps_to, sizes_below, ranks_by_slot, ranks_at, IsLayout, AcceptsSlot, AcceptsLayout, IsLowestLayout, IsLeastLayout}
+use Rattle.slot_layout.specs.Rows.{CanHaveSize, CanBeSizes}
 use Rattle.slot_layout.proofs.SizeLaws.{smallest_least, need_rises, number_rises}
 use Rattle.slot_layout.proofs.SumLaws.{sum_rises}
 use Rattle.slot_layout.proofs.RankLaws.{length_below, below_at}
-use Rattle.check_units.specs.Refused.{CanHaveSize}
-use Rattle.check_units.specs.Laws.{CanBeSizes}
 use Rattle.check_units.proofs.DealLaws.{by_slot_length}
 
 -- the steps to a size lead to it
-size_is : (form : SlotForm) (size : ℕ) → CanHaveSize form size → size_after form (steps_to form size) ≡ size
+pub size_is : (form : SlotForm) (size : ℕ) → CanHaveSize form size → size_after form (steps_to form size) ≡ size
 size_is uleb size some = omega (arith, some)
 size_is call size (inl two) = rw two refl
 size_is call size (inr four) = rw four refl
@@ -35,7 +34,7 @@ count_low t (x ∷ xs) (suc j) high =
     in
     omega (arith, sum_by-cons (λ y. cond (ltb y t) 1 0) x xs, one, rest)
 
-count_all : (t : ℕ) (xs : List ℕ) → count_by (λ x. ltb x t) xs ≤ length xs
+pub count_all : (t : ℕ) (xs : List ℕ) → count_by (λ x. ltb x t) xs ≤ length xs
 count_all t xs = count_low t xs (length xs) (λ k low lt. absurd (omega arith))
 
 -- of ranks that never fall, the last one that is below is below

@@ -1,12 +1,8 @@
 -- What the verdict on a record shows.
-use Rattle.std.specs.Prelude.{◌≡◌, ◌<◌, ℕ, List, length, slice_index}
-use Rattle.leb_codec.specs.Layout.{SlotRow, row_at, AcceptsLayout, IsLayout, IsLowestLayout, IsLeastLayout}
-use Rattle.check_units.specs.Refused.{CanHaveSize, IsFirstRefused}
-
--- each slot has a size that a slot of a file can have
-pub record CanBeSizes (rows : List SlotRow) (sizes : List ℕ) : Type 0 where
-  pub each_slot : length sizes ≡ length rows
-  pub sized : (i : ℕ) → i < length rows → CanHaveSize (row_at rows i).form (slice_index sizes i)
+use Rattle.std.specs.Prelude.{◌≡◌, ℕ, List}
+use Rattle.leb_codec.specs.Layout.{SlotRow, AcceptsLayout, IsLayout, IsLowestLayout, IsLeastLayout}
+use Rattle.slot_layout.specs.Rows.{CanBeSizes, IsTight}
+use Rattle.check_units.specs.Refused.{IsFirstRefused}
 
 -- Sizes whose record is accepted are slot by slot at most those of each layout.
 abbrev pub AcceptedAreLowest : Type 0
@@ -24,6 +20,14 @@ AcceptedAreLeast =
     AcceptsLayout rows sizes ranks →
     IsLayout rows sizes →
     IsLeastLayout rows sizes
+
+-- Each slot has just the bytes that its number needs then: a slot with a byte too many isn't accepted.
+abbrev pub AcceptedAreTight : Type 0
+AcceptedAreTight =
+    (rows : List SlotRow) (sizes ranks : List ℕ) →
+    CanBeSizes rows sizes →
+    AcceptsLayout rows sizes ranks →
+    IsTight rows sizes
 
 -- No record is both accepted and refused.
 abbrev pub NeverBoth : Type 0

@@ -1,11 +1,6 @@
 -- Where the record of a unit's layout is refused.
-use Rattle.std.specs.Prelude.{◌≡◌, ◌≤◌, ◌<◌, ◌-◌, ◌⊎◌, ℕ, List, length}
-use Rattle.leb_codec.specs.Layout.{SlotForm, uleb, call, SlotRow, AcceptsSlot, step_count}
-
--- the sizes that a slot of a file can have: a ULEB with padding may have more than 10 bytes
-abbrev pub CanHaveSize : SlotForm → ℕ → Type 0
-CanHaveSize uleb size = 1 ≤ size
-CanHaveSize call size = (size ≡ 2) ⊎ (size ≡ 4)
+use Rattle.std.specs.Prelude.{◌≡◌, ◌<◌, ◌-◌, ◌⊎◌, ℕ, List, length}
+use Rattle.leb_codec.specs.Layout.{SlotRow, AcceptsSlot, step_count}
 
 -- a slot is the first that isn't accepted
 pub record IsRefusedSlot (rows : List SlotRow) (sizes ranks : List ℕ) (i : ℕ) : Type 0 where

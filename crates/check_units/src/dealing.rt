@@ -2,8 +2,7 @@
 ghost use Rattle.std.specs.Prelude.{◌≡◌, ◌≤◌, ◌<◌, ◌↔◌, ℕ, length, slice_index, IfOk, IsTrue};
 ghost use Rattle.std.specs.List.Sorted.{IsNonDecreasing};
 ghost use Rattle.leb_codec.specs.Layout.{steps_to};
-ghost use Rattle.slot_layout.specs.Rows.{rows_of, form_of};
-ghost use Rattle.check_units.specs.Refused.{CanHaveSize};
+ghost use Rattle.slot_layout.specs.Rows.{rows_of, form_of, CanHaveSize};
 ghost use Rattle.check_units.specs.inside.Checks.{AreChecked, HasItsRanks, IsFirstWithout};
 ghost use Rattle.check_units.specs.inside.Dealing.{AreDealt};
 

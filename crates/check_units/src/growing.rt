@@ -1,8 +1,8 @@
 // The steps of slots, each held against the sizes that the steps of lower rank led to.
 ghost use Rattle.std.specs.Prelude.{◌≡◌, ◌≤◌, ◌<◌, ◌+◌, ◌^◌, ◌↔◌, ℕ, List, length, sum, IsTrue};
 ghost use Rattle.slot_layout.specs.Rows.{rows_of, most_slots};
-ghost use Rattle.slot_layout.specs.inside.Rounds.{AreSlots, smallest_of};
-ghost use Rattle.check_units.specs.inside.Checks.{IsFirstWithout};
+ghost use Rattle.slot_layout.specs.inside.Rounds.{smallest_of};
+ghost use Rattle.check_units.specs.inside.Checks.{AreSlotsToCheck, IsFirstWithout};
 ghost use Rattle.check_units.specs.inside.Dealing.{AreInOrder, step_at};
 ghost use Rattle.check_units.specs.inside.Growing.{AreSteps, HasTaken, IsJudged, IsNeededUnder, IsSlotNeeded};
 ghost use Rattle.check_units.specs.inside.Sums.{AreSums, numbers_of};
@@ -52,7 +52,7 @@ fn take_steps_below(
 
 // Whether a step is needed under the sizes that are summed.
 fn is_needed(slots: &[Slot], step: Step, sums: &SizeSums) -> bool
-    requires slots { AreSlots (rows_of slots.now) }
+    requires slots { AreSlotsToCheck (rows_of slots.now) }
     requires inside { step.slot < length slots.now }
     requires sums { AreSums sums.now.cells.items }
     requires long { length (numbers_of sums.now.cells.items) ≡ length slots.now }
@@ -66,7 +66,7 @@ fn is_needed(slots: &[Slot], step: Step, sums: &SizeSums) -> bool
 
 // The first slot that has failed so far, once a step is looked at.
 fn judge(slots: &[Slot], step: Step, sums: &SizeSums, first: usize) -> usize
-    requires slots { AreSlots (rows_of slots.now) }
+    requires slots { AreSlotsToCheck (rows_of slots.now) }
     requires inside { step.slot < length slots.now }
     requires sums { AreSums sums.now.cells.items }
     requires long { length (numbers_of sums.now.cells.items) ≡ length slots.now }
@@ -83,7 +83,7 @@ fn judge(slots: &[Slot], step: Step, sums: &SizeSums, first: usize) -> usize
 // The first slot with a step that wasn't needed by the steps of lower rank, or the count of slots. The sums are those of the
 // smallest sizes at first, and grow with the steps.
 pub(crate) fn first_unneeded(slots: &[Slot], steps: &[Step], sums: &mut SizeSums) -> usize
-    requires slots { AreSlots (rows_of slots.now) }
+    requires slots { AreSlotsToCheck (rows_of slots.now) }
     requires steps { AreSteps (length slots.now) steps.now }
     requires sums { AreSums sums.old.cells.items }
     requires smallest { numbers_of sums.old.cells.items ≡ smallest_of (rows_of slots.now) }

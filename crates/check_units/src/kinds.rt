@@ -1,8 +1,7 @@
 // What the kind of a slot says of its sizes.
 ghost use Rattle.std.specs.Prelude.{◌≡◌, ◌≤◌, ◌<◌, ◌^◌, ◌↔◌, IsTrue};
 ghost use Rattle.leb_codec.specs.Layout.{need as need_of, size_after as size_of, steps_to, IsSlotNumber};
-ghost use Rattle.slot_layout.specs.Rows.{form_of};
-ghost use Rattle.check_units.specs.Refused.{CanHaveSize};
+ghost use Rattle.slot_layout.specs.Rows.{form_of, CanHaveSize};
 
 use leb_codec::len_u;
 use slot_layout::SlotKind;

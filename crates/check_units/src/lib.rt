@@ -4,9 +4,9 @@
 
 ghost use Rattle.std.specs.Prelude.{◌≡◌, ◌<◌, ◌≤◌, ◌↔◌, ℕ, length, slice_index, IfOk, IfSome, IsNone};
 ghost use Rattle.leb_codec.specs.Layout.{AcceptsLayout, AcceptsSlot, row_at, step_count};
-ghost use Rattle.slot_layout.specs.Rows.{rows_of, HasRangesInside, HasSmallFixed, most_slots};
-ghost use Rattle.check_units.specs.Laws.{AcceptedAreLowest, AcceptedAreLeast, NeverBoth, OneRefused};
-ghost use Rattle.check_units.specs.Refused.{CanHaveSize, IsFirstRefused};
+ghost use Rattle.slot_layout.specs.Rows.{rows_of, CanHaveSize, HasRangesInside, HasFittingFixed, most_slots};
+ghost use Rattle.check_units.specs.Laws.{AcceptedAreLowest, AcceptedAreLeast, AcceptedAreTight, NeverBoth, OneRefused};
+ghost use Rattle.check_units.specs.Refused.{IsFirstRefused};
 ghost use Rattle.check_units.specs.inside.Checks.{AreChecked, IsFirstWithout};
 ghost use Rattle.check_units.specs.inside.Dealing.{AreDealt};
 
@@ -59,7 +59,7 @@ fn first_failing(
 /// rank, and its size holds its number under all sizes. Ranks that are left over are a fault of the last slot, or of slot 0 where
 /// there is none.
 ///
-/// There are at most 17 * 2^24 slots, each range of slots lies in the list, each fixed part is below 2^31, and a ULEB128 has at
+/// There are at most 17 * 2^24 slots, each range of slots lies in the list, each fixed part is below 2^62, and a ULEB128 has at
 /// least one byte and a call 2 or 4. The only error is want of memory.
 pub fn accept_layout(
     alloc: Global,
@@ -69,7 +69,7 @@ pub fn accept_layout(
 ) -> Result<Option<u32>, NoMemory>
     requires few { length slots.now ≤ most_slots }
     requires inside { HasRangesInside (rows_of slots.now) }
-    requires small { HasSmallFixed (rows_of slots.now) }
+    requires fitting { HasFittingFixed (rows_of slots.now) }
     requires each { length sizes.now ≡ length slots.now }
     requires sized { (i : ℕ) → i < length slots.now → CanHaveSize (row_at (rows_of slots.now) i).form (slice_index sizes.now i) }
     ensures accepted { IfOk result (λ refused. IsNone refused ↔ AcceptsLayout (rows_of slots.now) sizes.now ranks.now) }
@@ -87,10 +87,11 @@ pub fn accept_layout(
 }
 
 /// Laws: sizes whose record is accepted are slot by slot at most those of each layout, and where they are a layout themselves, no
-/// layout has fewer bytes.
+/// layout has fewer bytes. Each slot has just the bytes that its number needs under them.
 pub fn accepted_layouts_are_least()
     ensures lowest { AcceptedAreLowest }
     ensures least { AcceptedAreLeast }
+    ensures tight { AcceptedAreTight }
 {
     // A law, which costs nothing: a greater number has no shorter spelling.
     least_lens();

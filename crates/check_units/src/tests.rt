@@ -1,7 +1,6 @@
 // Verdicts on records that were worked out by hand.
 ghost use Rattle.std.specs.Prelude.{◌≡◌, ◌≤◌, ◌<◌, ◌^◌, true};
-ghost use Rattle.slot_layout.specs.Rows.{rows_of, form_of};
-ghost use Rattle.check_units.specs.Refused.{CanHaveSize};
+ghost use Rattle.slot_layout.specs.Rows.{rows_of, form_of, CanHaveSize};
 ghost use Rattle.check_units.specs.inside.Checks.{AreChecked};
 
 use crate::accept_layout;
@@ -13,14 +12,14 @@ use std::alloc::Global;
 fn is_checkable(slot: Slot, size: u32, count: usize) -> bool
     ensures order { result ≡ true → slot.from ≤ slot.to }
     ensures inside { result ≡ true → slot.to ≤ count }
-    ensures fixed { result ≡ true → slot.fixed < 2 ^ 31 }
+    ensures fixed { result ≡ true → slot.fixed < 2 ^ 62 }
     ensures sized { result ≡ true → CanHaveSize (form_of slot.kind) size }
 {
     let has_size = match slot.kind {
         SlotKind::Uleb => size >= 1,
         SlotKind::Call => size == 2 || size == 4,
     };
-    has_size && slot.from <= slot.to && slot.to as usize <= count && slot.fixed < 1 << 31
+    has_size && slot.from <= slot.to && slot.to as usize <= count && slot.fixed < 1 << 62
 }
 
 // Whether a few slots and sizes are what `accept_layout` needs.
@@ -77,7 +76,10 @@ fn short_records(rt: HostRuntime) -> Result<(), NoMemory> {
     let one: &[Slot] = &[uleb(20000, 0, 0)];
     // The first needs four bytes: with the smallest size its number is 65536. That of the second is 65535.
     let calls: &[Slot] = &[call(65534, 0, 1), call(65533, 1, 2)];
-    let rows: [(&[Slot], &[u32], &[u64], Option<u32>); 18] = [
+    // The greatest fixed part has 62 bits, which nine bytes spell. A call holds no number from 2^32 on.
+    let widest: &[Slot] = &[uleb((1 << 62) - 1, 0, 0)];
+    let too_wide: &[Slot] = &[call(1 << 32, 0, 0)];
+    let rows: [(&[Slot], &[u32], &[u64], Option<u32>); 21] = [
         (two, &[2, 2], &[0, 1], None),
         (two, &[2, 2], &[5, 9], None),
         (two, &[2, 2], &[0, 0], Some(1)),
@@ -94,6 +96,9 @@ fn short_records(rt: HostRuntime) -> Result<(), NoMemory> {
         (one, &[2], &[0], Some(0)),
         (calls, &[4, 2], &[0], None),
         (calls, &[4, 4], &[0, 1], Some(1)),
+        (widest, &[9], &[0, 0, 0, 0, 0, 0, 0, 0], None),
+        (widest, &[8], &[0, 0, 0, 0, 0, 0, 0], Some(0)),
+        (too_wide, &[4], &[0], Some(0)),
         (&[], &[], &[], None),
         (&[], &[], &[0], Some(0)),
     ];

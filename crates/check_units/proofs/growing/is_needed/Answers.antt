@@ -2,10 +2,10 @@ use Rattle.std.proofs.Common.{◌+◌, ◌/◌, ℕ, length, get_or, ap, ◌∙�
 use Rattle.std.proofs.lemmas.List.{length-drop}
 use Rattle.leb_codec.specs.Layout.{need, size_after}
 use Rattle.slot_layout.specs.Rows.{form_of}
-use Rattle.slot_layout.proofs.GrowLaws.{no_slot, slot_from, slot_to, slot_fixed}
+use Rattle.slot_layout.proofs.GrowLaws.{no_slot}
 use Rattle.check_units.specs.inside.Sums.{numbers_of}
 use Rattle.check_units.proofs.CellLaws.{range_few}
-use Rattle.check_units.proofs.HoldLaws.{needed_is}
+use Rattle.check_units.proofs.HoldLaws.{slot_from, slot_to, slot_fixed, needed_is}
 use Rattle.check_units.proofs.growing.is_needed.Goals as goal
 
 pub overflow_add-number : goal.overflow_add-number

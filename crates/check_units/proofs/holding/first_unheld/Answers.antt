@@ -1,7 +1,7 @@
 use Rattle.std.proofs.Common.{ℕ, get_or, below_more, arith, ◌∙◌}
 use Rattle.slot_layout.specs.Rows.{rows_of}
-use Rattle.slot_layout.proofs.GrowLaws.{no_slot, count_rows, slot_from, slot_to, slot_fixed, starts_rise}
-use Rattle.check_units.proofs.HoldLaws.{slots_of, sum_few, holds_from, holds_not_from}
+use Rattle.slot_layout.proofs.GrowLaws.{no_slot, count_rows, starts_rise}
+use Rattle.check_units.proofs.HoldLaws.{slots_of, slot_from, slot_to, slot_fixed, sum_few, holds_from, holds_not_from}
 use Rattle.check_units.proofs.holding.first_unheld.Goals as goal
 
 pub bounds-sums-slot : goal.bounds-sums-slot
