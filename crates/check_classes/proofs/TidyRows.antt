@@ -234,3 +234,8 @@ module _ (file written : List ℕ) where
   pub numbers_first : {E : Type 0} → NoneBelow 12 → (r : Result (Option ℕ) E) → IfOk r (IsLeastFound (IsLongNumber written)) → IfOk r (λ found. IfSome found (IsFirstUntidy file written))
   numbers_first none (Ok found) least = number_first none found least
   numbers_first none (Err e) least = tt
+
+-- what holds anyway holds where no place is named
+pub known_anyway : {E : Type 0} (P : Type 0) (r : Result (Option ℕ) E) → P → IfOk r (λ found. IsNone found → P)
+known_anyway P (Ok found) holds = λ _. holds
+known_anyway P (Err e) holds = tt

@@ -3,6 +3,7 @@
 
 ghost use Rattle.std.specs.Prelude.{◌↔◌, IfOk, IfSome, IsNone};
 ghost use Rattle.dw_base.specs.declared.fault.Reach.{Reach};
+ghost use Rattle.value_links.specs.Classes.{HaveLeastCodes, HaveLeastColumns};
 ghost use Rattle.value_links.specs.Same.{Same};
 ghost use Rattle.value_links.specs.World.{IsWorldOf};
 ghost use Rattle.check_classes.specs.Tidy.{IsTidy, IsFirstUntidy};
@@ -30,7 +31,8 @@ use value_links::World;
 /// between or behind them that is amiss; an abbreviation table, a byte of none, a missing one, a declaration or an entry (DWARF 5 sections
 /// 7.5.2 and 7.5.3); a unit with bytes behind its tree (section 7.5); a line number program whose opcode_base isn't 13 (section 6.2.4); a list
 /// or view pairs that stand elsewhere, or a byte of a contribution that none of them has (sections 7.28 and 7.29); and a LEB128 number with
-/// a byte too many (section 7.6), but for those that have sizes of their own. The only error is want of memory.
+/// a byte too many (section 7.6), but for those that have sizes of their own. Where there is none, each column of the written file is in a
+/// least form for its values, and the codes of each abbreviation table take the fewest bytes for its uses. The only error is want of memory.
 pub fn accept_classes(
     alloc: Global,
     before: &World<'_>,
@@ -41,6 +43,8 @@ pub fn accept_classes(
     requires same { Same before.now.image after.now.image }
     ensures tidy { IfOk result (λ place. IsNone place ↔ IsTidy before.now.image after.now.image) }
     ensures first { IfOk result (λ place. IfSome place (IsFirstUntidy before.now.image after.now.image)) }
+    ensures columns { IfOk result (λ place. IsNone place → HaveLeastColumns after.now.image after.now.image) }
+    ensures codes { IfOk result (λ place. IsNone place → HaveLeastCodes after.now.image after.now.image) }
 {
     if let Some(place) = first_misplaced(alloc, before.image(), after.image())? {
         return Ok(Some(place));

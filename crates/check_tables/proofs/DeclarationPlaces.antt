@@ -19,7 +19,7 @@ use Rattle.check_places.specs.Firsts.{IsLeastPlace}
 use Rattle.check_tables.specs.declared.column_values.ColumnValues.{ColumnValues}
 use Rattle.check_tables.specs.Untidy.{IsFallen}
 use Rattle.check_tables.specs.inside.ColumnValues.{Headed, meant_with_heads, without_heads, HoldsValues}
-use Rattle.check_tables.specs.inside.UntidyDeclarations.{AreShortTo, HasLongColumnIn, HoldsColumns, IsUntidyBelow, IsUntidyIn}
+use Rattle.check_tables.specs.inside.UntidyDeclarations.{AreShortTo, AreShort, AreShortBelow, HasLongColumnIn, HoldsColumns, IsUntidyBelow, IsUntidyIn}
 
 -- PLACES
 
@@ -98,6 +98,13 @@ module _ (units : List HeadAndForest) (table : NamedTable) (stands : IsTable tab
   -- all columns are in least forms
   pub none_long : (n : ℕ) → length (declared_at (declarations_of table.table) k).columns ≤ n → AreShortTo units table k n → HasLongColumnIn units table k → ⊥
   none_long n past short (j, below, long) = long (short j (omega arith))
+
+-- the columns of one more declaration are in least forms
+pub short_below_more : (units : List HeadAndForest) (table : NamedTable) (n : ℕ) → AreShortBelow units table n → AreShort units table n → AreShortBelow units table (n + 1)
+short_below_more units table n before here k below = elim (cases_lt k n) [
+  | inl earlier ↦ before k earlier
+  | inr from ↦ let same : n ≡ k = omega arith in subst (AreShort units table) same here
+]
 
 -- THE FIRST OF A TABLE
 

@@ -1,6 +1,6 @@
 -- What a world says of the uses of declarations, and which of its declarations are untidy.
 use Rattle.std.proofs.Common.{◌≡◌, ◌≢◌, ◌≤◌, ◌<◌, ◌+◌, ◌⊎◌, ◌∙◌, inl, inr, ℕ, List, [], length, map, get_or, sym, ap, refl, subst, arith}
-use Rattle.std.specs.Prelude.{Option, slice_index}
+use Rattle.std.specs.Prelude.{Option, Some, None, IsNone, slice_index}
 use Rattle.std.specs.List.{range_with_len}
 use Rattle.std.proofs.lemmas.Bool.{cases_lt}
 use Rattle.std.proofs.lemmas.List.{get_or-map, get_or_default}
@@ -16,10 +16,24 @@ use Rattle.check_places.specs.Firsts.{IsLeastFound}
 use Rattle.check_tables.specs.declared.table_namers.Namers.{Namers}
 use Rattle.check_tables.specs.Untidy.{place_of, HasUnused, IsUntidyDeclaration}
 use Rattle.check_tables.specs.inside.TableNamers.{units_with, AreNamers}
-use Rattle.check_tables.specs.inside.UntidyDeclarations.{AreAllNamers, IsUntidyIn, IsUntidyAmong}
+use Rattle.check_tables.specs.inside.UntidyDeclarations.{AreAllNamers, AreAllShort, AreShortAmong, HaveShortColumns, IsUntidyIn, IsUntidyAmong}
 use Rattle.check_tables.specs.inside.Marked.{lesser_of}
 use Rattle.check_tables.proofs.UnitsOfTables.{unit_count, of_table}
 use Rattle.check_tables.proofs.LeastPlaces.{least_same, least_either}
+
+-- USES
+
+-- for each declaration of a table its uses
+abbrev pub uses_in : List HeadAndForest → NamedTable → List ℕ
+uses_in units table = map (uses_of units table.place) (range_with_len 0 (length table.table.decls))
+
+pub uses_are : (units : List HeadAndForest) (table : NamedTable) → AreUses units table (uses_in units table)
+uses_are units table =
+    let count : ℕ = length table.table.decls in
+    record {
+      count = length-map-range_with_len (uses_of units table.place) 0 count;
+      each = λ n below. get_or-map-range_with_len (uses_of units table.place) 0 count n n 0 below (omega arith);
+    }
 
 -- ALL TABLES
 
@@ -36,6 +50,21 @@ among_more units tables i found place before here =
     from p (n, below, untidy) = elim (cases_lt n i) [
       | inl earlier ↦ inl (n, earlier, untidy)
       | inr last ↦ let same : n ≡ i = omega arith in inr (subst (λ (z : ℕ). IsUntidyIn units (table_at tables z) p) same untidy)
+    ]
+
+-- there is no least place of one or the other
+none_of_both : (a b : Option ℕ) → IsNone (lesser_of a b) → IsNone a × IsNone b
+none_of_both None b none = (refl, none)
+none_of_both (Some p) None none = absurd (cc none)
+none_of_both (Some p) (Some q) none = absurd (cc none)
+
+-- and the columns of one table more are in least forms
+pub short_among_more : (units : List HeadAndForest) (tables : List NamedTable) (i : ℕ) (found place : Option ℕ) → (IsNone found → AreShortAmong units tables i) → (IsNone place → AreAllShort units (table_at tables i)) → IsNone (lesser_of found place) → AreShortAmong units tables (i + 1)
+short_among_more units tables i found place before here none n below =
+    let (first, second) = none_of_both found place none in
+    elim (cases_lt n i) [
+      | inl earlier ↦ before first n earlier
+      | inr last ↦ let same : i ≡ n = omega arith in subst (λ (z : ℕ). AreAllShort units (table_at tables z)) same (here second)
     ]
 
 module _ (world : World) (r : Reading) (read : IsReading world.image r) (holds : Holds world.image world r) where
@@ -64,17 +93,21 @@ module _ (world : World) (r : Reading) (read : IsReading world.image r) (holds :
   pub first_of_all : (n : ℕ) (found : Option ℕ) → n ≡ length world.tables → IsLeastFound (IsUntidyAmong world.units world.tables n) found → IsLeastFound (IsUntidyDeclaration r.links) found
   first_of_all n found all least = least_same (IsUntidyAmong world.units world.tables n) (IsUntidyDeclaration r.links) found (λ p untidy. untidy_to n p (omega arith) untidy) (λ p untidy. untidy_from n p (omega arith) untidy) least
 
+  -- where the columns of all tables are in least forms, those of the table of each unit are
+  pub all_short : (n : ℕ) → n ≡ length world.tables → AreShortAmong world.units world.tables n → HaveShortColumns r.links
+  all_short n all short u inside =
+      let i : ℕ = slice_index world.table_of u in
+      let below : i < length world.tables = holds.tables.inside u inside in
+      let here : AreAllShort units_read (table_at world.tables i) = subst (λ (us : List HeadAndForest). AreAllShort us (table_at world.tables i)) holds.units (short i (omega arith)) in
+      subst (AreAllShort units_read) (holds.tables.each u inside) here
+
   module _ (used : (q : ℕ) → HasUnused r.links q → ⊥) where
     -- each declaration of the table of a unit has uses
     uses_some : (u k : ℕ) → u < length r.links.units → k < length (unit_at r.links u).table.decls → uses_of units_read (place_of r.links u) k ≢ 0
     uses_some u k inside known none =
-        let place : ℕ = place_of r.links u in
-        let count : ℕ = length (unit_at r.links u).table.decls in
-        let uses : List ℕ = map (uses_of units_read place) (range_with_len 0 count) in
-        let size : length uses ≡ count = length-map-range_with_len (uses_of units_read place) 0 count in
-        let at : (n : ℕ) → n < count → get_or uses n 0 ≡ uses_of units_read place n = λ n below. get_or-map-range_with_len (uses_of units_read place) 0 count n n 0 below (omega arith) in
-        let are : AreUses units_read (named_by (unit_at r.links u)) uses = record { count = size; each = at } in
-        used place (u, uses, k, inside, refl, are, omega (arith, size, known), at k known ∙ none)
+        let uses : List ℕ = uses_in units_read (named_by (unit_at r.links u)) in
+        let are : AreUses units_read (named_by (unit_at r.links u)) uses = uses_are units_read (named_by (unit_at r.links u)) in
+        used (place_of r.links u) (u, uses, k, inside, refl, are, omega (arith, are.count, known), are.each k known ∙ none)
 
     -- the units that have a table
     all_namers : (i : ℕ) → i < length world.tables → AreAllNamers world.units (table_at world.tables i) (units_with world.table_of i (length world.table_of))

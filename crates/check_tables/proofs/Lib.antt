@@ -24,3 +24,5 @@ mod SortedOnce
 mod OutlineLaws
 mod TableReadings
 mod UntidyTables
+mod LeastNumberings
+mod TidyTables

@@ -1,12 +1,12 @@
 // Declarations: their codes rise, and their columns are in least forms.
-ghost use Rattle.std.specs.Prelude.{◌<◌, ◌↔◌, ◌⊎◌, ℕ, List, length, IsTrue, IfOk};
+ghost use Rattle.std.specs.Prelude.{◌<◌, ◌↔◌, ◌⊎◌, ℕ, List, length, IsTrue, IsFalse, IsNone, IfOk};
 ghost use Rattle.dw_base.specs.declared.fault.Reach.{Reach};
 ghost use Rattle.entry_read.specs.Units.{HeadAndForest, declarations_of, IsTable};
 ghost use Rattle.value_links.specs.World.{IsWorldOf};
 ghost use Rattle.check_places.specs.Firsts.{IsLeastFound};
 ghost use Rattle.check_tables.specs.Untidy.{HasUnused, IsFallen, IsUntidyDeclaration};
 ghost use Rattle.check_tables.specs.inside.Compared.{OfBoth};
-ghost use Rattle.check_tables.specs.inside.UntidyDeclarations.{AreAllNamers, HasLongColumnIn, HoldsColumns, IsUntidyIn};
+ghost use Rattle.check_tables.specs.inside.UntidyDeclarations.{AreAllNamers, AreAllShort, AreShort, HasLongColumnIn, HaveShortColumns, HoldsColumns, IsUntidyIn};
 
 use crate::column_values::ColumnValues;
 use crate::table_namers::units_by_table;
@@ -30,7 +30,8 @@ fn has_long_column(values: &ColumnValues, table: &NamedTable, number: u32) -> bo
     requires known { number < length table.now.table.decls }
     requires stands { IsTable table.now.table }
     requires values { (units : List HeadAndForest) × HoldsColumns units table.now values.now }
-    ensures { (units : List HeadAndForest) → HoldsColumns units table.now values.now → IsTrue result ↔ HasLongColumnIn units table.now number }
+    ensures long { (units : List HeadAndForest) → HoldsColumns units table.now values.now → IsTrue result ↔ HasLongColumnIn units table.now number }
+    ensures short { (units : List HeadAndForest) → HoldsColumns units table.now values.now → IsFalse result → AreShort units table.now number }
 {
     let first = table.table.decl(number).first as usize;
     let columns = table.table.columns(number);
@@ -47,7 +48,8 @@ fn is_untidy(values: &ColumnValues, table: &NamedTable, number: u32) -> bool
     requires known { number < length table.now.table.decls }
     requires stands { IsTable table.now.table }
     requires values { (units : List HeadAndForest) × HoldsColumns units table.now values.now }
-    ensures { (units : List HeadAndForest) → HoldsColumns units table.now values.now → IsTrue result ↔ (IsFallen (declarations_of table.now.table) number ⊎ HasLongColumnIn units table.now number) }
+    ensures untidy { (units : List HeadAndForest) → HoldsColumns units table.now values.now → IsTrue result ↔ (IsFallen (declarations_of table.now.table) number ⊎ HasLongColumnIn units table.now number) }
+    ensures short { (units : List HeadAndForest) → HoldsColumns units table.now values.now → IsFalse result → AreShort units table.now number }
 {
     is_fallen(&table.table, number) || has_long_column(values, table, number)
 }
@@ -56,7 +58,8 @@ fn is_untidy(values: &ColumnValues, table: &NamedTable, number: u32) -> bool
 fn first_of_values(values: &ColumnValues, table: &NamedTable) -> Option<u64>
     requires stands { IsTable table.now.table }
     requires values { (units : List HeadAndForest) × HoldsColumns units table.now values.now }
-    ensures { (units : List HeadAndForest) → HoldsColumns units table.now values.now → IsLeastFound (IsUntidyIn units table.now) result }
+    ensures least { (units : List HeadAndForest) → HoldsColumns units table.now values.now → IsLeastFound (IsUntidyIn units table.now) result }
+    ensures short { (units : List HeadAndForest) → HoldsColumns units table.now values.now → IsNone result → AreAllShort units table.now }
 {
     for number in 0..table.table.len() {
         if is_untidy(values, table, number) {
@@ -74,18 +77,20 @@ fn first_of_table(
     table: &NamedTable,
 ) -> Result<Option<u64>, NoMemory>
     requires { AreAllNamers units.now.items table.now named.now.items }
-    ensures { IfOk result (λ place. IsLeastFound (IsUntidyIn units.now.items table.now) place) }
+    ensures least { IfOk result (λ place. IsLeastFound (IsUntidyIn units.now.items table.now) place) }
+    ensures short { IfOk result (λ place. IsNone place → AreAllShort units.now.items table.now) }
 {
     let values = ColumnValues::gather(alloc, units, named, &table.table)?;
     Ok(first_of_values(&values, table))
 }
 
 /// The first declaration of a written file that has a column which isn't in a least form, or a code that isn't above the one before it, by
-/// its place in .debug_abbrev. Each declaration has uses.
+/// its place in .debug_abbrev. Where there is none, all columns are in least forms. Each declaration has uses.
 pub(crate) fn first_declaration(alloc: Global, after: &World<'_>) -> Result<Option<u64>, NoMemory>
     requires after { (reach : Reach) × IsWorldOf after.now.image reach after.now }
     requires used { OfBoth after.now after.now (λ r s. (q : ℕ) → HasUnused s.links q → ⊥) }
-    ensures { IfOk result (λ place. OfBoth after.now after.now (λ r s. IsLeastFound (IsUntidyDeclaration s.links) place)) }
+    ensures least { IfOk result (λ place. OfBoth after.now after.now (λ r s. IsLeastFound (IsUntidyDeclaration s.links) place)) }
+    ensures short { IfOk result (λ place. IsNone place → OfBoth after.now after.now (λ r s. HaveShortColumns s.links)) }
 {
     let tables = after.tables();
     let named = units_by_table(alloc, after.table_numbers(), tables.len())?;

@@ -2,8 +2,9 @@
 //! which they aren't.
 #![tactic(auto)]
 
-ghost use Rattle.std.specs.Prelude.{IfOk};
+ghost use Rattle.std.specs.Prelude.{IfOk, IsNone};
 ghost use Rattle.dw_base.specs.declared.fault.Reach.{Reach};
+ghost use Rattle.value_links.specs.Classes.{HaveLeastCodes, HaveLeastColumns};
 ghost use Rattle.value_links.specs.Same.{Same};
 ghost use Rattle.value_links.specs.World.{IsWorldOf};
 ghost use Rattle.check_places.specs.Firsts.{IsFirstFoundIn};
@@ -45,7 +46,8 @@ use value_links::World;
 /// - a declaration with a column that isn't in a least form, or with a code that isn't above the one before it;
 /// - an entry that has another declaration than an earlier one where both had one, or one declaration where both had others.
 ///
-/// The only error is want of memory.
+/// Where there is none, each column of the written file is in a least form for its values, and the codes of each table take the fewest
+/// bytes for its uses (DWARF 5 sections 7.5.3 and 7.5.6). The only error is want of memory.
 pub fn first_untidy(
     alloc: Global,
     before: &World<'_>,
@@ -54,7 +56,9 @@ pub fn first_untidy(
     requires before { (reach : Reach) × IsWorldOf before.now.image reach before.now }
     requires after { (reach : Reach) × IsWorldOf after.now.image reach after.now }
     requires same { Same before.now.image after.now.image }
-    ensures { IfOk result (IsFirstFoundIn order_of (IsUntidy before.now.image after.now.image)) }
+    ensures first { IfOk result (IsFirstFoundIn order_of (IsUntidy before.now.image after.now.image)) }
+    ensures columns { IfOk result (λ place. IsNone place → HaveLeastColumns after.now.image after.now.image) }
+    ensures codes { IfOk result (λ place. IsNone place → HaveLeastCodes after.now.image after.now.image) }
 {
     if let Some(place) = first_table(alloc, before, after)? {
         return Ok(Some(offset_in_file(after, b".debug_abbrev", place)));

@@ -1,13 +1,14 @@
 -- The declarations of tables, as it is looked for the first untidy one.
-use Rattle.std.specs.Prelude.{◌≡◌, ◌≢◌, ◌<◌, ◌+◌, ◌⊎◌, ℕ, List, [], length}
+use Rattle.std.specs.Prelude.{◌≡◌, ◌≢◌, ◌<◌, ◌+◌, ◌⊎◌, ℕ, List, [], length, map}
 use Rattle.form_codec.specs.Columns.{AreSpelled, IsLeastForm}
 use Rattle.abbrev_tables.specs.Listings.{decl_at, spec_at}
 use Rattle.column_forms.specs.Tallies.{meanings_in}
 use Rattle.entry_arena.specs.Trees.{declared_at}
 use Rattle.entry_read.specs.Units.{HeadAndForest, declarations_of}
 use Rattle.value_links.specs.declared.units.NamedTable.{NamedTable}
+use Rattle.value_links.specs.Reading.{Linkable, unit_at}
 use Rattle.value_links.specs.Uses.{uses_of, column_values, column_meanings}
-use Rattle.value_links.specs.World.{table_at}
+use Rattle.value_links.specs.World.{head_and_forest, named_by, table_at}
 use Rattle.check_tables.specs.declared.column_values.ColumnValues.{ColumnValues}
 use Rattle.check_tables.specs.Untidy.{IsFallen}
 use Rattle.check_tables.specs.inside.TableNamers.{units_with, AreOfTable}
@@ -23,6 +24,26 @@ HasLongColumnIn units table k =
 abbrev pub AreShortTo : List HeadAndForest → NamedTable → ℕ → ℕ → Type 0
 AreShortTo units table k n =
     (j : ℕ) → j < n → IsLeastForm (column_meanings units table.place k j) (spec_at (declared_at (declarations_of table.table) k).columns j).form (spec_at (declared_at (declarations_of table.table) k).columns j).constant
+
+-- all columns of a declaration are
+abbrev pub AreShort : List HeadAndForest → NamedTable → ℕ → Type 0
+AreShort units table k = AreShortTo units table k (length (declared_at (declarations_of table.table) k).columns)
+
+-- those of the first so many declarations of a table
+abbrev pub AreShortBelow : List HeadAndForest → NamedTable → ℕ → Type 0
+AreShortBelow units table n = (k : ℕ) → k < n → AreShort units table k
+
+-- those of all of its declarations
+abbrev pub AreAllShort : List HeadAndForest → NamedTable → Type 0
+AreAllShort units table = AreShortBelow units table (length table.table.decls)
+
+-- those of the first so many tables
+abbrev pub AreShortAmong : List HeadAndForest → List NamedTable → ℕ → Type 0
+AreShortAmong units tables n = (i : ℕ) → i < n → AreAllShort units (table_at tables i)
+
+-- those of the table of each unit of a file
+abbrev pub HaveShortColumns : Linkable → Type 0
+HaveShortColumns s = (u : ℕ) → u < length s.units → AreAllShort (map head_and_forest s.units) (named_by (unit_at s u))
 
 -- one of the first so many declarations of a table is untidy and stands at a place
 abbrev pub IsUntidyBelow : List HeadAndForest → NamedTable → ℕ → ℕ → Type 0

@@ -10,4 +10,8 @@ first_of_values-requires-clause-values c =
 
 pub returns : goal.returns
 returns c =
-    c.first_of_values.ensures c.args.units.now.items (columns_held c.args.units.now.items c.args.table.now c.args.named.now.items c.requires c.in_ok-values.values c.in_ok-values.ensures)
+    let held = columns_held c.args.units.now.items c.args.table.now c.args.named.now.items c.requires c.in_ok-values.values c.in_ok-values.ensures in
+    record {
+      least = c.first_of_values.ensures.least c.args.units.now.items held;
+      short = c.first_of_values.ensures.short c.args.units.now.items held;
+    }
