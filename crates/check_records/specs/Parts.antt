@@ -1,0 +1,55 @@
+-- The parts of a written file for which its certificate has a record each, in the order of the records: the line number programs, the range
+-- lists and then the location lists that aren't frozen, and the units (DWARF 5 sections 2.6.2, 2.17.3, 6.2 and 7.5).
+use Rattle.std.specs.Prelude.{◌≡◌, ℕ, zero, suc, List, [], ◌∷◌, ◌++◌, length, map, ⊤}
+use Rattle.std.specs.List.{AllZip}
+use Rattle.leb_codec.specs.Records.{Record, OfLines, OfList, OfLayout, SpellsFile}
+use Rattle.list_model.specs.declared.entry.ListKind.{ListKind}
+use Rattle.list_model.specs.declared.entry.ListKind.TheVariants.{Ranges, Locations}
+use Rattle.value_links.specs.Layouts.{AreNumbersOf}
+use Rattle.value_links.specs.Lists.{IsFrozen}
+use Rattle.value_links.specs.Reading.{Reading, lists_of, list_at}
+use Rattle.value_links.specs.Whole.{IsReading}
+
+-- the line number program with a number, the list of a kind with a number, and the unit with a number
+pub data Part : Type 0 where
+  AProgram : ℕ → Part
+  AList : ListKind → ℕ → Part
+  AUnit : ℕ → Part
+
+-- the numbers below a count, rising
+abbrev pub numbers_below : ℕ → List ℕ
+numbers_below zero = []
+numbers_below (suc n) = numbers_below n ++ n ∷ []
+
+-- the numbers of the lists of a kind that aren't frozen
+abbrev pub AreUnfrozen : ListKind → Reading → List ℕ → Type 0
+AreUnfrozen kind s numbers = AreNumbersOf (λ (k : ℕ). ¬ IsFrozen s.links kind (list_at (lists_of s kind) k)) (length (lists_of s kind)) numbers
+
+-- the parts of a file
+pub record AreParts (s : Reading) (parts : List Part) : Type 0 where
+  pub ranges : List ℕ
+  pub unfrozen_ranges : AreUnfrozen Ranges s ranges
+  pub locations : List ℕ
+  pub unfrozen_locations : AreUnfrozen Locations s locations
+  pub whole : parts ≡ map AProgram (numbers_below (length s.links.programs)) ++ (map (AList Ranges) ranges ++ (map (AList Locations) locations ++ map AUnit (numbers_below (length s.links.units))))
+
+-- a record is of the kind that a part has
+abbrev pub IsFor : Part → Record → Type 0
+IsFor (AProgram i) (OfLines runs) = ⊤
+IsFor (AList kind k) (OfList potentials) = ⊤
+IsFor (AUnit u) (OfLayout ranks) = ⊤
+IsFor part other = ⊥
+
+-- What is judged: the written file is read, these are its parts, and the certificate is a record file of these records.
+pub record IsJudged (written certificate : List ℕ) (s : Reading) (parts : List Part) (records : List Record) : Type 0 where
+  pub read : IsReading written s
+  pub of_file : AreParts s parts
+  pub spelled : SpellsFile records certificate
+
+-- The certificate has a record for each part, in their order, and no others.
+pub record HasRecords (written certificate : List ℕ) : Type 0 where
+  pub s : Reading
+  pub parts : List Part
+  pub records : List Record
+  pub judged : IsJudged written certificate s parts records
+  pub each : AllZip IsFor parts records

@@ -1,0 +1,24 @@
+-- The lists of a file that aren't frozen, as they are pushed one after the other.
+-- Inner functions and proofs alone need what stands here.
+use Rattle.std.specs.Prelude.{◌≡◌, ◌++◌, ℕ, List, length, map, slice_index_or}
+use Rattle.list_model.specs.declared.entry.ListKind.{ListKind}
+use Rattle.list_model.specs.declared.item.Meaning.TheVariants.{Dead}
+use Rattle.value_links.specs.declared.lists.ListRead.{ListRead as HeldList}
+use Rattle.value_links.specs.Layouts.{AreNumbersOf}
+use Rattle.value_links.specs.World.{World, lists_held}
+use Rattle.check_records.specs.declared.parts.Part.{Part as HeldPart}
+use Rattle.check_records.specs.declared.parts.Part.TheVariants as held
+
+-- the list with a number isn't held as a dead one
+abbrev pub IsLive : World → ListKind → ℕ → Type 0
+IsLive world kind k = (d : HeldList) → ¬ ((slice_index_or (lists_held world kind) k d).meaning ≡ Dead)
+
+-- new is old with those of the first so many lists that aren't
+pub record AddsLists (world : World) (kind : ListKind) (count : ℕ) (old new : List HeldPart) : Type 0 where
+  pub numbers : List ℕ
+  pub live : AreNumbersOf (IsLive world kind) count numbers
+  pub whole : new ≡ old ++ map (held.List kind) numbers
+
+-- those of all
+abbrev pub AddsAllLists : World → ListKind → List HeldPart → List HeldPart → Type 0
+AddsAllLists world kind old new = AddsLists world kind (length (lists_held world kind)) old new

@@ -1,0 +1,15 @@
+//! The records of a certificate held against the written file: whether they are those of its parts, and whether each shows that its part
+//! couldn't be shorter.
+#![tactic(auto)]
+
+mod broken;
+mod lists;
+mod parts;
+mod programs;
+mod refused;
+mod strays;
+mod units;
+
+pub use broken::first_broken;
+pub use refused::first_refused;
+pub use strays::first_stray;

@@ -1,0 +1,80 @@
+// The parts of a file that have records.
+ghost use Rattle.std.specs.Prelude.{◌≡◌, ◌<◌, ◌^◌, ◌↔◌, ℕ, length, IsTrue, IfOk, OnOk};
+ghost use Rattle.dw_base.specs.declared.fault.Reach.{Reach};
+ghost use Rattle.certificates.specs.Reading.{record_of};
+ghost use Rattle.value_links.specs.Reading.{Reading};
+ghost use Rattle.value_links.specs.Whole.{IsReading};
+ghost use Rattle.value_links.specs.World.{IsWorldOf};
+ghost use Rattle.check_records.specs.Parts.{AreParts, IsFor};
+ghost use Rattle.check_records.specs.inside.Parts.{part_of, parts_of, AreThere};
+ghost use Rattle.check_records.specs.inside.Pushed.{AddsAllLists};
+
+use certificates::Proof;
+use dw_base::NoMemory;
+use list_model::{ListKind, Meaning};
+use std::alloc::Global;
+use value_links::World;
+
+// The most parts, since numbers of 32 bits count them.
+const MOST_PARTS: usize = 0xffff_ffff;
+
+/// A part of a written file for which its certificate has a record. Numbers count from 0.
+#[derive(Clone, Copy)]
+pub(crate) enum Part {
+    /// The line number program with a number.
+    Program(u32),
+    /// The list of a kind with a number, which isn't frozen. Frozen lists count too.
+    List(ListKind, u32),
+    /// The unit with a number.
+    Unit(u32),
+}
+
+impl Part {
+    /// Whether a record is of the kind that the part has.
+    pub(crate) fn has(self, proof: &Proof) -> bool
+        ensures { IsTrue result ↔ IsFor (part_of self) (record_of proof.now) }
+    {
+        matches!(
+            (self, proof),
+            (Part::Program(_), Proof::Lines(_))
+                | (Part::List(..), Proof::List(_))
+                | (Part::Unit(_), Proof::Layout(_))
+        )
+    }
+}
+
+// Appends the lists of a kind that aren't frozen.
+fn push_lists(parts: &mut Vec<Part>, world: &World<'_>, kind: ListKind) -> Result<(), NoMemory>
+    requires { (reach : Reach) × IsWorldOf world.now.image reach world.now }
+    ensures { OnOk result (AddsAllLists world.now kind parts.old.items parts.new.items) }
+{
+    for (number, list) in world.lists(kind).iter().enumerate() {
+        if let Meaning::Live(_) = list.meaning {
+            parts.push(Part::List(kind, number as u32))?;
+        }
+    }
+    Ok(())
+}
+
+/// The parts of a written file, in the order of their records: the line number programs, the range lists and then the location lists that
+/// aren't frozen, and the units. More than 2^32 - 1 of them are answered as want of memory: their records alone would have more than 8 GB.
+pub(crate) fn parts_of_file(alloc: Global, world: &World<'_>) -> Result<Vec<Part>, NoMemory>
+    requires { (reach : Reach) × IsWorldOf world.now.image reach world.now }
+    ensures parts { IfOk result (λ parts. (s : Reading) → IsReading world.now.image s → AreParts s (parts_of parts.items)) }
+    ensures there { IfOk result (λ parts. AreThere world.now parts.items) }
+    ensures few { IfOk result (λ parts. length parts.items < 2 ^ 32) }
+{
+    let mut parts = Vec::new(alloc);
+    for number in 0..world.programs().len() {
+        parts.push(Part::Program(number as u32))?;
+    }
+    push_lists(&mut parts, world, ListKind::Ranges)?;
+    push_lists(&mut parts, world, ListKind::Locations)?;
+    for number in 0..world.units().len() {
+        parts.push(Part::Unit(number as u32))?;
+    }
+    if parts.len() > MOST_PARTS {
+        return Err(NoMemory);
+    }
+    Ok(parts)
+}

@@ -1,0 +1,6 @@
+pub mod AimNumbers
+pub mod AmongParts
+pub mod LeastLayouts
+pub mod LeastLines
+pub mod LeastLists
+pub mod Reasons
