@@ -41,6 +41,14 @@ not_said before now result says (inr (inr e)) =
       | inr (inr six) ↦ absurd (omega arith)
     ]
 
+pub not_rejected : (before now result : ℕ) → SaysOrStops 0 before now result → result ≡ 7 → ⊥
+not_rejected before now result says e =
+    elim says.which [
+      | inl zero ↦ absurd (omega arith)
+      | inr (inl five) ↦ absurd (omega arith)
+      | inr (inr six) ↦ absurd (omega arith)
+    ]
+
 -- where the message didn't fail, it was said or memory was wanting
 pub said_well : (before now result : ℕ) → SaysOrStops 0 before now result → ¬ Rose before now → (result ≡ 0) ⊎ (result ≡ 6)
 said_well before now result says well =

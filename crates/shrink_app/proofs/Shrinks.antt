@@ -25,11 +25,11 @@ always_ok P (Err e) p = tt
 
 -- what was read is the file
 pub short_read : (told : Option (List ℕ)) (front : List ℕ) → ForSome told (λ file. front ≡ take (2 ^ 30 + 1) file) → length front ≤ 2 ^ 30 → ForSome told (λ file. front ≡ file)
-short_read told front read short = λ file e. short_front front file (read file e) short
+short_read told front read short = λ file e. short_front (2 ^ 30) front file (read file e) short
 
 -- what was read is past the limit, and so is the file
 pub long_read : FirstFaultsDecide → (told : Option (List ℕ)) (front : List ℕ) → ForSome told (λ file. front ≡ take (2 ^ 30 + 1) file) → 2 ^ 30 < length front → ForSome told (λ file. Faulty file Limit 0)
-long_read decide told front read long = λ file e. decide.file file Narrow Limit 0 (inl (refl, long_front front file (read file e) long))
+long_read decide told front read long = λ file e. decide.file file Narrow Limit 0 (inl (refl, long_front (2 ^ 30) front file (read file e) long))
 
 pub refusal_named : (T : Type 0) (told : Option (List ℕ)) (front : List ℕ) (refusal : Refusal) → ForSome told (λ file. front ≡ file) → NamesFault front Narrow refusal → EndsByFault {T = T} told (Err (ending_of refusal))
 refusal_named T told front (Refused fault) read h = λ file e. subst (λ (f : List ℕ). Faulty f fault.kind fault.place) (read file e) h

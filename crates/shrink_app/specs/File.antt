@@ -1,5 +1,5 @@
--- Which inputs are faulty, and what is written for the others. An input is held to the narrow limits. And which file is drawn from a
--- number.
+-- Which inputs are faulty, and what is written for the others. An input is held to the narrow limits, and what is written for one to the
+-- wide ones. Which file is drawn from a number. And which three files are rejected.
 use Rattle.std.specs.Prelude.{ℕ, List}
 use Rattle.dw_base.specs.declared.fault.Kind.{Kind}
 use Rattle.dw_base.specs.declared.fault.Reach.TheVariants.{Narrow, Wide}
@@ -13,6 +13,8 @@ use Rattle.value_links.specs.Sections.{debug_line}
 use Rattle.value_links.specs.Faults.{Faulty as FaultyWithin, IsValid as IsValidWithin}
 use Rattle.value_links.specs.Debug.{Means}
 use Rattle.sample_maker.specs.Generated.{Generated}
+use Rattle.same_meaning.specs.declared.reason.Reason.{Reason}
+use Rattle.verdict.specs.Accepts.{Accepts, IsFirstReason}
 
 -- a fault of this kind stands at this place, in the first pass that has any
 abbrev pub Faulty : List ℕ → Kind → ℕ → Type 0
@@ -22,9 +24,16 @@ Faulty file kind place = FaultyWithin file Narrow kind place
 abbrev pub IsValid : List ℕ → Type 0
 IsValid file = IsValidWithin file Narrow
 
+-- the same of a file that is written for another
+abbrev pub FaultyOutput : List ℕ → Kind → ℕ → Type 0
+FaultyOutput written kind place = FaultyWithin written Wide kind place
+
+abbrev pub IsValidOutput : List ℕ → Type 0
+IsValidOutput written = IsValidWithin written Wide
+
 -- the written file has none either, within the wide limits
 abbrev pub StaysValid : List ℕ → List ℕ → Type 0
-StaysValid file written = IsValidWithin written Wide
+StaysValid file written = IsValidOutput written
 
 -- each line number program is written as the least that gives its rows
 abbrev pub HasLeastLines : List ℕ → List ℕ → Type 0
@@ -54,3 +63,11 @@ pub record IsWhole (file written : List ℕ) : Type 0 where
 pub record IsDrawn (number units : ℕ) (file : List ℕ) : Type 0 where
   pub valid : IsValid file
   pub means : Means file (Generated number units)
+
+-- Three files are rejected for a reason: a file, one that may have been written for it, and the certificate of this one. The two files
+-- are valid and aren't accepted with the certificate, and this is the first reason why.
+pub record IsRejected (file written cert : List ℕ) (reason : Reason) : Type 0 where
+  pub valid : IsValid file
+  pub output_valid : IsValidOutput written
+  pub unaccepted : ¬ Accepts file written cert
+  pub first : IsFirstReason file written cert reason

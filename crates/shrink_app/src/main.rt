@@ -1,6 +1,9 @@
 //! Writes a linked file anew in fewer bytes.
 #![tactic(auto)]
 
+mod check;
+#[cfg(test)]
+mod check_tests;
 #[cfg(test)]
 mod column_tests;
 mod ending;
@@ -15,6 +18,7 @@ mod make_tests;
 mod overlap_tests;
 mod reading;
 mod real_host;
+mod rejection;
 mod run;
 #[cfg(test)]
 mod sample_tests;

@@ -10,8 +10,14 @@ use dw_base::{Fault, Host, Kind, Stop};
 use std::alloc::Global;
 use value_links::first_faults_decide;
 
-// The length past which a file isn't read on, since it is refused.
-const FILE_LIMIT: usize = 1 << 30;
+/// The length past which an input isn't read on, since it is refused.
+pub const INPUT_LIMIT: usize = 1 << 30;
+
+/// The same of a file that was written for an input.
+pub const OUTPUT_LIMIT: usize = 1 << 35;
+
+/// The most bytes that can be held. No length is refused of a certificate.
+pub const NO_LIMIT: usize = isize::MAX as usize;
 
 // The most bytes that are asked for at once.
 const PIECE: usize = 65_536;
@@ -28,7 +34,7 @@ fn read_on<H: Host>(
     ensures read { IfOk result (λ n. ForSome (H.bytes host.old name.now) (λ b. IsReadOn b file.old.items file.new.items n)) }
     ensures files { (f : List ℕ) → H.bytes host.new f ≡ H.bytes host.old f }
     ensures said { H.said host.new ≡ H.said host.old }
-    ensures reads { OnlyReadFault (H.read_faults host.old name.now) (H.read_faults host.new name.now) result }
+    ensures reads { OnlyReadFault (Rose (H.read_faults host.old name.now) (H.read_faults host.new name.now)) (H.read_faults host.old) (H.read_faults host.new) result }
     ensures writes { (f : List ℕ) → H.write_faults host.new f ≡ H.write_faults host.old f }
     ensures says { H.say_faults host.new ≡ H.say_faults host.old }
 {
@@ -51,19 +57,25 @@ fn zeros(alloc: Global, count: usize) -> Result<Vec<u8>, Ending>
     Ok(vec![in alloc; 0u8; count]?)
 }
 
-// The bytes of a file, to its end or to one past the limit.
-fn read_file<H: Host>(alloc: Global, name: &str, host: &mut H) -> Result<Vec<u8>, Ending>
-    ensures read { IfOk result (λ file. ForSome (H.bytes host.old name.now) (λ b. file.items ≡ take (2 ^ 30 + 1) b)) }
+/// The bytes of a file, to its end or to one past the limit.
+pub fn read_file<H: Host>(
+    alloc: Global,
+    name: &str,
+    limit: usize,
+    host: &mut H,
+) -> Result<Vec<u8>, Ending>
+    requires { limit < 2 ^ 63 }
+    ensures read { IfOk result (λ file. ForSome (H.bytes host.old name.now) (λ b. file.items ≡ take (limit + 1) b)) }
     ensures files { (f : List ℕ) → H.bytes host.new f ≡ H.bytes host.old f }
     ensures said { H.said host.new ≡ H.said host.old }
-    ensures reads { OnlyReadFault (H.read_faults host.old name.now) (H.read_faults host.new name.now) result }
+    ensures reads { OnlyReadFault (Rose (H.read_faults host.old name.now) (H.read_faults host.new name.now)) (H.read_faults host.old) (H.read_faults host.new) result }
     ensures writes { (f : List ℕ) → H.write_faults host.new f ≡ H.write_faults host.old f }
     ensures says { H.say_faults host.new ≡ H.say_faults host.old }
 {
     let mut piece = zeros(alloc, PIECE)?;
     let mut file = Vec::new(alloc);
-    while file.len() <= FILE_LIMIT {
-        let room = PIECE.min(FILE_LIMIT + 1 - file.len());
+    while file.len() <= limit {
+        let room = PIECE.min(limit + 1 - file.len());
         if read_on(host, name, &mut piece[..room], &mut file)? == 0 {
             return Ok(file);
         }
@@ -83,13 +95,13 @@ pub fn read_input<H: Host>(alloc: Global, name: &str, host: &mut H) -> Result<Ve
     ensures writes { (f : List ℕ) → H.write_faults host.new f ≡ H.write_faults host.old f }
     ensures says { H.say_faults host.new ≡ H.say_faults host.old }
 {
-    let file = match read_file(alloc, name, host) {
+    let file = match read_file(alloc, name, INPUT_LIMIT, host) {
         Ok(file) => file,
         Err(ending) => return Err(ending),
     };
     // A law, which costs nothing: a fault of the first pass is one of the file.
     first_faults_decide();
-    if file.len() > FILE_LIMIT {
+    if file.len() > INPUT_LIMIT {
         return Err(Ending::Refused(Fault {
             kind: Kind::Limit,
             place: 0,

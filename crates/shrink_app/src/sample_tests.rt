@@ -132,7 +132,7 @@ fn view_pairs_that_are_refused(rt: HostRuntime) -> Result<(), Fail> {
 // The DW_AT_language of the root, 29, has one byte in place of 2, and the DW_AT_high_pc of the function, 16, and DW_AT_type (twice) have one
 // in place of 4. So the unit is 10 bytes shorter (0x3f for 0x49), and the base type stands at 0x3e, where DW_AT_type names it. All else
 // is as before: the one contribution of each kind of lists begins where it did.
-const LEAST_CLANG_INFO_WITH_LISTS: [u8; 67] = [
+pub const LEAST_CLANG_INFO_WITH_LISTS: [u8; 67] = [
     0x3f, 0, 0, 0, 5, 0, 1, 8, 0, 0, 0, 0, // the header
     1, 0, 0x1d, 1, 8, 0, 0, 0, 0, 0, 0, 0, 2, 0, 0, 0, 0, 0, 0, 0, 0, 0, // the root at 0x0c, up to DW_AT_ranges
     8, 0, 0, 0, 0x0c, 0, 0, 0, 0x0c, 0, 0, 0, // its bases
@@ -143,7 +143,7 @@ const LEAST_CLANG_INFO_WITH_LISTS: [u8; 67] = [
 
 // DW_AT_language (0x13) is data1 (0x0b) in place of data2 (5), DW_AT_high_pc (0x12) in place of data4 (6), and the two DW_AT_type (0x49) are
 // ref_udata (0x15) in place of ref4 (0x13).
-const LEAST_CLANG_ABBREVS_WITH_LISTS: [u8; 76] = [
+pub const LEAST_CLANG_ABBREVS_WITH_LISTS: [u8; 76] = [
     1, 0x11, 1, 0x25, 0x25, 0x13, 0x0b, 3, 0x25, 0x72, 0x17, 0x10, 0x17, 0x1b, 0x25, 0x11, 1, 0x55,
     0x23, 0x73, 0x17, 0x74, 0x17, 0x8c, 1, 0x17, 0, 0, 2, 0x2e, 1, 0x11, 0x1b, 0x12, 0x0b, 0x40,
     0x18, 3, 0x25, 0x3a, 0x0b, 0x3b, 0x0b, 0x49, 0x15, 0x3f, 0x19, 0, 0, 3, 5, 0, 2, 0x22, 3, 0x25,
@@ -152,7 +152,7 @@ const LEAST_CLANG_ABBREVS_WITH_LISTS: [u8; 76] = [
 
 // A list with as many bytes: of the entries of 3 bytes for the first location, up to 4 from the base, DW_LLE_startx_length has the
 // lower code.
-const LEAST_CLANG_LOCATIONS: [u8; 32] = [
+pub const LEAST_CLANG_LOCATIONS: [u8; 32] = [
     0x1c, 0, 0, 0, 5, 0, 8, 0, 1, 0, 0, 0, 4, 0, 0, 0, 1, 0, 3, 0, 4, 1, 0x55, 4, 4, 0x10, 4, 0xa3,
     1, 0x55, 0x9f, 0,
 ];

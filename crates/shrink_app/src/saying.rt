@@ -1,7 +1,7 @@
 // What the program says.
 ghost use Rattle.std.specs.Prelude.{◌≡◌, ◌⊎◌, ◌++◌, ℕ, List, IfOk, option_map, string_bytes};
 ghost use Rattle.dw_base.specs.Host.{AddsPart};
-ghost use Rattle.shrink_app.specs.Said.{refusal_text};
+ghost use Rattle.shrink_app.specs.Said.{refusal_text, input_refusal_text, output_refusal_text};
 ghost use Rattle.shrink_app.specs.inside.Said.{SaysOrStops, EndsFor};
 
 use crate::ending::Ending;
@@ -10,7 +10,7 @@ use std::alloc::{AllocError, Global};
 
 /// Says a text, and gives the status, or that of a failed message.
 pub fn say<H: Host>(host: &mut H, text: &[u8], status: u8) -> u8
-    requires { (status ≡ 0) ⊎ ((status ≡ 2) ⊎ (status ≡ 3)) }
+    requires { (status ≡ 0) ⊎ ((status ≡ 2) ⊎ ((status ≡ 3) ⊎ (status ≡ 7))) }
     ensures said { result ≡ status → H.said host.new ≡ option_map (λ b. b ++ text.now) (H.said host.old) }
     ensures part { (result ≡ 5) ⊎ (result ≡ 6) → AddsPart (H.said host.old) text.now (H.said host.new) }
     ensures answer { SaysOrStops status (H.say_faults host.old) (H.say_faults host.new) result }
@@ -32,6 +32,24 @@ pub fn text_of(alloc: Global, fault: Fault) -> Result<String, AllocError>
     let kind = fault.kind.name();
     let place = fault.place;
     format!(in alloc; "refused {kind} at {place}\n")
+}
+
+/// The line that names a fault of the first file of a check.
+pub fn input_refusal(alloc: Global, fault: Fault) -> Result<String, AllocError>
+    ensures { IfOk result (λ text. string_bytes text ≡ input_refusal_text fault.kind fault.place) }
+{
+    let kind = fault.kind.name();
+    let place = fault.place;
+    format!(in alloc; "refused in {kind} at {place}\n")
+}
+
+/// The line that names a fault of the second file of a check.
+pub fn output_refusal(alloc: Global, fault: Fault) -> Result<String, AllocError>
+    ensures { IfOk result (λ text. string_bytes text ≡ output_refusal_text fault.kind fault.place) }
+{
+    let kind = fault.kind.name();
+    let place = fault.place;
+    format!(in alloc; "refused out {kind} at {place}\n")
 }
 
 /// Gives the status where the work ended early, after the line that names a fault, where one was the reason.

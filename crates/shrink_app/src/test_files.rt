@@ -92,8 +92,8 @@ pub struct Answer {
     pub certificate: Vec<u8>,
 }
 
-// A file with a name.
-fn named(alloc: Global, name: &str, bytes: Vec<u8>) -> Result<NamedFile, AllocError> {
+/// A file with a name.
+pub fn named(alloc: Global, name: &str, bytes: Vec<u8>) -> Result<NamedFile, AllocError> {
     let name = String::from_str(alloc, name)?;
     Ok(NamedFile { name, bytes })
 }

@@ -8,13 +8,13 @@ use Rattle.shrink_app.specs.declared.ending.Ending.{Ending}
 use Rattle.shrink_app.specs.declared.ending.Ending.TheVariants.{Refused, ReadFault, WriteFault, NoMemory}
 use Rattle.shrink_app.specs.Run.{input_limit}
 
--- A read fault comes where the count rose, and else the count stays. No other end but want of memory comes.
-abbrev pub OnlyReadFault : {T : Type 0} → ℕ → ℕ → Result T Ending → Type 0
-OnlyReadFault before now (Ok x) = now ≡ before
-OnlyReadFault before now (Err (Refused fault)) = ⊥
-OnlyReadFault before now (Err ReadFault) = Rose before now
-OnlyReadFault before now (Err WriteFault) = ⊥
-OnlyReadFault before now (Err NoMemory) = now ≡ before
+-- A read fault comes for this cause, and else no count of reads rises. No other end but want of memory comes.
+abbrev pub OnlyReadFault : {T : Type 0} → Type 0 → (List ℕ → ℕ) → (List ℕ → ℕ) → Result T Ending → Type 0
+OnlyReadFault cause before now (Ok x) = (f : List ℕ) → now f ≡ before f
+OnlyReadFault cause before now (Err (Refused fault)) = ⊥
+OnlyReadFault cause before now (Err ReadFault) = cause
+OnlyReadFault cause before now (Err WriteFault) = ⊥
+OnlyReadFault cause before now (Err NoMemory) = (f : List ℕ) → now f ≡ before f
 
 -- A write fault comes for this cause, and else no count of writes rises. No other end but want of memory comes.
 abbrev pub OnlyWriteFault : {T : Type 0} → Type 0 → (List ℕ → ℕ) → (List ℕ → ℕ) → Result T Ending → Type 0

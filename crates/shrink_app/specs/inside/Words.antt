@@ -4,16 +4,18 @@ use Rattle.std.specs.Prelude.{◌≢◌, ◌≤◌}
 use Rattle.shrink_app.specs.declared.words.Command.{Command as Kept}
 use Rattle.shrink_app.specs.declared.words.Command.TheVariants as kept
 use Rattle.shrink_app.specs.Words.{Command}
-use Rattle.shrink_app.specs.Words.Command.{Shrink, Stat, Make}
+use Rattle.shrink_app.specs.Words.Command.{Shrink, Check, Stat, Make}
 
 -- the command that is kept
 abbrev pub meant : Kept → Command
 meant (kept.Shrink n) = Shrink (record { input = n.input.now; output = n.output.now; certificate = n.certificate.now })
+meant (kept.Check n) = Check (record { input = n.input.now; output = n.output.now; certificate = n.certificate.now })
 meant (kept.Stat input) = Stat input.now
 meant (kept.Make d) = Make (record { number = d.number; units = d.units; output = d.output.now })
 
 -- the output and the certificate have different names, and the units aren't too many
 abbrev pub CanBeDone : Kept → Type 0
 CanBeDone (kept.Shrink n) = n.output.now ≢ n.certificate.now
+CanBeDone (kept.Check n) = Unit {0}
 CanBeDone (kept.Stat input) = Unit {0}
 CanBeDone (kept.Make d) = d.units ≤ 4096

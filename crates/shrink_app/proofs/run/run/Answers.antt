@@ -1,4 +1,4 @@
-use Rattle.std.proofs.Common.{◌≡◌, ◌⊎◌, ◌∙◌, ℕ, List, IsSomeAnd, inl, inr, arith, String, Global}
+use Rattle.std.proofs.Common.{◌≡◌, ◌⊎◌, ◌∙◌, ◌<◌, ℕ, List, IsSomeAnd, inl, inr, subst, arith, String, Global}
 use Rattle.dw_base.specs.Host.{Rose}
 use Rattle.value_links.specs.Same.{Same}
 use Rattle.value_links.specs.Placed.{IsPlaced}
@@ -9,7 +9,7 @@ use Rattle.shrink_app.specs.File.{StaysValid, HasLeastLines, HasOrderedLines, Is
 use Rattle.shrink_app.specs.Run.{Writes}
 use Rattle.shrink_app.specs.Words.{OfShrink, asked}
 use Rattle.shrink_app.specs.inside.Said.{EndsFor}
-use Rattle.shrink_app.proofs.Ends.{asked_is, not_said, said_well, ends_from, ends_refused, ends_long, ends_stopped, ends_unwritten, ends_risen, no_write_fault, ends_complete, whole_still}
+use Rattle.shrink_app.proofs.Ends.{asked_is, not_said, not_rejected, said_well, ends_from, ends_refused, ends_long, ends_stopped, ends_unwritten, ends_risen, no_write_fault, ends_complete, whole_still}
 use Rattle.shrink_app.proofs.Shrinks.{writes_part}
 use Rattle.shrink_app.proofs.run.run.Given.{Over}
 use Rattle.shrink_app.proofs.run.run.Goals as goal
@@ -149,6 +149,29 @@ returns-in-Err-clause-complete g c =
     let calm : ¬ before = (λ rose. elim rose [ inl r ↦ well.0 r | inr r ↦ well.1 r ]) in
     ends_complete (Unit {0}) (host.bytes c.args.host.now input) c.in-Err.ending (host.said c.args.host.now) (host.said c.end.new.host) (host.say_faults c.args.host.now) (host.say_faults c.end.new.host) c.end.result (host.read_faults c.args.host.now input) (host.read_faults c.shrink.new.host input) c.in-Err.ensures.refused c.in-Err.ensures.reads (no_write_fault (Unit {0}) c.in-Err.ending before (faults c.args.host.now) (faults c.shrink.new.host) c.in-Err.ensures.writes calm) (shrink_ends g c) read.0 read.1 read.2 still)
 
+-- FILES WERE CHECKED
+
+pub returns-in-Check-clause-accepted : goal.returns-in-Check-clause-accepted
+returns-in-Check-clause-accepted g c = λ zero. rw (asked_is _ _ _ c.in-Some.ensures.asked c.in-Check.is) (c.check.ensures.ends.accepted zero)
+
+pub returns-in-Check-clause-accepted_least : goal.returns-in-Check-clause-accepted_least
+returns-in-Check-clause-accepted_least g c = λ zero. rw (asked_is _ _ _ c.in-Some.ensures.asked c.in-Check.is) (c.check.ensures.ends.least zero)
+
+pub returns-in-Check-clause-complete : goal.returns-in-Check-clause-complete
+returns-in-Check-clause-complete g c =
+    let ends = c.check.ensures.ends in
+    rw (asked_is _ _ _ c.in-Some.ensures.asked c.in-Check.is) ends.complete
+
+pub returns-in-Check-clause-refuses : goal.returns-in-Check-clause-refuses
+returns-in-Check-clause-refuses g c =
+    let ends = c.check.ensures.ends in
+    rw (asked_is _ _ _ c.in-Some.ensures.asked c.in-Check.is) ends.refuses
+
+pub returns-in-Check-clause-rejects : goal.returns-in-Check-clause-rejects
+returns-in-Check-clause-rejects g c =
+    let ends = c.check.ensures.ends in
+    rw (asked_is _ _ _ c.in-Some.ensures.asked c.in-Check.is) ends.rejects
+
 -- A LINE WAS TO BE SAID
 
 pub returns-in-Ok-summarise-clause-words : goal.returns-in-Ok-summarise-clause-words
@@ -169,7 +192,7 @@ returns-in-Ok-summarise-clause-read_fault g c = λ four. absurd (not_said _ _ _ 
 pub returns-in-Ok-summarise-clause-read_rose : goal.returns-in-Ok-summarise-clause-read_rose
 returns-in-Ok-summarise-clause-read_rose g c =
     let still : g.H.Host.read_faults c.say-in-Ok-summarise.new.host c.in-Stat.input.now ≡ g.H.Host.read_faults c.args.host.now c.in-Stat.input.now = c.say-in-Ok-summarise.ensures.reads c.in-Stat.input.now ∙ c.in-Ok-summarise.ensures.reads in
-    rw (asked_is _ _ _ c.in-Some.ensures.asked c.in-Stat.is) (λ rose. absurd (omega (arith, still, rose)))
+    rw (asked_is _ _ _ c.in-Some.ensures.asked c.in-Stat.is) (λ f is rose. absurd (omega (arith, still, subst (λ (z : List ℕ). g.H.Host.read_faults c.args.host.now z < g.H.Host.read_faults c.say-in-Ok-summarise.new.host z) is rose)))
 
 pub returns-in-Ok-summarise-clause-write_fault : goal.returns-in-Ok-summarise-clause-write_fault
 returns-in-Ok-summarise-clause-write_fault g c = λ five.
@@ -206,6 +229,9 @@ returns-in-Ok-summarise-clause-stat_unwritten g c =
 pub returns-in-Ok-summarise-clause-done : goal.returns-in-Ok-summarise-clause-done
 returns-in-Ok-summarise-clause-done g c = λ zero. rw (asked_is _ _ _ c.in-Some.ensures.asked c.in-Stat.is) c.in-Ok-summarise.ensures.valid
 
+pub returns-in-Ok-summarise-clause-rejected : goal.returns-in-Ok-summarise-clause-rejected
+returns-in-Ok-summarise-clause-rejected g c = λ seven. absurd (not_rejected _ _ _ c.say-in-Ok-summarise.ensures.answer seven)
+
 pub returns-in-Ok-summarise-clause-summed : goal.returns-in-Ok-summarise-clause-summed
 returns-in-Ok-summarise-clause-summed g c = λ zero.
     let (file, read, line) = c.in-Ok-summarise.ensures.line in
@@ -231,7 +257,7 @@ returns-in-Ok-summarise-clause-complete g c =
 pub returns-in-Ok-summarise-clause-refuses : goal.returns-in-Ok-summarise-clause-refuses
 returns-in-Ok-summarise-clause-refuses g c =
     let valid = c.in-Ok-summarise.ensures.valid in
-    rw (asked_is _ _ _ c.in-Some.ensures.asked c.in-Stat.is) (λ file told faulty still. absurd (faulty (valid file told)))
+    rw (asked_is _ _ _ c.in-Some.ensures.asked c.in-Stat.is) (λ fault still. absurd (fault.2 (valid fault.0 fault.1)))
 
 -- THERE WAS NONE
 
