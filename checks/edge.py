@@ -33,6 +33,7 @@ from record_files import LINES, MAGIC, PAIRS, records
 SECONDS = 60
 LIMIT = 1 << 30
 SHRINK = ["shrink", "in", "out", "cert"]
+CHECK = ["check", "in", "out", "cert"]
 test = Tests()
 
 
@@ -157,6 +158,10 @@ def wrong_words(place):
         ["shrink", "in", "out", "cert", "more"],
         ["grow", "in", "out", "cert"],
         ["", "in", "out", "cert"],
+        ["check"],
+        ["check", "in", "out"],
+        ["check", "in", "in", "cert"],
+        ["check", "in", "there", "there"],
         ["stat"],
         ["stat", "in", "out"],
         ["stat", b"in\xff"],
@@ -206,6 +211,44 @@ def summaries(place):
             place.keeps(["stat", "in"], 5, stdout=full)
 
 
+@test
+def checked_files(place):
+    """check accepts what is to be written, with its certificate, and else says the first reason why not, and no file differs"""
+    count = 3
+    source, written = pair_of_units(count)
+    units = [unit_in(number) for number in range(count)]
+    renamed = file_of_units([units[0], units[1].replace(b"v1\0", b"w1\0"), units[2]], TABLE_IN)
+    abbrev = 64 + sum(map(len, units))
+    certificate = MAGIC + no_ranks(count)
+    for files, status, said in (
+        ((source, written, certificate), 0, b"accepted"),
+        # Its own output: DW_AT_type of the second declaration isn't DW_FORM_ref_udata.
+        ((source, source, certificate), 7, b"rejected class %d" % (abbrev + 5)),
+        ((source, written + b"\0", certificate), 7, b"rejected class %d" % len(written)),
+        ((renamed, written, certificate), 7, b"rejected differs 1 1"),
+        ((elf_file([]), written, certificate), 7, b"rejected kept "),
+        ((source, written, b""), 7, b"rejected record 0"),
+        ((source, written, certificate[:-1]), 7, b"rejected record 12"),
+        ((source, written, certificate[:-2]), 7, b"rejected record 12"),
+        ((source, written, certificate + no_ranks(1)), 7, b"rejected record 14"),
+        ((source, written, MAGIC + b"\2\0" + no_ranks(2)), 7, b"rejected record 8"),
+        # A rank too many is a fault of the unit's last slot.
+        ((source, written, MAGIC + b"\3\1\0" + no_ranks(2)), 7, b"rejected slot 0 0"),
+        ((b"", written, certificate), 3, b"refused in NotElf64 at 0"),
+        ((source, b"", certificate), 3, b"refused out NotElf64 at 0"),
+    ):
+        for name, body in zip(CHECK[1:], files):
+            place.write(name, body)
+        place.keeps(CHECK, status, said + b"\n")
+    for name in CHECK[1:]:
+        os.remove(place.path(name))
+        place.keeps(CHECK, 4)
+        place.write(name, b"")
+    if os.path.exists("/dev/full"):
+        with open("/dev/full", "wb") as full:
+            place.keeps(CHECK, 5, stdout=full)
+
+
 def section_sizes(file):
     """How many bytes the sections of a file have, by their names."""
     (headers_at,), (count, names) = struct.unpack_from("<Q", file, 40), struct.unpack_from("<HH", file, 60)
@@ -216,12 +259,13 @@ def section_sizes(file):
 
 @test
 def drawn_files(place):
-    """make writes the file that is drawn from its number, byte for byte, with up to 4,096 units, and stat and shrink take it"""
+    """make writes the file that is drawn from its number, byte for byte, with up to 4,096 units, and stat, shrink and check take it"""
     for number, units in ((0, 1), (7, 2), (4294967295, 3), (1, 4096)):
         words = ["make", str(number), str(units), "drawn"]
         place.leaves(words, 0, b"", {**place.files(), "drawn": drawn_file(number, units)})
     run = subprocess.run([place.program, "stat", "drawn"], cwd=place.folder, capture_output=True, timeout=SECONDS)
     place.answers(["shrink", "drawn", "out", "cert"], 0, b"")
+    place.keeps(["check", "drawn", "out", "cert"], 0, b"accepted\n")
     old, new = (section_sizes(place.read(name)) for name in ("drawn", "out"))
     said = json.loads(run.stdout)
     wanted = {key: [old[name], new[name]] for key in ("abbrev", "info", "line", "loclists", "rnglists") for name in [b".debug_" + key.encode()]}
