@@ -99,11 +99,11 @@ fn certificate_with(alloc: Global, at: usize, byte: u8) -> Result<Vec<u8>, Alloc
 }
 
 // A file in the manner of clang with these bytes of units, tables and location lists.
-fn clang_file(
+fn clang_file<'a>(
     alloc: Global,
-    info: &[u8],
-    abbrevs: &[u8],
-    locations: &[u8],
+    info: &'a [u8],
+    abbrevs: &'a [u8],
+    locations: &'a [u8],
 ) -> Result<Vec<u8>, AllocError> {
     let sections: [(&str, &[u8]); 6] = [
         (".debug_info", info),
