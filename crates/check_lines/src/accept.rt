@@ -11,7 +11,7 @@ use crate::places::first_refused;
 use crate::spread::spread;
 use dw_base::{NoMemory, Run};
 use line_machine::{Head, Row};
-use line_sums::{BASES, BaseSums, CountedStep, count_steps, fixed_size, row_total};
+use line_sums::{BASES, BaseSums, CountedStep, Ways, count_steps, fixed_size, row_total};
 use std::alloc::Global;
 
 // The most rows: their bytes are counted in 64 bits.
@@ -20,11 +20,13 @@ const MOST_ROWS: usize = u32::MAX as usize;
 // The first pair whose number isn't accepted against so many bytes. `numbers` has the number of each pair.
 fn first_pair(
     sums: &mut BaseSums,
+    ways: &mut Ways,
     min: u8,
     counted: &[CountedStep],
     numbers: &[u32],
     bytes: u64,
 ) -> Option<u32>
+    requires ways { ways.old ≡ min }
     requires scale { 0 < min }
     requires lines { All HasCountedLine counted.now }
     requires few { count_of counted.now < 2 ^ 32 }
@@ -35,7 +37,7 @@ fn first_pair(
     for below in 0..u8::MAX {
         let from = BASES * below as usize;
         let own = &numbers[from..from + BASES];
-        let place = first_refused(sums, below + 1, min, counted, rest, own, bytes);
+        let place = first_refused(sums, ways, below + 1, min, counted, rest, own, bytes);
         if place < BASES {
             return Some((from + place) as u32);
         }
@@ -76,5 +78,6 @@ pub fn accept_program(
     let numbers = spread(alloc, runs)?;
     let bytes = head.program.len.saturating_sub(fixed_size(head.stmt, rows));
     let mut sums = BaseSums::new(alloc)?;
-    Ok(first_pair(&mut sums, head.min, &counted, &numbers, bytes))
+    let mut ways = Ways::new(alloc, head.min)?;
+    Ok(first_pair(&mut sums, &mut ways, head.min, &counted, &numbers, bytes))
 }

@@ -4,7 +4,7 @@ ghost use Rattle.line_sums.specs.Counting.{HasCountedLine, count_of, counted_pri
 ghost use Rattle.line_sums.specs.Sums.{AreSummed};
 ghost use Rattle.check_lines.specs.inside.Looking.{IsFirstPlace, IsNextNumber, numbers_above};
 
-use line_sums::{BASES, BaseSums, CountedStep, add_next};
+use line_sums::{BASES, BaseSums, CountedStep, Ways, add_next};
 
 // The first place whose number is above the count of different steps, or 256.
 fn first_above(numbers: &[u32], count: usize) -> usize
@@ -34,6 +34,7 @@ fn next_number(numbers: &[u32], index: usize) -> Option<usize>
 // that append the rows of those that are left.
 fn add_until(
     sums: &mut BaseSums,
+    ways: &mut Ways,
     range: u8,
     min: u8,
     counted: &[CountedStep],
@@ -41,6 +42,7 @@ fn add_until(
     to: usize,
     rest: u64,
 ) -> u64
+    requires ways { ways.old ≡ min }
     requires range { 0 < range }
     requires scale { 0 < min }
     requires lines { All HasCountedLine counted.now }
@@ -48,11 +50,12 @@ fn add_until(
     requires order { from ≤ to }
     requires inside { to ≤ length counted.now }
     requires summed { AreSummed range min row_bytes counted.now from sums.old rest }
-    ensures { AreSummed range min row_bytes counted.now to sums.new result }
+    ensures ways { ways.new ≡ ways.old }
+    ensures summed { AreSummed range min row_bytes counted.now to sums.new result }
 {
     let mut rest = rest;
     for index in from..to {
-        rest = add_next(sums, range, min, counted, index, rest);
+        rest = add_next(sums, ways, range, min, counted, index, rest);
     }
     rest
 }
@@ -80,6 +83,7 @@ fn first_short(sums: &BaseSums, numbers: &[u32], index: usize, missing: u64) -> 
 /// that isn't needed for one of them.
 pub fn first_refused(
     sums: &mut BaseSums,
+    ways: &mut Ways,
     range: u8,
     min: u8,
     counted: &[CountedStep],
@@ -87,13 +91,15 @@ pub fn first_refused(
     numbers: &[u32],
     bytes: u64,
 ) -> usize
+    requires ways { ways.old ≡ min }
     requires range { 0 < range }
     requires scale { 0 < min }
     requires lines { All HasCountedLine counted.now }
     requires few { count_of counted.now < 2 ^ 32 }
     requires rest { rest ≡ counted_price row_bytes counted.now }
     requires numbers { length numbers.now ≡ 256 }
-    ensures { IsFirstPlace range min bytes counted.now numbers.now result }
+    ensures ways { ways.new ≡ ways.old }
+    ensures first { IsFirstPlace range min bytes counted.now numbers.now result }
 {
     sums.clear();
     let mut rest = rest;
@@ -104,7 +110,7 @@ pub fn first_refused(
         let Some(next) = next_number(&numbers[..failed], index) else {
             return failed;
         };
-        rest = add_until(sums, range, min, counted, index, next, rest);
+        rest = add_until(sums, ways, range, min, counted, index, next, rest);
         index = next;
     }
 }

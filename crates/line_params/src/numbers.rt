@@ -5,7 +5,7 @@ ghost use Rattle.line_sums.specs.Counting.{HasCountedLine, count_of};
 ghost use Rattle.line_sums.specs.Sums.{base_at};
 ghost use Rattle.line_params.specs.inside.Numbers.{IsRound, GivesOnce};
 
-use line_sums::{BASES, BaseSums, CountedStep, add_next, row_total};
+use line_sums::{BASES, BaseSums, CountedStep, Ways, add_next, row_total};
 
 // The number of a line_base: the index where it has that of all steps and its total is large enough.
 fn number_at(number: u32, all: u32, index: u32, total: u64, bytes: u64) -> u32
@@ -48,6 +48,7 @@ fn is_round(index: u32) -> bool
 /// the powers of two below the count of steps, and that count, with which each is accepted.
 pub fn least_numbers(
     sums: &mut BaseSums,
+    ways: &mut Ways,
     totals: &mut [u64],
     numbers: &mut [u32],
     range: u8,
@@ -55,6 +56,7 @@ pub fn least_numbers(
     counted: &[CountedStep],
     bytes: u64,
 )
+    requires ways { ways.old ≡ min }
     requires range { 0 < range }
     requires scale { 0 < min }
     requires lines { All HasCountedLine counted.now }
@@ -63,6 +65,7 @@ pub fn least_numbers(
     requires totals { length totals.old ≡ 256 }
     requires numbers { length numbers.old ≡ 256 }
     requires full { (place : ℕ) → place < 256 → IsAccepted (base_at place) range min 0 bytes counted.now (length counted.now) }
+    ensures ways { ways.new ≡ ways.old }
     ensures totals { length totals.new ≡ 256 }
     ensures size { length numbers.new ≡ 256 }
     ensures least { (place : ℕ) → place < 256 → IsLeastNumber (base_at place) range min 0 bytes counted.now (slice_index numbers.new place) }
@@ -78,6 +81,6 @@ pub fn least_numbers(
                 return;
             }
         }
-        rest = add_next(sums, range, min, counted, index, rest);
+        rest = add_next(sums, ways, range, min, counted, index, rest);
     }
 }

@@ -7,7 +7,7 @@ ghost use Rattle.line_params.specs.Pairs.{IsLeastPair};
 use crate::search::best_choice;
 use dw_base::NoMemory;
 use line_machine::{Head, Row};
-use line_sums::{BaseSums, count_steps};
+use line_sums::{BaseSums, Ways, count_steps};
 use std::alloc::Global;
 
 /// The most rows: their bytes are counted in 64 bits.
@@ -40,5 +40,6 @@ pub fn least_pair(alloc: Global, head: &Head, rows: &[Row]) -> Result<Pair, NoMe
     }
     let counted = count_steps(alloc, rows)?;
     let mut sums = BaseSums::new(alloc)?;
-    Ok(best_choice(head, &counted, &mut sums).pair)
+    let mut ways = Ways::new(alloc, head.min)?;
+    Ok(best_choice(head, &counted, &mut sums, &mut ways).pair)
 }

@@ -9,7 +9,7 @@ use crate::numbers::least_numbers;
 use crate::pair::MOST_ROWS;
 use dw_base::{NoMemory, Run};
 use line_machine::{Head, Row};
-use line_sums::{BASES, BaseSums, count_steps, fixed_size};
+use line_sums::{BASES, BaseSums, Ways, count_steps, fixed_size};
 use std::alloc::Global;
 
 // One pair more: the last run has it, where it has that number, or a new run.
@@ -74,12 +74,14 @@ pub fn pair_runs(alloc: Global, head: &Head, rows: &[Row], bytes: u64) -> Result
     let counted = count_steps(alloc, rows)?;
     let step_bytes = bytes.saturating_sub(fixed_size(head.stmt, rows));
     let mut sums = BaseSums::new(alloc)?;
+    let mut ways = Ways::new(alloc, head.min)?;
     let mut totals = zeros(alloc, BASES)?;
     let mut numbers = no_numbers(alloc, BASES)?;
     let mut runs = Vec::new(alloc);
     for below in 0..u8::MAX {
         least_numbers(
             &mut sums,
+            &mut ways,
             &mut totals,
             &mut numbers,
             below + 1,

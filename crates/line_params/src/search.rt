@@ -10,7 +10,7 @@ use crate::choice::Choice;
 use crate::pair::Pair;
 use line_machine::Head;
 use line_step::{advance, step};
-use line_sums::{BaseSums, CountedStep, Floors, Step, add_step};
+use line_sums::{BaseSums, CountedStep, Floors, Step, Ways, add_step};
 
 // The bytes of a step.
 fn step_bytes(base: i8, range: u8, min: u8, taken: Step) -> u32
@@ -44,11 +44,20 @@ fn bytes_of(base: i8, range: u8, min: u8, counted: &[CountedStep]) -> u64
 
 // Sums up what counted steps cost under each line_base. False: it left off, since under none they take fewer than so many
 // bytes.
-fn fill_sums(sums: &mut BaseSums, range: u8, min: u8, counted: &[CountedStep], bytes: u64) -> bool
+fn fill_sums(
+    sums: &mut BaseSums,
+    ways: &mut Ways,
+    range: u8,
+    min: u8,
+    counted: &[CountedStep],
+    bytes: u64,
+) -> bool
+    requires ways { ways.old ≡ min }
     requires range { 0 < range }
     requires scale { 0 < min }
     requires lines { All HasCountedLine counted.now }
     requires few { count_of counted.now < 2 ^ 32 }
+    ensures ways { ways.new ≡ ways.old }
     ensures whole { IsTrue result → AreSums range min counted.now sums.new }
     ensures left { result ≡ false → (place n : ℕ) → place < 256 → CountedWithin (base_at place) range min counted.now n → bytes ≤ n }
 {
@@ -59,7 +68,7 @@ fn fill_sums(sums: &mut BaseSums, range: u8, min: u8, counted: &[CountedStep], b
         return false;
     }
     for (index, counted_step) in counted.iter().enumerate() {
-        add_step(sums, range, min, *counted_step);
+        add_step(sums, ways, range, min, *counted_step);
         rest -= floors.bytes(*counted_step);
         if (index + 1).is_power_of_two() && sums.are_past(rest, bytes) {
             return false;
@@ -75,15 +84,18 @@ fn better_of_range(
     head: &Head,
     counted: &[CountedStep],
     sums: &mut BaseSums,
+    ways: &mut Ways,
 ) -> Choice
+    requires ways { ways.old ≡ head.now.min }
     requires range { 0 < range }
     requires scale { 0 < head.now.min }
     requires lines { All HasCountedLine counted.now }
     requires few { count_of counted.now < 2 ^ 32 }
     requires best { IsBestTried head.now counted.now range best }
-    ensures { IsBestTried head.now counted.now (range + 1) result }
+    ensures ways { ways.new ≡ ways.old }
+    ensures best { IsBestTried head.now counted.now (range + 1) result }
 {
-    if !fill_sums(sums, range, head.min, counted, best.bytes) {
+    if !fill_sums(sums, ways, range, head.min, counted, best.bytes) {
         return best;
     }
     let (place, bytes) = sums.first_least();
@@ -101,7 +113,13 @@ fn better_of_range(
 }
 
 /// The best of all pairs.
-pub fn best_choice(head: &Head, counted: &[CountedStep], sums: &mut BaseSums) -> Choice
+pub fn best_choice(
+    head: &Head,
+    counted: &[CountedStep],
+    sums: &mut BaseSums,
+    ways: &mut Ways,
+) -> Choice
+    requires ways { ways.old ≡ head.now.min }
     requires range { 0 < head.now.range }
     requires scale { 0 < head.now.min }
     requires lines { All HasCountedLine counted.now }
@@ -117,7 +135,7 @@ pub fn best_choice(head: &Head, counted: &[CountedStep], sums: &mut BaseSums) ->
         bytes: bytes_of(own.base, own.range, head.min, counted),
     };
     for below in 0..u8::MAX {
-        best = better_of_range(best, below + 1, head, counted, sums);
+        best = better_of_range(best, below + 1, head, counted, sums, ways);
     }
     best
 }

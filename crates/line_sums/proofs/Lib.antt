@@ -4,6 +4,7 @@ pub mod Counted
 pub mod Farthest
 pub mod Firsts
 pub mod FixedBytes
+pub mod Keeping
 pub mod Lengths
 pub mod LineRuns
 pub mod Nearness

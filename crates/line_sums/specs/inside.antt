@@ -1,3 +1,4 @@
 -- What inner functions and proofs need, and no public clause says.
 pub mod RunningSums
+pub mod Ways
 pub mod Windows

@@ -9,6 +9,7 @@ use crate::count::CountedStep;
 use crate::line_run::line_bytes;
 use crate::step::Step;
 use crate::sums::add_step;
+use crate::ways::Ways;
 use crate::window::{LAST_SPECIAL, bytes_beyond};
 
 // The lowest line_base.
@@ -118,21 +119,24 @@ pub fn row_total(counted: &[CountedStep]) -> u64
 /// the rows of those that are left.
 pub fn add_next(
     sums: &mut BaseSums,
+    ways: &mut Ways,
     range: u8,
     min: u8,
     counted: &[CountedStep],
     index: usize,
     rest: u64,
 ) -> u64
+    requires ways { ways.old ≡ min }
     requires range { 0 < range }
     requires scale { 0 < min }
     requires lines { All HasCountedLine counted.now }
     requires few { count_of counted.now < 2 ^ 32 }
     requires inside { index < length counted.now }
     requires summed { AreSummed range min row_bytes_of counted.now index sums.old rest }
-    ensures { AreSummed range min row_bytes_of counted.now (index + 1) sums.new result }
+    ensures ways { ways.new ≡ ways.old }
+    ensures summed { AreSummed range min row_bytes_of counted.now (index + 1) sums.new result }
 {
     let next = counted[index];
-    add_step(sums, range, min, next);
+    add_step(sums, ways, range, min, next);
     rest - row_bytes(next)
 }

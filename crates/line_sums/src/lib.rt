@@ -11,6 +11,7 @@ mod floors;
 mod line_run;
 mod step;
 mod sums;
+mod ways;
 mod window;
 
 pub use base_sums::{BASES, BaseSums};
@@ -19,6 +20,7 @@ pub use fixed::fixed_size;
 pub use floors::{Floors, add_next, row_total};
 pub use step::Step;
 pub use sums::add_step;
+pub use ways::Ways;
 
 /// A law: no program that gives rows under a pair is shorter than what the rows cost under that pair.
 pub fn no_shorter()

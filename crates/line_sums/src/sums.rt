@@ -9,8 +9,8 @@ use crate::base_sums::{BASES, BaseSums};
 use crate::count::CountedStep;
 use crate::line_run::{line_bytes, line_run};
 use crate::step::Step;
-use crate::window::{Windows, windows_for};
-use line_step::advance;
+use crate::ways::Ways;
+use crate::window::Windows;
 
 // How many bytes a step takes whose line distance less line_base is known, and down to which such distance all take as many.
 #[derive(Clone, Copy, Debug)]
@@ -58,20 +58,20 @@ fn places_down_to(top: i64, low: i64) -> usize
 }
 
 // Adds what a row's step costs under each line_base, times its count.
-fn add_row(sums: &mut BaseSums, range: u8, min: u8, line: i64, distance: u64, count: u32)
+fn add_row(sums: &mut BaseSums, ways: &mut Ways, range: u8, line: i64, distance: u64, count: u32)
     requires range { 0 < range }
-    requires scale { 0 < min }
     requires low { neg_ℤ (pos (2 ^ 32)) ≤ℤ line }
     requires high { line ≤ℤ pos (2 ^ 32) }
     requires room { (place : ℕ) → place < 256 → slice_index sums.old place < 2 ^ 63 }
-    ensures { (place : ℕ) → place < 256 → AddsCost (base_at place) range min (record { step = RowStep line distance; count = count }) (slice_index sums.old place) (slice_index sums.new place) }
+    ensures ways { ways.new ≡ ways.old }
+    ensures added { (place : ℕ) → place < 256 → AddsCost (base_at place) range ways.old (record { step = RowStep line distance; count = count }) (slice_index sums.old place) (slice_index sums.new place) }
 {
-    let windows = windows_for(range, min, distance);
-    let copy = 1 + line_bytes(line) + advance(range, min, distance);
+    let way = ways.of(range, distance);
+    let copy = 1 + line_bytes(line) + way.advance;
     let top = line + 128;
     let mut from = 0;
     while from < BASES {
-        let run = step_run(top - from as i64, copy, &windows);
+        let run = step_run(top - from as i64, copy, &way.windows);
         let to = places_down_to(top, run.low);
         sums.add_between(from, to, u64::from(count) * u64::from(run.bytes));
         from = to;
@@ -79,17 +79,19 @@ fn add_row(sums: &mut BaseSums, range: u8, min: u8, line: i64, distance: u64, co
 }
 
 /// Adds what a step costs under each line_base, times its count.
-pub fn add_step(sums: &mut BaseSums, range: u8, min: u8, counted: CountedStep)
+pub fn add_step(sums: &mut BaseSums, ways: &mut Ways, range: u8, min: u8, counted: CountedStep)
+    requires ways { ways.old ≡ min }
     requires range { 0 < range }
     requires scale { 0 < min }
     requires line { HasCountedLine counted }
     requires room { (place : ℕ) → place < 256 → slice_index sums.old place < 2 ^ 63 }
-    ensures { (place : ℕ) → place < 256 → AddsCost (base_at place) range min counted (slice_index sums.old place) (slice_index sums.new place) }
+    ensures ways { ways.new ≡ ways.old }
+    ensures added { (place : ℕ) → place < 256 → AddsCost (base_at place) range min counted (slice_index sums.old place) (slice_index sums.new place) }
 {
     match counted.step {
-        Step::Row(line, distance) => add_row(sums, range, min, line, distance, counted.count),
+        Step::Row(line, distance) => add_row(sums, ways, range, line, distance, counted.count),
         Step::End(distance) => {
-            let bytes = 3 + advance(range, min, distance);
+            let bytes = 3 + ways.of(range, distance).advance;
             sums.add_between(0, BASES, u64::from(counted.count) * u64::from(bytes));
         }
     }

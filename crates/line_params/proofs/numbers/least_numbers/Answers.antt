@@ -1,4 +1,4 @@
-use Rattle.std.proofs.Common.{◌+◌, ◌∙◌, length, ap, arith}
+use Rattle.std.proofs.Common.{◌+◌, ◌∙◌, length, ap, refl, arith}
 use Rattle.std.proofs.lemmas.List.{get_or-replicate}
 use Rattle.line_sums.specs.Counting.{row_bytes}
 use Rattle.line_sums.proofs.Summing.{summed_none, summed_small}
@@ -10,6 +10,7 @@ pub loop-index-init : goal.loop-index-init
 loop-index-init c = record {
   summed = summed_none c.args.range c.args.min row_bytes c.args.counted.now c.clear.new.self c.row_total-rest.result c.clear.ensures c.row_total-rest.ensures;
   numbered = λ place lt. numbered_none c.args.range c.args.min c.args.bytes c.args.counted.now place _ (rw (c.fill.ensures.after (λ y is. is)) (get_or-replicate (length c.args.numbers.now) place (length c.args.counted.now) 0 (omega (arith, c.requires.numbers))));
+  ways = refl;
   totals = c.requires.totals;
   size = c.fill.ensures.len ∙ c.requires.numbers;
 }
@@ -29,14 +30,16 @@ loop-index-preserved c =
     let i = c.loop-index.invariant in
     elim c.if-is_round.branch [
       | then-is_round+else-give w ↦ record {
-        summed = c.add_next-rest.ensures;
+        summed = c.add_next-rest.ensures.summed;
         numbered = λ place lt. rw w.numbers-is (numbered_round c.args.range c.args.min c.args.bytes c.args.counted.now c.loop-index.sums c.loop-index.index c.loop-index.rest place _ _ _ i.summed c.loop-index-test.true lt (c.is_round.ensures.0 w.if-is_round.true) (ap (λ z. z + c.loop-index.rest) (w.totals.ensures.each place lt)) (i.numbered place lt) (w.give.ensures.each place lt));
+        ways = c.add_next-rest.ensures.ways ∙ i.ways;
         totals = rw w.totals-is w.totals.ensures.size;
         size = rw w.numbers-is w.give.ensures.size;
       }
       | else-is_round w ↦ record {
-        summed = c.add_next-rest.ensures;
+        summed = c.add_next-rest.ensures.summed;
         numbered = λ place lt. rw w.numbers-is (numbered_skip c.args.range c.args.min c.args.bytes c.args.counted.now c.loop-index.index place _ c.loop-index-test.true (λ round. let told = c.is_round.ensures.1 round in absurd (cc)) (i.numbered place lt));
+        ways = c.add_next-rest.ensures.ways ∙ i.ways;
         totals = rw w.totals-is i.totals;
         size = rw w.numbers-is i.size;
       }

@@ -8,6 +8,7 @@ abbrev pub invariant-loop-index : goal.invariant-loop-index
 invariant-loop-index l = record {
   summed : AreSummed l.range l.min row_bytes l.counted l.index l.sums l.rest;
   numbered : (place : ℕ) → place < 256 → IsNumbered l.range l.min l.bytes l.counted l.index place (get_or l.numbers place 0);
+  ways : l.ways ≡ l.fn.ways;
   totals : length l.totals ≡ 256;
   size : length l.numbers ≡ 256;
 }

@@ -35,6 +35,7 @@ loop-below-preserved c =
       joined = c.in_ok-push_numbers.ensures.joined;
       size = runs_size c.loop-below.below (numbers_of c.loop-below.runs.items) c.least_numbers.new.numbers _ i.size c.least_numbers.ensures.size more;
       each = runs_more c.args.head.now c.args.rows.now c.args.bytes c.fixed_size.result c.saturating_sub-step_bytes.result c.loop-below.below c.in_ok-counted.counted.items (numbers_of c.loop-below.runs.items) c.least_numbers.new.numbers _ c.fixed_size.ensures.is (omega (arith, c.saturating_sub-step_bytes.ensures)) i.size more i.each (rw c.deref.ensures.value at c.least_numbers.ensures.least);
+      ways = c.least_numbers.ensures.ways ∙ i.ways;
       totals = ap length totals ∙ c.least_numbers.ensures.totals;
       numbers = ap length numbers ∙ c.least_numbers.ensures.size;
     }

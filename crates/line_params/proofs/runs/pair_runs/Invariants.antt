@@ -8,6 +8,7 @@ invariant-loop-below l = record {
   joined : AreJoined l.runs.items;
   size : length (numbers_of l.runs.items) ≡ 256 * l.below;
   each : (pair : ℕ) → pair < 256 * l.below → IsLeastPairNumber l.head l.rows l.bytes l.counted.items pair (get_or (numbers_of l.runs.items) pair 0);
+  ways : l.ways ≡ l.head.min;
   totals : length l.totals.items ≡ 256;
   numbers : length l.numbers.items ≡ 256;
 }

@@ -15,16 +15,16 @@ loop-from-preserved c =
     let further : c.loop-from.from < c.places_down_to-to.result = c.places_down_to-to.ensures.after c.loop-from.from (omega arith) (omega (arith, ints, c.step_run-run.ensures.below)) in
     let line : FitsSigned w64 c.args.line = c.ranges.line in
     let bytes = simp to_z-of_z at c.line_bytes.ensures.bytes in
-    let by_copy = copy_least c.args.range c.args.min c.args.line c.args.distance c.line_bytes.result c.advance.result _ bytes c.advance.ensures.least refl in
+    let by_copy = copy_least c.args.range c.args.ways.now c.args.line c.args.distance c.line_bytes.result c.of-way.result.advance _ bytes c.of-way.ensures.right.advance refl in
     record {
       within = c.places_down_to-to.ensures.within;
-      added = row_more c.args.range c.args.min c.args.line _ _ _ _ c.args.distance c.args.count _ c.loop-from.from c.places_down_to-to.result _ c.windows_for-windows.result c.step_run-run.result c.args.sums.now c.loop-from.sums c.add_between.new.self (omega (arith, ints)) (omega (arith, ints)) (omega (arith, ints)) (omega (arith, ints))
-          c.windows_for-windows.ensures.windows by_copy c.step_run-run.ensures.run (omega (arith, c.step_run-run.ensures.few, c.line_bytes.ensures.few, c.advance.ensures.few)) (cc (c.from.ensures, c.from-in-loop-from.ensures)) c.places_down_to-to.ensures.before c.add_between.ensures.added c.add_between.ensures.before (λ place later h. c.loop-from.invariant.left place later (omega (arith, c.places_down_to-to.ensures.within))) c.loop-from.invariant.added;
+      added = row_more c.args.range c.args.ways.now c.args.line _ _ _ _ c.args.distance c.args.count _ c.loop-from.from c.places_down_to-to.result _ c.of-way.result.windows c.step_run-run.result c.args.sums.now c.loop-from.sums c.add_between.new.self (omega (arith, ints)) (omega (arith, ints)) (omega (arith, ints)) (omega (arith, ints))
+          c.of-way.ensures.right.windows by_copy c.step_run-run.ensures.run (omega (arith, c.step_run-run.ensures.few, c.line_bytes.ensures.few, c.of-way.ensures.right.few)) (cc (c.from.ensures, c.from-in-loop-from.ensures)) c.places_down_to-to.ensures.before c.add_between.ensures.added c.add_between.ensures.before (λ place later h. c.loop-from.invariant.left place later (omega (arith, c.places_down_to-to.ensures.within))) c.loop-from.invariant.added;
       left = λ place h inside. c.add_between.ensures.after place h inside ∙ c.loop-from.invariant.left place (omega arith) inside;
     }
 
-pub returns : goal.returns
-returns c = λ place h.
+pub returns-clause-added : goal.returns-clause-added
+returns-clause-added c = λ place h.
     let line : FitsSigned w64 c.args.line = c.ranges.line in
     simp to_z-of_z at (c.loop-from.invariant.added place (omega arith))
 
@@ -35,7 +35,7 @@ add_between-requires-clause-order c =
 
 pub add_between-requires-clause-room : goal.add_between-requires-clause-room
 add_between-requires-clause-room c = λ place later h.
-    let bytes : c.step_run-run.result.bytes ≤ 18 = omega (arith, c.step_run-run.ensures.few, c.line_bytes.ensures.few, c.advance.ensures.few) in
+    let bytes : c.step_run-run.result.bytes ≤ 18 = omega (arith, c.step_run-run.ensures.few, c.line_bytes.ensures.few, c.of-way.ensures.right.few) in
     let amount : c.args.count * c.step_run-run.result.bytes ≤ 4294967295 * 18 = mul-le-mul {n₁ = c.args.count} {m₁ = c.step_run-run.result.bytes} {n₂ = 4294967295} {m₂ = 18} (omega arith) bytes in
     let same : c.from.result * c.from-in-loop-from.result ≡ c.args.count * c.step_run-run.result.bytes = cc (c.from.ensures, c.from-in-loop-from.ensures) in
     let inside : place < 256 = omega (arith, c.places_down_to-to.ensures.within) in

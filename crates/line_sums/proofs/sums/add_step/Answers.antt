@@ -8,13 +8,13 @@ use Rattle.line_sums.specs.declared.step.Step.TheVariants.{Row as RowStep, End a
 use Rattle.line_sums.proofs.RowSums.{end_adds, adds_as}
 use Rattle.line_sums.proofs.sums.add_step.Goals as goal
 
-pub returns-in-Row : goal.returns-in-Row
-returns-in-Row c = λ place h.
+pub returns-in-Row-clause-added : goal.returns-in-Row-clause-added
+returns-in-Row-clause-added c = λ place h.
     let lines = subst HasLine c.in-Row.is c.requires.line in
     let line : FitsSigned w64 c.in-Row.line = omega (arith, ints, lines) in
-    adds_as (base_at place) c.args.range c.args.min c.args.counted (RowStep c.in-Row.line c.in-Row.distance) (get_or c.args.sums.now place 0) (get_or c.add_row.new.sums place 0) c.in-Row.is (simp to_z-of_z at (c.add_row.ensures place h))
+    adds_as (base_at place) c.args.range c.args.min c.args.counted (RowStep c.in-Row.line c.in-Row.distance) (get_or c.args.sums.now place 0) (get_or c.add_row.new.sums place 0) c.in-Row.is (rw c.requires.ways at (simp to_z-of_z at (c.add_row.ensures.added place h)))
 
-pub returns-in-End : goal.returns-in-End
-returns-in-End c = λ place h.
+pub returns-in-End-clause-added : goal.returns-in-End-clause-added
+returns-in-End-clause-added c = λ place h.
     adds_as (base_at place) c.args.range c.args.min c.args.counted (EndStep c.in-End.distance) (get_or c.args.sums.now place 0) (get_or c.add_between.new.self place 0) c.in-End.is
-    (end_adds (base_at place) c.args.range c.args.min c.in-End.distance c.args.counted.count c.advance-bytes.result (get_or c.args.sums.now place 0) (get_or c.add_between.new.self place 0) (c.from.result * c.from-in-End.result) c.advance-bytes.ensures.least c.advance-bytes.ensures.few (cc (c.from.ensures, c.from-in-End.ensures)) (c.add_between.ensures.added place (omega arith) h))
+    (end_adds (base_at place) c.args.range c.args.min c.in-End.distance c.args.counted.count c.of-bytes.result.advance (get_or c.args.sums.now place 0) (get_or c.add_between.new.self place 0) (c.from.result * c.from-in-End.result) (rw c.requires.ways at c.of-bytes.ensures.right.advance) c.of-bytes.ensures.right.few (cc (c.from.ensures, c.from-in-End.ensures)) (c.add_between.ensures.added place (omega arith) h))
