@@ -36,9 +36,9 @@ fn tree_end(unit: &Unit<'_>) -> u64
 {
     let forest = unit.forest();
     let last = forest.entry(forest.len() - 1);
-    let end = last.at + last.len;
+    let end = u64::from(last.at) + u64::from(last.len);
     if let Some(code) = forest.chain_ends().last() {
-        if end <= code.at {
+        if end <= u64::from(code.at) {
             return code_end(forest.section(), code.at as usize) as u64;
         }
     }

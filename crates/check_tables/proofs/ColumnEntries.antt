@@ -1,6 +1,6 @@
 -- The values of the entries of units, each in its column, as they are counted.
 use Rattle.std.proofs.Common.{◌≡◌, ◌≤◌, ◌<◌, ◌+◌, ◌-◌, ◌^◌, ◌⊎◌, ◌&&◌, inl, inr, ◌∙◌, ℕ, zero, suc, Bool, true, false, List, [], ◌∷◌, ◌++◌, length, take, drop, get_or, sym, ap, refl, subst, leb, ltb, arith}
-use Rattle.std.specs.Prelude.{map, Option, Some, None, IfSome}
+use Rattle.std.specs.Prelude.{slice_range, map, Option, Some, None, IfSome}
 use Rattle.std.specs.List.{All, sum_by, list_all}
 use Rattle.std.proofs.lemmas.Bool.{cases_lt, and_from, and_left, and_right, le-leb, lt-leb, lt-ltb, le-ltb, cond-true, cond-false}
 use Rattle.std.proofs.lemmas.List.{append-nil, append_assoc, length-append, length-drop, length-take-le, get_or-take, get_or-drop, get_or_default, flat_map_more, map-append, take_more}
@@ -19,7 +19,7 @@ use Rattle.column_forms.specs.Tallies.{Tallying}
 use Rattle.column_forms.specs.Rows.{AreHere}
 use Rattle.column_forms.specs.TableColumns.{IsTallyOf, tally_at, AreTalliesOf, HaveRoomForRow, HaveAtMost, AddsRow}
 use Rattle.entry_arena.specs.declared.entry.Entry.{Entry}
-use Rattle.entry_arena.specs.Arena.{entry_at, value_at}
+use Rattle.entry_arena.specs.Arena.{Arena, entry_at, value_at}
 use Rattle.entry_arena.specs.Trees.{ValuesBetween, declared_at}
 use Rattle.entry_read.specs.declared.head.UnitHead.{UnitHead}
 use Rattle.entry_read.specs.Units.{HeadAndForest, declarations_of, IsTable, IsUnitHeld}
@@ -237,20 +237,27 @@ module _ (table : Listing) (unit : HeadAndForest) (known : IsTable table) (held 
   pub first_read : (d : Decl) → d ≡ decl_at table.decls (entry_at entries id).decl → d.first ≡ (decl_at table.decls (entry_at unit.forest.entries id).decl).first
   first_read d d_is = ap (λ (z : Decl). z.first) (d_is ∙ ap (λ (es : List Entry). decl_at table.decls (entry_at es id).decl) entries_are)
 
-  module _ (values : List Value) (values_are : values ≡ unit.forest.values) where
-    pub row_read : take ((entry_at entries id).first + (entry_at entries id).count - (entry_at entries id).first) (drop (entry_at entries id).first values) ≡ take (entry_at unit.forest.entries id).count (drop (entry_at unit.forest.entries id).first unit.forest.values)
-    row_read =
-        let e : Entry = entry_at entries id in
-        let count : e.first + e.count - e.first ≡ e.count = omega arith in
-        ap (λ (n : ℕ). take n (drop e.first values)) count
-        ∙ ap (λ (vs : List Value). take e.count (drop e.first vs)) values_are
-        ∙ ap (λ (es : List Entry). take (entry_at es id).count (drop (entry_at es id).first unit.forest.values)) entries_are
+  module _ (lender : Arena) (lent : lender ≡ unit.forest) where
+    pub values_read : (entry_at entries id).first + (entry_at entries id).count ≤ length lender.values
+    values_read =
+        let own : (entry_at entries id).first + (entry_at entries id).count ≤ length unit.forest.values = subst (λ (es : List Entry). (entry_at es id).first + (entry_at es id).count ≤ length unit.forest.values) (sym entries_are) (entry_values table unit known held id inside_unit) in
+        subst (λ (f : Arena). (entry_at entries id).first + (entry_at entries id).count ≤ length f.values) (sym lent) own
 
-    pub columns_read : (d : Decl) → d ≡ decl_at table.decls (entry_at entries id).decl → (width : ℕ) → width ≡ length table.specs → d.first + length (take ((entry_at entries id).first + (entry_at entries id).count - (entry_at entries id).first) (drop (entry_at entries id).first values)) ≤ width
-    columns_read d d_is width wide =
-        let e : Entry = entry_at unit.forest.entries id in
-        let size : length (take e.count (drop e.first unit.forest.values)) ≡ e.count = length-take-le e.count (drop e.first unit.forest.values) (omega (arith, length-drop e.first unit.forest.values, entry_values table unit known held id inside_unit)) in
-        omega (arith, ap length row_read, size, first_read d d_is, entry_columns table unit known held id inside_unit, wide)
+    module _ (row : List Value) (read : row ≡ slice_range lender.values (entry_at entries id).first ((entry_at entries id).first + (entry_at entries id).count)) where
+      pub row_read : row ≡ take (entry_at unit.forest.entries id).count (drop (entry_at unit.forest.entries id).first unit.forest.values)
+      row_read =
+          let e : Entry = entry_at entries id in
+          let count : e.first + e.count - e.first ≡ e.count = omega arith in
+          read
+          ∙ ap (λ (n : ℕ). take n (drop e.first lender.values)) count
+          ∙ ap (λ (f : Arena). take e.count (drop e.first f.values)) lent
+          ∙ ap (λ (es : List Entry). take (entry_at es id).count (drop (entry_at es id).first unit.forest.values)) entries_are
+
+      pub columns_read : (d : Decl) → d ≡ decl_at table.decls (entry_at entries id).decl → (width : ℕ) → width ≡ length table.specs → d.first + length row ≤ width
+      columns_read d d_is width wide =
+          let e : Entry = entry_at unit.forest.entries id in
+          let size : length (take e.count (drop e.first unit.forest.values)) ≡ e.count = length-take-le e.count (drop e.first unit.forest.values) (omega (arith, length-drop e.first unit.forest.values, entry_values table unit known held id inside_unit)) in
+          omega (arith, ap length row_read, size, first_read d d_is, entry_columns table unit known held id inside_unit, wide)
 
 pub entries_none : (decls : List Decl) (unit : HeadAndForest) (held : ColumnValues) → AddsEntries decls unit [] held held
 entries_none decls unit held = record {

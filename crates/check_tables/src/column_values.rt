@@ -101,13 +101,13 @@ impl ColumnValues {
     {
         // What was read stands in bytes of memory.
         bytes_are_small(unit.forest().section());
-        let values = unit.forest().values();
         let head = unit.head();
+        let mut row = Vec::new(alloc);
         for entry in unit.forest().entries().iter() {
             let decl = table.decl(entry.decl);
-            let from = entry.first as usize;
-            let row = &values[from..from + entry.count as usize];
-            self.add_row(alloc, decl.first as usize, &head, row)?;
+            unit.forest()
+                .read_values(entry.first, entry.count, &mut row)?;
+            self.add_row(alloc, decl.first as usize, &head, &row)?;
         }
         Ok(())
     }

@@ -70,7 +70,7 @@ pub(crate) fn add_unit(
 {
     for id in 0..written.len() {
         if !add_pair(pairings, old[id].decl, written[id].decl)? {
-            return Ok(Some(written[id].at));
+            return Ok(Some(u64::from(written[id].at)));
         }
     }
     Ok(None)

@@ -1,10 +1,11 @@
 -- What is found by its place.
-use Rattle.std.proofs.Common.{◌≡◌, ◌≢◌, ◌≤◌, ◌<◌, ℕ, List, length, get_or, sym, ap, subst, ◌∙◌, arith, inl, inr, Less, Equal, Greater}
-use Rattle.std.specs.Prelude.{Option, Some, None, ◌↔◌, ltb, true, false}
+use Rattle.std.proofs.Common.{◌≡◌, ◌≢◌, ◌≤◌, ◌<◌, ◌+◌, ◌-◌, ℕ, List, length, drop, get_or, sym, ap, subst, ◌∙◌, arith, inl, inr, Less, Equal, Greater}
+use Rattle.std.specs.Prelude.{Option, Some, None, ◌↔◌, ltb, true, false, slice_range}
 use Rattle.std.specs.Ordering.{nat_cmp, ordering_index}
 use Rattle.std.specs.List.{Contains, HoldsAt}
 use Rattle.std.specs.List.Sorted.{IsNonDecreasing, IsNonDecreasingBy, IsPartitionPoint}
 use Rattle.std.proofs.lemmas.Cmp.{ranked}
+use Rattle.std.proofs.lemmas.List.{length-take, length-drop, get_or-take, get_or-drop}
 use Rattle.std.proofs.lemmas.List.Sorted.{IsNonDecreasingBy-from_default}
 use Rattle.std.proofs.lemmas.Bool.{cases_lt, ltb-true, ltb-false}
 use Rattle.std.proofs.lemmas.Grind.{get_or_default_zero}
@@ -35,6 +36,31 @@ module _ {X : Type 0} (key : X → ℕ) (xs : List X) (d : X) (rising : (i j : �
             let more : k < key (get_or xs i d) = ranked _ k _ (sym ((parted comparisons_rise).1 i d g inside)) in
             omega arith
       ]
+
+-- the same of a part of the list
+module _ {X : Type 0} (key : X → ℕ) (xs : List X) (d : X) (rising : (i j : ℕ) → i < j → j < length xs → key (get_or xs i d) < key (get_or xs j d)) (k from to : ℕ) (order : from ≤ to) (within : to ≤ length xs) where
+  part_length : length (slice_range xs from to) ≡ to - from
+  part_length = omega (arith, length-take (to - from) (drop from xs), length-drop from xs)
+
+  part_at : (i : ℕ) → i < to - from → get_or (slice_range xs from to) i d ≡ get_or xs (from + i) d
+  part_at i inside = get_or-take (to - from) (drop from xs) i d inside ∙ get_or-drop from xs i d
+
+  part_rises : (i j : ℕ) → i < j → j < length (slice_range xs from to) → key (get_or (slice_range xs from to) i d) < key (get_or (slice_range xs from to) j d)
+  part_rises i j less inside =
+      let count : length (slice_range xs from to) ≡ to - from = part_length in
+      rw (part_at i (omega arith), part_at j (omega arith)) (rising (from + i) (from + j) (omega arith) (omega arith))
+
+  pub found_among : (i : ℕ) → i < length (slice_range xs from to) → HoldsAt (λ x. nat_cmp (key x) k ≡ Equal) (slice_range xs from to) i → (from + i < length xs) × (key (get_or xs (from + i) d) ≡ k)
+  found_among i inside equal =
+      let count : length (slice_range xs from to) ≡ to - from = part_length in
+      (omega arith, ap key (sym (part_at i (omega arith))) ∙ found key (slice_range xs from to) d part_rises k i equal)
+
+  pub not_among : (at : ℕ) → (IsNonDecreasingBy (λ x. ordering_index (nat_cmp (key x) k)) (slice_range xs from to) → IsPartitionPoint (λ x. nat_cmp (key x) k ≡ Less) (λ x. nat_cmp (key x) k ≡ Greater) (slice_range xs from to) at) → (i : ℕ) → from ≤ i → i < to → key (get_or xs i d) ≢ k
+  not_among at parted i low high same =
+      let count : length (slice_range xs from to) ≡ to - from = part_length in
+      let here : get_or (slice_range xs from to) (i - from) d ≡ get_or xs (from + (i - from)) d = part_at (i - from) (omega arith) in
+      let place : from + (i - from) ≡ i = omega arith in
+      not_found key (slice_range xs from to) d part_rises k at parted (i - from) (omega arith) (ap key here ∙ ap (λ n. key (get_or xs n d)) place ∙ same)
 
 -- the number in an answer, and 0 where there is none
 number_of : Option Target → ℕ

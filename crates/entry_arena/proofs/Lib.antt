@@ -3,6 +3,7 @@ pub mod EndLaws
 pub mod Found
 pub mod FrontLaws
 pub mod Held
+pub mod HeldValues
 pub mod PreorderLaws
 mod Rows
 pub mod RunLaws

@@ -14,3 +14,4 @@ pub mod Places
 pub mod Standing
 pub mod Growing
 pub mod Onward
+pub mod inside

@@ -4,9 +4,9 @@
 #[derive(Clone, Copy, Debug, PartialEq, Eq)]
 pub struct Entry {
     /// The place of its abbreviation code, counted from the first byte of the section.
-    pub at: u64,
+    pub at: u32,
     /// How many bytes its code and its values have.
-    pub len: u64,
+    pub len: u32,
     /// How many entries it stands below: 0 for the root.
     pub depth: u32,
     /// The number of its declaration in the abbreviation table, counted from 0.
@@ -23,7 +23,7 @@ pub struct ChainEnd {
     /// The number of the entry whose children end, counted from 0.
     pub entry: u32,
     /// The place of the code, counted from the first byte of the section.
-    pub at: u64,
+    pub at: u32,
 }
 
 /// What begins at a place.

@@ -9,6 +9,7 @@ mod operation_tests;
 mod operations;
 #[cfg(test)]
 mod tests;
+mod values;
 
 pub use entry::{ChainEnd, Entry, Target};
 pub use forest::Forest;

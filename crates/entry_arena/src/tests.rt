@@ -4,6 +4,7 @@ ghost use Rattle.form_codec.specs.Values.{LiesIn};
 ghost use Rattle.entry_arena.specs.Arena.{entry_at, value_at, span_of};
 ghost use Rattle.entry_arena.specs.Order.{ComesBefore, ComesAfterAll, IsNextEntry, IsNextValue, IsNextEnd};
 
+use crate::values::Values;
 use crate::{ChainEnd, Entry, Forest, Target};
 use dw_base::{NoMemory, Span};
 use form_codec::{Value, Whole};
@@ -25,7 +26,7 @@ const CLANG: [u8; 77] = [
 ];
 
 // The place, the bytes, the depth, the declaration, the first value and the count of values of each entry.
-type Row = (u64, u64, u32, u32, u32, u32);
+type Row = (u32, u32, u32, u32, u32, u32);
 
 const GCC_ENTRIES: [Row; 4] = [
     (12, 34, 0, 0, 0, 7),
@@ -172,10 +173,8 @@ fn comes_after_all(forest: &Forest<'_>, place: u64) -> bool
 {
     let entries = forest.entries();
     let ends = forest.chain_ends();
-    entries
-        .iter()
-        .all(|entry| ends_by(entry.at, entry.len, place))
-        && ends.iter().all(|end| end.at < place)
+    entries.iter().all(|entry| ends_by(u64::from(entry.at), u64::from(entry.len), place))
+        && ends.iter().all(|end| u64::from(end.at) < place)
 }
 
 fn lies_in(value: Value, size: u64) -> bool
@@ -187,24 +186,30 @@ fn lies_in(value: Value, size: u64) -> bool
     }
 }
 
-fn come_before(values: &[Value], next: &Value) -> bool
-    ensures { IsTrue result → (i : ℕ) → i < length values.now → ComesBefore (value_at values.now i) next.now }
+// Whether the bytes that all values lend come before those of another.
+fn come_before(forest: &Forest<'_>, next: &Value) -> bool
+    ensures { IsTrue result → (i : ℕ) → i < length forest.now.values → ComesBefore (value_at forest.now.values i) next.now }
 {
-    values.iter().all(|value| comes_before(*value, *next))
+    for number in 0..forest.value_count() {
+        if !comes_before(forest.value(number), *next) {
+            return false;
+        }
+    }
+    true
 }
 
 // Whether these may be pushed.
 fn is_next_value(forest: &Forest<'_>, value: Value) -> bool
     ensures { IsTrue result → IsNextValue forest.now value }
 {
-    lies_in(value, forest.section().len() as u64) && come_before(forest.values(), &value)
+    lies_in(value, forest.section().len() as u64) && come_before(forest, &value)
 }
 
 fn is_next_end(forest: &Forest<'_>, end: ChainEnd) -> bool
     ensures { IsTrue result → IsNextEnd forest.now end.entry end.at }
 {
-    comes_after_all(forest, end.at)
-        && end.at < forest.section().len() as u64
+    comes_after_all(forest, u64::from(end.at))
+        && u64::from(end.at) < forest.section().len() as u64
         && end.entry < forest.len()
 }
 
@@ -226,9 +231,10 @@ fn follows(forest: &Forest<'_>, entry: Entry) -> bool
 fn is_next_entry(forest: &Forest<'_>, entry: Entry) -> bool
     ensures { IsTrue result → IsNextEntry forest.now entry }
 {
-    comes_after_all(forest, entry.at)
-        && entry.len > 0
-        && ends_by(entry.at, entry.len, forest.section().len() as u64)
+    let (at, len) = (u64::from(entry.at), u64::from(entry.len));
+    comes_after_all(forest, at)
+        && len > 0
+        && ends_by(at, len, forest.section().len() as u64)
         && follows(forest, entry)
         && u64::from(entry.first) + u64::from(entry.count) <= u64::from(forest.value_count())
 }
@@ -261,13 +267,13 @@ fn sought(sample: Sample, place: u64) -> Option<Target> {
     let mut target = None;
     let mut id = 0u32;
     for row in sample.entries {
-        if row.0 == place {
+        if u64::from(row.0) == place {
             target = Some(Target::Entry(id));
         }
         id = id.wrapping_add(1);
     }
     for end in sample.ends {
-        if end.at == place {
+        if u64::from(end.at) == place {
             target = Some(Target::ChainEnd(end.entry));
         }
     }
@@ -288,7 +294,9 @@ fn check(rt: &impl Abort, alloc: Global, sample: Sample) -> Result<(), NoMemory>
     }
     assert_eq!(rt; forest.len() as usize, sample.entries.len());
     assert_eq!(rt; forest.value_count() as usize, sample.values.len());
-    assert_eq!(rt; forest.values(), sample.values);
+    let mut row = Vec::new(alloc);
+    forest.read_values(0, forest.value_count(), &mut row)?;
+    assert_eq!(rt; row.as_slice(), sample.values);
     assert!(rt; forest.value_count() > 23);
     assert_eq!(rt; Some(forest.value(23)), sample.values.get(23).copied());
     assert_eq!(rt; forest.chain_ends(), sample.ends);
@@ -323,5 +331,73 @@ fn forests_of_samples(rt: HostRuntime) -> Result<(), Fail> {
     };
     check(&rt, rt.alloc(), gcc)?;
     check(&rt, rt.alloc(), clang)?;
+    Ok(())
+}
+
+// A number as a value of each kind that has one alone.
+fn numbered(number: u64) -> [Value; 12] {
+    [
+        Value::Addr(number),
+        Value::AddrIndex(number),
+        Value::LocalRef(number),
+        Value::SectionRef(number),
+        Value::Signature(number),
+        Value::StrOffset(number),
+        Value::LineStrOffset(number),
+        Value::SupStr(number),
+        Value::StrIndex(number),
+        Value::Offset(number),
+        Value::LocIndex(number),
+        Value::RangeIndex(number),
+    ]
+}
+
+// Values of all other kinds.
+fn unnumbered() -> [Value; 17] {
+    let span = Span { at: 71, len: 1 };
+    [
+        int(0),
+        int(0xffff_ffff),
+        int(0x1_0000_0000),
+        Value::Flag(false),
+        int(-1),
+        Value::Int(Whole::unsigned(0xffff_ffff_ffff_ffff)),
+        Value::Flag(true),
+        Value::Fixed(1, 0x80),
+        Value::Fixed(8, 0x8000_0000_0000_0000),
+        Value::Fixed(2, 0x8000),
+        Value::Fixed(4, 0x8000_0000),
+        Value::Fixed(2, 0x1_0000_0000),
+        Value::Wide16(span),
+        Value::Block(span),
+        Value::Expr(span),
+        Value::Text(span),
+        Value::SupRef(8, 5),
+    ]
+}
+
+// Holds values, and asks for each.
+fn come_back(rt: &impl Abort, alloc: Global, values: &[Value]) -> Result<(), NoMemory> {
+    let mut held = Values::new(alloc);
+    for value in values {
+        held.push(value)?;
+    }
+    held.shrink_to_fit();
+    assert_eq!(rt; held.len(), values.len());
+    for (number, value) in values.iter().enumerate() {
+        assert!(rt; number < held.len());
+        assert_eq!(rt; held.value(number), *value);
+    }
+    Ok(())
+}
+
+#[test]
+fn values_as_they_were_pushed(rt: HostRuntime) -> Result<(), Fail> {
+    for number in [0, 0xffff_ffff, 0x1_0000_0000, 0xffff_ffff_ffff_ffff] {
+        let values = numbered(number);
+        come_back(&rt, rt.alloc(), &values)?;
+    }
+    let values = unnumbered();
+    come_back(&rt, rt.alloc(), &values)?;
     Ok(())
 }

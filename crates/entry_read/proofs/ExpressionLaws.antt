@@ -1,6 +1,6 @@
 -- The expressions of a unit's first values, and those of one value more.
-use Rattle.std.proofs.Common.{◌≡◌, ◌≢◌, ◌≤◌, ◌<◌, ◌+◌, ◌^◌, ℕ, List, [], ◌∷◌, ◌++◌, length, get_or, ◌∙◌, sym, ap, refl, subst, arith, inl, inr}
-use Rattle.std.proofs.lemmas.List.{append-nil, append_assoc, length_push, get_or_default}
+use Rattle.std.proofs.Common.{◌≡◌, ◌≢◌, ◌≤◌, ◌<◌, ◌+◌, ◌^◌, ℕ, List, [], ◌∷◌, ◌++◌, length, ◌∙◌, sym, ap, refl, subst, arith, inl, inr}
+use Rattle.std.proofs.lemmas.List.{append-nil, append_assoc, length_push}
 use Rattle.std.proofs.lemmas.Bool.{cases_eq}
 use Rattle.dw_base.specs.declared.fault.Reach.{Reach}
 use Rattle.dw_base.specs.declared.fault.Span.{Span}
@@ -130,11 +130,9 @@ front_whole reach f held n front all = record {
 
 -- THE BYTES OF AN EXPRESSION
 
--- a value that was read of a list
-pub expr_there : (f : Arena) (values : List Value) (n count : ℕ) (d : Value) (span : Span) → values ≡ f.values → n < count → count ≡ length f.values → get_or values n d ≡ value.Expr span → IsExprAt f n span
-expr_there f values n count d span same less all is =
-    let inside : n < length f.values = omega (arith, all) in
-    record { inside = inside; is = get_or_default f.values n (value.Addr 0) d inside ∙ ap (λ (z : List Value). get_or z n d) (sym same) ∙ is }
+-- a value that was read of a forest
+pub expr_there : (f : Arena) (n count : ℕ) (v : Value) (span : Span) → n < count → count ≡ length f.values → v ≡ value_at f.values n → v ≡ value.Expr span → IsExprAt f n span
+expr_there f n count v span less all same is = record { inside = omega (arith, less, all); is = sym same ∙ is }
 
 -- the operations that were read of some bytes, with nothing before them
 pub read_alone : (reach : Reach) (bytes same_bytes : List ℕ) (old ops same_ops : List Op) → bytes ≡ same_bytes → old ≡ [] → same_ops ≡ ops → IsExpressionRead reach bytes old ops → IsExpressionRead reach same_bytes [] same_ops

@@ -136,6 +136,14 @@ pub struct Start {
     pub depth: u32,
 }
 
+// A place, or how many bytes, in 32 bits. No section of the 32-bit format has so many that they don't fit (DWARF 5 section 7.4): there
+// is no memory for more.
+fn narrow(number: usize) -> Result<u32, NoMemory>
+    ensures { IfOk result (λ same. same ≡ number) }
+{
+    u32::try_from(number).map_err(|_| NoMemory)
+}
+
 // Appends an entry and its values, and gives the place after it.
 fn read_entry<'a>(
     forest: &mut Forest<'a>,
@@ -162,8 +170,8 @@ fn read_entry<'a>(
     let columns = columns_of(table, start.number);
     let to = read_values(forest, info, start.values_at, end, columns, origin)?;
     let entry = Entry {
-        at: start.at as u64,
-        len: (to - start.at) as u64,
+        at: narrow(start.at)?,
+        len: narrow(to - start.at)?,
         depth: start.depth,
         decl: start.number,
         first,
@@ -257,7 +265,7 @@ fn read_next<'a>(
     let Some(id) = chains.pop() else {
         return Err(scope.refused(Kind::Tree, scope.head.at as usize));
     };
-    forest.push_chain_end(id, at as u64)?;
+    forest.push_chain_end(id, narrow(at)?)?;
     Ok(code.end)
 }
 

@@ -2,12 +2,13 @@
 ghost use Rattle.std.specs.Prelude.{◌≤◌, ◌<◌, ◌+◌, ◌^◌, length, IfOk, IfErr, OnOk};
 ghost use Rattle.dw_base.specs.Refusals.{IsFaultOf, IsRefusedFor};
 ghost use Rattle.entry_arena.specs.Operations.{ComesLast};
+ghost use Rattle.entry_arena.specs.Order.{IsInOrder};
 ghost use Rattle.entry_read.specs.Expressions.{HasOperations, FaultExpressions};
 ghost use Rattle.entry_read.specs.inside.Pushing.{AreRunsOfFew, AddsOps};
 
 use crate::unit::Unit;
 use dw_base::{NoMemory, Reach, Refusal};
-use entry_arena::Operations;
+use entry_arena::{Forest, Operations};
 use expr_ops::{Op, push_expr};
 use form_codec::Value;
 use std::alloc::Global;
@@ -22,6 +23,13 @@ fn push_all(held: &mut Operations, number: u32, ops: &[Op]) -> Result<(), NoMemo
         held.push_op(number, *op)?;
     }
     Ok(())
+}
+
+// A law, which costs nothing: what the values of a forest lend lies in its section.
+fn stands_in_order(forest: &Forest<'_>)
+    ensures { IsInOrder forest.now }
+{
+    let _entries = forest.entries();
 }
 
 /// Reads the expressions of a unit: the operations of each value of form DW_FORM_exprloc (DWARF 5 sections 2.5, 2.6.1, 7.5.5 and
@@ -43,11 +51,11 @@ pub fn read_expressions(
     ensures fault { IfErr result (IsRefusedFor (IsFaultOf (FaultExpressions unit.now.forest reach) origin)) }
 {
     let forest = unit.forest();
-    let values = forest.values();
+    stands_in_order(forest);
     let mut held = Operations::new(alloc);
     let mut ops: Vec<Op> = Vec::new(alloc);
     for number in 0..forest.value_count() {
-        let Value::Expr(span) = values[number as usize] else {
+        let Value::Expr(span) = forest.value(number) else {
             continue;
         };
         ops.clear();

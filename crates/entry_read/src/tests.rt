@@ -68,7 +68,7 @@ const NONE_BEFORE: Counts = Counts {
 };
 
 // The place, the bytes, the depth, the declaration, the first value and the count of values of an entry.
-type Row = (u64, u64, u32, u32, u32, u32);
+type Row = (u32, u32, u32, u32, u32, u32);
 
 const GCC_ENTRIES: [Row; 4] = [
     (12, 34, 0, 0, 0, 7),
@@ -245,10 +245,15 @@ fn reads(alloc: Global, sample: &Sample) -> Result<bool, Fail> {
             .ok()
             .ok_or("refused")?;
         let forest = unit.forest();
+        let mut values = Vec::new(alloc);
+        forest
+            .read_values(0, forest.value_count(), &mut values)
+            .ok()
+            .ok_or("no memory")?;
         return Ok(
             unit.head() == *head
                 && are_entries(forest.entries(), sample.entries)
-                && forest.values() == sample.values
+                && values.as_slice() == sample.values
                 && forest.chain_ends() == sample.ends,
         );
     }
@@ -257,7 +262,8 @@ fn reads(alloc: Global, sample: &Sample) -> Result<bool, Fail> {
 
 // Whether an entry or the end of a chain stands at a place.
 fn is_boundary(sample: &Sample, place: u64) -> bool {
-    sample.entries.iter().any(|row| row.0 == place) || sample.ends.iter().any(|end| end.at == place)
+    sample.entries.iter().any(|row| u64::from(row.0) == place)
+        || sample.ends.iter().any(|end| u64::from(end.at) == place)
 }
 
 // Whether each front of a unit of less than 256 bytes is refused with the right kind: Short while the length says that the
@@ -378,7 +384,7 @@ fn roots_follow_headers(alloc: Global, info: &[u8], table: &[u8]) -> Result<bool
             _ => 12,
         };
         let entries = unit.forest().entries();
-        if entries.len() != 1 || entries[0].at != head.at.wrapping_add(size) {
+        if entries.len() != 1 || u64::from(entries[0].at) != head.at.wrapping_add(size) {
             return Ok(false);
         }
     }

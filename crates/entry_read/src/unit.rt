@@ -57,9 +57,9 @@ impl<'a> Unit<'a> {
 
     /// The same unit with other values in place of its own, one for each, which lend the same bytes of the section. The only error
     /// is want of memory.
-    pub fn with_values(&self, alloc: Global, values: Vec<Value>) -> Result<Unit<'a>, NoMemory>
-        requires { LendAlike self.now.forest.values values.items }
-        ensures { IfOk result (λ unit. unit ≡ unit_with self.now values.items) }
+    pub fn with_values(&self, alloc: Global, values: &[Value]) -> Result<Unit<'a>, NoMemory>
+        requires { LendAlike self.now.forest.values values.now }
+        ensures { IfOk result (λ unit. unit ≡ unit_with self.now values.now) }
     {
         Ok(Unit {
             head: self.head,

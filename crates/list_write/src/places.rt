@@ -52,9 +52,9 @@ pub(crate) fn place_parts(
     requires ready { (written : List ToWrite) × CanBePlaced parts.now written lists.now runs.now }
     ensures { IfOk result (λ places. (written : List ToWrite) → CanBePlaced parts.now written lists.now runs.now → ArePlaced parts.now written places.parts.items places.lists.items places.views.items) }
 {
-    let mut placed = Vec::new(alloc);
-    let mut moved = Vec::new(alloc);
-    let mut views = Vec::new(alloc);
+    let mut placed = Vec::with_capacity(alloc, parts.len())?;
+    let mut moved = Vec::with_capacity(alloc, lists.len())?;
+    let mut views = Vec::with_capacity(alloc, runs.len())?;
     let mut at = 0;
     for (number, part) in parts.iter().enumerate() {
         let begin = at;

@@ -43,7 +43,7 @@ fn first_of_ends(info: &[u8], ends: &[ChainEnd]) -> Option<u64>
 {
     let mut first = None;
     for end in ends {
-        let here = is_long(info, end.at as usize).then_some(end.at);
+        let here = is_long(info, end.at as usize).then_some(u64::from(end.at));
         first = earlier(first, here);
     }
     first

@@ -24,14 +24,16 @@ fn with_forest(totals: Totals, forest: &Forest<'_>) -> Totals {
     let mut sum = totals.sum;
     for entry in forest.entries().iter() {
         sum = sum
-            .wrapping_add(entry.at)
+            .wrapping_add(u64::from(entry.at))
             .wrapping_add(u64::from(entry.depth));
     }
-    for value in forest.values().iter() {
-        sum = sum.wrapping_add(held(*value));
+    for number in 0..forest.value_count() {
+        sum = sum.wrapping_add(held(forest.value(number)));
     }
     for end in forest.chain_ends().iter() {
-        sum = sum.wrapping_add(end.at).wrapping_add(u64::from(end.entry));
+        sum = sum
+            .wrapping_add(u64::from(end.at))
+            .wrapping_add(u64::from(end.entry));
     }
     Totals {
         entries: totals.entries.wrapping_add(u64::from(forest.len())),

@@ -108,21 +108,17 @@ module _ (table : Listing) (unit : HeadAndForest) (known : IsTable table) (held 
   pub first_read : (d : Decl) → d ≡ decl_at table.decls (entry_at entries id).decl → d.first ≡ (decl_at table.decls (entry_at unit.forest.entries id).decl).first
   first_read d d_is = ap (λ (z : Decl). z.first) (d_is ∙ ap (λ (es : List Entry). decl_at table.decls (entry_at es id).decl) entries_are)
 
-  module _ (values : List Value) (values_are : values ≡ unit.forest.values) where
-    pub row_read : take ((entry_at entries id).first + (entry_at entries id).count - (entry_at entries id).first) (drop (entry_at entries id).first values) ≡ take (entry_at unit.forest.entries id).count (drop (entry_at unit.forest.entries id).first unit.forest.values)
+  module _ (values : List Value) (values_are : values ≡ unit.forest.values) (row : List Value) (row_is : row ≡ take ((entry_at entries id).first + (entry_at entries id).count - (entry_at entries id).first) (drop (entry_at entries id).first values)) where
+    pub row_read : row ≡ take (entry_at unit.forest.entries id).count (drop (entry_at unit.forest.entries id).first unit.forest.values)
     row_read =
         let e : Entry = entry_at entries id in
         let count : e.first + e.count - e.first ≡ e.count = omega arith in
-        ap (λ (n : ℕ). take n (drop e.first values)) count
+        row_is
+        ∙ ap (λ (n : ℕ). take n (drop e.first values)) count
         ∙ ap (λ (vs : List Value). take e.count (drop e.first vs)) values_are
         ∙ ap (λ (es : List Entry). take (entry_at es id).count (drop (entry_at es id).first unit.forest.values)) entries_are
 
-    pub values_read : (entry_at entries id).first + (entry_at entries id).count ≤ length values
-    values_read =
-        let here = subst (λ (es : List Entry). (entry_at es id).first + (entry_at es id).count ≤ length unit.forest.values) (sym entries_are) (entry_values table unit known held id inside_unit) in
-        subst (λ (vs : List Value). (entry_at entries id).first + (entry_at entries id).count ≤ length vs) (sym values_are) here
-
-    pub columns_read : (d : Decl) → d ≡ decl_at table.decls (entry_at entries id).decl → (width : ℕ) → width ≡ length table.specs → d.first + length (take ((entry_at entries id).first + (entry_at entries id).count - (entry_at entries id).first) (drop (entry_at entries id).first values)) ≤ width
+    pub columns_read : (d : Decl) → d ≡ decl_at table.decls (entry_at entries id).decl → (width : ℕ) → width ≡ length table.specs → d.first + length row ≤ width
     columns_read d d_is width wide =
         let e : Entry = entry_at unit.forest.entries id in
         let size : length (take e.count (drop e.first unit.forest.values)) ≡ e.count = length-take-le e.count (drop e.first unit.forest.values) (omega (arith, length-drop e.first unit.forest.values, entry_values table unit known held id inside_unit)) in

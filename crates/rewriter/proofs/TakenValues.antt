@@ -192,36 +192,33 @@ module _ (unit : HeadAndForest) (table : Listing) (columns : List Spec) (known :
         let count : d.first + d.count - d.first ≡ d.count = omega arith in
         ap (λ (n : ℕ). take n (drop d.first columns)) count ∙ ap (λ (z : Decl). (declared_in columns z).columns) decl_same
 
-    module _ (olds : List Spec) (olds_are : olds ≡ (declared_in table.specs (decl_at table.decls (entry_at entries id).decl)).columns) (values : List Value) (values_are : values ≡ unit.forest.values) where
-      abbrev values_of : List Value
-      values_of = take (e.first + e.count - e.first) (drop e.first values)
-
+    module _ (olds : List Spec) (olds_are : olds ≡ (declared_in table.specs (decl_at table.decls (entry_at entries id).decl)).columns) (values : List Value) (values_are : values ≡ unit.forest.values) (row : List Value) (row_is : row ≡ take ((entry_at entries id).first + (entry_at entries id).count - (entry_at entries id).first) (drop (entry_at entries id).first values)) where
       olds_same : olds ≡ columns_of table table.specs own.decl
       olds_same = olds_are ∙ ap (λ (es : List Entry). columns_of table table.specs (entry_at es id).decl) entries_are
 
-      values_same : values_of ≡ values_in unit.forest id
-      values_same = row_read table unit known held entries entries_are id below values values_are
+      row_same : row ≡ values_in unit.forest id
+      row_same = row_read table unit known held entries entries_are id below values values_are row row_is
 
-      size : length values_of ≡ own.count
-      size = ap length values_same ∙ values_count unit table columns known held renewed id inside
+      size : length row ≡ own.count
+      size = ap length row_same ∙ values_count unit table columns known held renewed id inside
 
-      pub olds_count : length olds ≡ length (take ((entry_at entries id).first + (entry_at entries id).count - (entry_at entries id).first) (drop (entry_at entries id).first values))
+      pub olds_count : length olds ≡ length row
       olds_count = ap length olds_same ∙ columns_count unit table columns known held renewed table.specs id refl inside ∙ sym size
 
-      pub news_count : length (take (d.first + d.count - d.first) (drop d.first columns)) ≡ length (take ((entry_at entries id).first + (entry_at entries id).count - (entry_at entries id).first) (drop (entry_at entries id).first values))
+      pub news_count : length (take (d.first + d.count - d.first) (drop d.first columns)) ≡ length row
       news_count = ap length news_same ∙ columns_count unit table columns known held renewed columns id renewed inside ∙ sym size
 
-      pub row_pushed : (at : ℕ) (items pushed : List Value) → at ≡ unit.head.at → items ≡ flat_map (row_of unit table columns) (take id unit.forest.entries) → pushed ≡ items ++ taken_row at olds (take (d.first + d.count - d.first) (drop d.first columns)) (take ((entry_at entries id).first + (entry_at entries id).count - (entry_at entries id).first) (drop (entry_at entries id).first values)) → pushed ≡ flat_map (row_of unit table columns) (take (id + 1) unit.forest.entries)
+      pub row_pushed : (at : ℕ) (items pushed : List Value) → at ≡ unit.head.at → items ≡ flat_map (row_of unit table columns) (take id unit.forest.entries) → pushed ≡ items ++ taken_row at olds (take (d.first + d.count - d.first) (drop d.first columns)) row → pushed ≡ flat_map (row_of unit table columns) (take (id + 1) unit.forest.entries)
       row_pushed at items pushed at_is before is =
           let news : List Spec = take (d.first + d.count - d.first) (drop d.first columns) in
-          let row : taken_row at olds news values_of ≡ row_of unit table columns own =
-          ap (λ (n : ℕ). taken_row n olds news values_of) at_is
-          ∙ ap (λ (cs : List Spec). taken_row unit.head.at cs news values_of) olds_same
-          ∙ ap (λ (cs : List Spec). taken_row unit.head.at (columns_of table table.specs own.decl) cs values_of) news_same
-          ∙ ap (taken_row unit.head.at (columns_of table table.specs own.decl) (columns_of table columns own.decl)) values_same in
+          let taken : taken_row at olds news row ≡ row_of unit table columns own =
+          ap (λ (n : ℕ). taken_row n olds news row) at_is
+          ∙ ap (λ (cs : List Spec). taken_row unit.head.at cs news row) olds_same
+          ∙ ap (λ (cs : List Spec). taken_row unit.head.at (columns_of table table.specs own.decl) cs row) news_same
+          ∙ ap (taken_row unit.head.at (columns_of table table.specs own.decl) (columns_of table columns own.decl)) row_same in
           is
-          ∙ ap (λ (vs : List Value). vs ++ taken_row at olds news values_of) before
-          ∙ ap (λ (vs : List Value). flat_map (row_of unit table columns) (take id unit.forest.entries) ++ vs) row
+          ∙ ap (λ (vs : List Value). vs ++ taken_row at olds news row) before
+          ∙ ap (λ (vs : List Value). flat_map (row_of unit table columns) (take id unit.forest.entries) ++ vs) taken
           ∙ flat_map_more (row_of unit table columns) [] (take id unit.forest.entries) own
           ∙ ap (flat_map (row_of unit table columns)) (sym (take_more unit.forest.entries id (entry_at [] 0) inside))
 

@@ -67,12 +67,12 @@ fn add_unit(
 {
     // What was read stands in bytes of memory.
     bytes_are_small(unit.forest().section());
-    let values = unit.forest().values();
+    let mut row = Vec::new(alloc);
     for entry in unit.forest().entries().iter() {
         let decl = table.decl(entry.decl);
-        let from = entry.first as usize;
-        let row = &values[from..from + entry.count as usize];
-        tallies.add_row(alloc, decl.first as usize, row)?;
+        unit.forest()
+            .read_values(entry.first, entry.count, &mut row)?;
+        tallies.add_row(alloc, decl.first as usize, &row)?;
     }
     Ok(())
 }

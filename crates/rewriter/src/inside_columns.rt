@@ -1,5 +1,5 @@
 // Columns of DW_FORM_ref_addr whose values all name places in their own units, and so can be references within these.
-ghost use Rattle.std.specs.Prelude.{◌≡◌, ◌≢◌, ◌≤◌, ◌<◌, ◌+◌, ◌++◌, ℕ, List, [], ◌∷◌, false, length, map, IfOk};
+ghost use Rattle.std.specs.Prelude.{◌≡◌, ◌≢◌, ◌≤◌, ◌<◌, ◌+◌, ◌++◌, ℕ, List, [], ◌∷◌, false, length, map, IfOk, OnOk};
 ghost use Rattle.form_codec.specs.declared.form.Form.TheVariants.{RefAddr};
 ghost use Rattle.form_codec.specs.Forms.{Meaning, code_of};
 ghost use Rattle.form_codec.specs.Values.{meant_in};
@@ -60,20 +60,26 @@ fn see_row(seen: &mut Vec<Seen>, first: usize, head: &UnitHead, row: &[Value])
 }
 
 // Sees the values of all entries of a unit.
-fn see_unit(seen: &mut Vec<Seen>, table: &Table, unit: &Unit<'_>)
+fn see_unit(
+    alloc: Global,
+    seen: &mut Vec<Seen>,
+    table: &Table,
+    unit: &Unit<'_>,
+) -> Result<(), NoMemory>
     requires table { IsTable table.now }
     requires unit { IsUnitHeld unit.now.forest.section unit.now.head (declarations_of table.now) unit.now.forest }
     requires wide { length seen.old.items ≡ length table.now.specs }
-    ensures { SeesEntries table.now.decls unit.now unit.now.forest.entries seen.old.items seen.new.items }
+    ensures { OnOk result (SeesEntries table.now.decls unit.now unit.now.forest.entries seen.old.items seen.new.items) }
 {
-    let values = unit.forest().values();
     let head = unit.head();
+    let mut row = Vec::new(alloc);
     for entry in unit.forest().entries().iter() {
         let decl = table.decl(entry.decl);
-        let from = entry.first as usize;
-        let row = &values[from..from + entry.count as usize];
-        see_row(seen, decl.first as usize, &head, row);
+        unit.forest()
+            .read_values(entry.first, entry.count, &mut row)?;
+        see_row(seen, decl.first as usize, &head, &row);
     }
+    Ok(())
 }
 
 /// What the values of each column of a table name, over all entries of these units, which have the table. `units` are all units, and
@@ -90,7 +96,7 @@ pub fn see_columns(
 {
     let mut seen = vec![in alloc; Seen::Nothing; table.specs().len()]?;
     for number in named.iter() {
-        see_unit(&mut seen, table, &units[*number as usize]);
+        see_unit(alloc, &mut seen, table, &units[*number as usize])?;
     }
     Ok(seen)
 }

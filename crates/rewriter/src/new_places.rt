@@ -51,7 +51,7 @@ pub fn moved_views(
     requires { length moved.now.items ≡ length views.now.items }
     ensures { IfOk result (λ places. AreMovedViews views.now.items moved.now.items places.items) }
 {
-    let mut places: Vec<MovedViews> = Vec::new(alloc);
+    let mut places: Vec<MovedViews> = Vec::with_capacity(alloc, views.len())?;
     for (number, run) in views.iter().enumerate() {
         places.push(MovedViews {
             list: run.list,

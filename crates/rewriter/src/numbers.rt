@@ -41,7 +41,7 @@ fn entry_number(entries: &[Entry], place: u64) -> usize
     ensures inside { result < length entries.now }
     ensures at { (entry_at entries.now result).at ≡ place }
 {
-    match entries.binary_search_by_key(&place, |entry| entry.at) {
+    match entries.binary_search_by_key(&place, |entry| u64::from(entry.at)) {
         Ok(number) => number,
         // The entry stands there.
         Err(_) => unreachable!(),
@@ -55,7 +55,7 @@ pub(crate) fn end_number(ends: &[ChainEnd], place: u64) -> usize
     ensures inside { result < length ends.now }
     ensures at { (chain_end_at ends.now result).at ≡ place }
 {
-    match ends.binary_search_by_key(&place, |end| end.at) {
+    match ends.binary_search_by_key(&place, |end| u64::from(end.at)) {
         Ok(number) => number,
         // The code stands there.
         Err(_) => unreachable!(),
@@ -266,7 +266,10 @@ pub(crate) fn value_of(world: &World<'_>, own: &Unit<'_>, unit: u32, id: u32, co
     ensures { result ≡ value_in world.now own.now unit id column }
 {
     let first = world.units()[unit as usize].forest().entry(id).first;
-    own.forest().values()[first as usize + column as usize]
+    let forest = own.forest();
+    // The numbers of all values fit 32 bits.
+    let _count = forest.value_count();
+    forest.value(first + column)
 }
 
 // Appends the new numbers of an entry's values.
@@ -308,9 +311,9 @@ fn new_held(
     requires new_places { AreNewPlaces world.now new_places.now }
     ensures { IfOk result (λ held. AreNumbered world.now own.now places.now.items new_places.now unit held.items) }
 {
-    let count = world.units()[unit as usize].forest().len();
-    let mut held: Vec<u64> = Vec::new(alloc);
-    for id in 0..count {
+    let forest = world.units()[unit as usize].forest();
+    let mut held: Vec<u64> = Vec::with_capacity(alloc, forest.value_count() as usize)?;
+    for id in 0..forest.len() {
         push_numbers(&mut held, world, own, places, new_places, unit, id)?;
     }
     Ok(held)

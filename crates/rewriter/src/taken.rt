@@ -77,15 +77,15 @@ fn values_of(
     ensures { IfOk result (λ values. values.items ≡ taken_values table.now news.now unit.now) }
 {
     let at = unit.head().at;
-    let olds = unit.forest().values();
-    let mut values = Vec::with_capacity(alloc, olds.len())?;
+    let mut values = Vec::with_capacity(alloc, unit.forest().value_count() as usize)?;
+    let mut row = Vec::new(alloc);
     for entry in unit.forest().entries().iter() {
         let decl = table.decl(entry.decl);
         let first = decl.first as usize;
         let columns = &news[first..first + decl.count as usize];
-        let from = entry.first as usize;
-        let row = &olds[from..from + entry.count as usize];
-        push_row(&mut values, at, table.columns(entry.decl), columns, row)?;
+        unit.forest()
+            .read_values(entry.first, entry.count, &mut row)?;
+        push_row(&mut values, at, table.columns(entry.decl), columns, &row)?;
     }
     Ok(values)
 }
@@ -112,7 +112,7 @@ pub fn taken_unit<'a>(
         return Ok(None);
     }
     let values = values_of(alloc, unit, old, new)?;
-    Ok(Some(unit.with_values(alloc, values)?))
+    Ok(Some(unit.with_values(alloc, &values)?))
 }
 
 /// The unit with a number as it is written: `taken`, if it may differ from how it was read.

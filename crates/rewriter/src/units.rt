@@ -57,7 +57,15 @@ fn write_numbered(
     let table = world.table_numbers()[number as usize] as usize;
     let old = &world.tables()[table];
     let anew = &tables.tables[table];
-    write_unit(info, unit, &old.table, &anew.columns, &anew.numbers, &new)?;
+    write_unit(
+        alloc,
+        info,
+        unit,
+        &old.table,
+        &anew.columns,
+        &anew.numbers,
+        &new,
+    )?;
     Ok(())
 }
 

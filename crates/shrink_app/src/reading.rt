@@ -77,6 +77,8 @@ pub fn read_file<H: Host>(
     while file.len() <= limit {
         let room = PIECE.min(limit + 1 - file.len());
         if read_on(host, name, &mut piece[..room], &mut file)? == 0 {
+            // It is held while it is read and written anew.
+            file.shrink_to_fit();
             return Ok(file);
         }
     }

@@ -1,7 +1,7 @@
 -- The rows of the slots of values.
 use Rattle.std.proofs.Common.{◌≡◌, ◌≤◌, ◌<◌, ◌+◌, ◌^◌, ℕ, suc, List, [], ◌∷◌, ◌++◌, length, get_or, ◌∙◌, sym, ap, subst, arith}
 use Rattle.std.specs.List.{All}
-use Rattle.std.proofs.lemmas.List.{get_or_default, get_or_append_left, get_or-append-add}
+use Rattle.std.proofs.lemmas.List.{get_or_append_left, get_or-append-add}
 use Rattle.dw_base.specs.declared.fault.Span.{Span}
 use Rattle.leb_codec.specs.Layout.{uleb}
 use Rattle.slot_layout.specs.declared.slots.Slot.{Slot}
@@ -24,10 +24,8 @@ use Rattle.unit_slots.proofs.RowAims.{slots_next, slots_up, aims_of_value}
 use Rattle.unit_slots.proofs.RowLaws.{rows_on, from_push, from_none}
 
 -- the value that is read is the one with its number
-pub value_read : (f lender : Arena) (lent : List Value) (k : ℕ) (d v : Value) → lender ≡ f → lent ≡ lender.values → k < length f.values → get_or lent k d ≡ v → value_at f.values k ≡ v
-value_read f lender lent k d v same is lt read =
-    let there : get_or lent k d ≡ get_or f.values k d = ap (λ (z : List Value). get_or z k d) (is ∙ ap (λ (z : Arena). z.values) same) in
-    sym (get_or_default f.values k d (value.Addr 0) lt) ∙ sym there ∙ read
+pub value_read : (f lender : Arena) (k : ℕ) (read v : Value) → lender ≡ f → read ≡ value_at lender.values k → read ≡ v → value_at f.values k ≡ v
+value_read f lender k read v same is one = ap (λ (z : Arena). value_at z.values k) (sym same) ∙ sym is ∙ one
 
 -- the bytes of an expression lie in the section
 pub span_inside : (f lender : Arena) (k : ℕ) (span : Span) → lender ≡ f → IsInOrder lender → k < length f.values → value_at f.values k ≡ value.Expr span → span.at + span.len ≤ length lender.section

@@ -9,6 +9,7 @@ ghost use Rattle.expr_ops.specs.Expressions.{Operation};
 ghost use Rattle.expr_ops.specs.Ops.{meant, all_meant};
 ghost use Rattle.expr_ops.specs.Shortest.{fixed_length};
 ghost use Rattle.expr_ops.specs.Slots.{Aim, slots_among, op_aim, expression_aims};
+ghost use Rattle.entry_arena.specs.Order.{IsInOrder};
 ghost use Rattle.entry_read.specs.Expressions.{HasOperations};
 ghost use Rattle.entry_read.specs.Slots.{aims_of, aims_before, value_aims, meaning_at, operations_in};
 ghost use Rattle.unit_slots.specs.inside.Added.{AreOperationsOf};
@@ -16,7 +17,7 @@ ghost use Rattle.unit_slots.specs.inside.Rows.{HasSpots, NamesThere, IsRowFor, A
 
 use crate::spots::Spots;
 use dw_base::NoMemory;
-use entry_arena::Operations;
+use entry_arena::{Forest, Operations};
 use entry_read::Unit;
 use expr_ops::{CALL4, ENTRY_VALUE, Op, fixed_len, has_slot, slot_count};
 use form_codec::Value;
@@ -92,6 +93,13 @@ pub(crate) fn push_expression_slots(
     Ok(())
 }
 
+// A law, which costs nothing: what the values of a forest lend lies in its section.
+fn stands_in_order(forest: &Forest<'_>)
+    ensures { IsInOrder forest.now }
+{
+    let _entries = forest.entries();
+}
+
 // Appends the slots of the value with a number.
 fn push_value_slots(
     slots: &mut Vec<Slot>,
@@ -109,7 +117,8 @@ fn push_value_slots(
     ensures { OnOk result ((own : List ℕ) → HasSpots unit.now (operations_in unit.now.forest operations.now) own spots.now → AreRows unit.now (operations_in unit.now.forest operations.now) own (aims_before (meaning_at unit.now.forest) (operations_in unit.now.forest operations.now) number) slots.old.items → AreRows unit.now (operations_in unit.now.forest operations.now) own (aims_before (meaning_at unit.now.forest) (operations_in unit.now.forest operations.now) (suc number)) slots.new.items) }
 {
     let forest = unit.forest();
-    match forest.values()[number as usize] {
+    stands_in_order(forest);
+    match forest.value(number) {
         Value::LocalRef(n) => {
             slots.push(spots.slot(unit, SlotKind::Uleb, n))?;
             Ok(())

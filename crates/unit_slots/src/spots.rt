@@ -57,7 +57,7 @@ impl Spots {
     {
         let entries = unit.forest().entries();
         let place = unit.head().at + n;
-        let before = entries.partition_point(|entry| entry.at < place);
+        let before = entries.partition_point(|entry| u64::from(entry.at) < place);
         let to = self.starts[before];
         Slot {
             kind,

@@ -242,11 +242,8 @@ module _ (f : Arena) (held : HeldOps) (numbers : List ℕ) (order : IsInOrder f)
 -- ONE VALUE
 
 -- a value that was read as an expression
-pub read_expr : (f g : Arena) (values : List Value) (k : ℕ) (d : Value) (span : Span) → g ≡ f → values ≡ g.values → k < length f.values → get_or values k d ≡ value.Expr span → IsExprAt f k span
-read_expr f g values k d span same is lt read =
-    let all : values ≡ f.values = is ∙ ap (λ (z : Arena). z.values) same in
-    let default : value_at f.values k ≡ get_or f.values k d = get_or_default f.values k (value.Addr 0) d lt in
-    record { inside = lt; is = default ∙ ap (λ (z : List Value). get_or z k d) (sym all) ∙ read }
+pub read_expr : (f g : Arena) (k : ℕ) (v : Value) (span : Span) → g ≡ f → v ≡ value_at g.values k → k < length f.values → v ≡ value.Expr span → IsExprAt f k span
+read_expr f g k v span same read lt is = record { inside = lt; is = sym (read ∙ ap (λ (z : Arena). value_at z.values k) same) ∙ is }
 
 same_span : (s t : Span) → value.Expr s ≡ value.Expr t → s ≡ t
 same_span s t e = cc
@@ -280,11 +277,9 @@ expression_is_put few f g held numbers refs k span bytes ops old new order is sp
       none = λ none. absurd (none span is);
     }
 
-pub none_is_put : (f g : Arena) (held : HeldOps) (numbers : List ℕ) (values : List Value) (k : ℕ) (d : Value) (old : List ℕ) → g ≡ f → values ≡ g.values → k < length f.values → ((span : Span) → get_or values k d ≡ value.Expr span → ⊥) → PutsExpression f held numbers k old old
-none_is_put f g held numbers values k d old same is lt none =
-    let all : values ≡ f.values = is ∙ ap (λ (z : Arena). z.values) same in
-    let default : get_or f.values k d ≡ value_at f.values k = get_or_default f.values k d (value.Addr 0) lt in
-    let no_expr : IsNone f k = λ span at. none span (ap (λ (z : List Value). get_or z k d) all ∙ default ∙ at.is) in
+pub none_is_put : (f g : Arena) (held : HeldOps) (numbers : List ℕ) (k : ℕ) (v : Value) (old : List ℕ) → g ≡ f → v ≡ value_at g.values k → ((span : Span) → v ≡ value.Expr span → ⊥) → PutsExpression f held numbers k old old
+none_is_put f g held numbers k v old same read none =
+    let no_expr : IsNone f k = λ span at. none span (read ∙ ap (λ (z : Arena). value_at z.values k) same ∙ at.is) in
     record {
       made = [];
       behind = sym (append-nil old);

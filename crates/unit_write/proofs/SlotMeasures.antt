@@ -23,11 +23,11 @@ use Rattle.unit_write.proofs.FewLaws.{expr_or_other}
 use Rattle.unit_write.proofs.SlotAims.{expression_length}
 
 -- the value that is read is the one with its number
-pub value_same : (f : Arena) (lent : List Value) (k : ℕ) (d : Value) → lent ≡ f.values → k < length f.values → get_or lent k d ≡ value_at f.values k
-value_same f lent k d is lt = ap (λ (z : List Value). get_or z k d) is ∙ get_or_default f.values k d (value.Addr 0) lt
+pub value_same : (f lender : Arena) (k : ℕ) (v : Value) → lender ≡ f → v ≡ value_at lender.values k → v ≡ value_at f.values k
+value_same f lender k v same read = read ∙ ap (λ (z : Arena). value_at z.values k) same
 
-pub value_read : (f lender : Arena) (lent : List Value) (k : ℕ) (d v : Value) → lender ≡ f → lent ≡ lender.values → k < length f.values → get_or lent k d ≡ v → value_at f.values k ≡ v
-value_read f lender lent k d v same is lt read = sym (value_same f lent k d (is ∙ ap (λ (z : Arena). z.values) same) lt) ∙ read
+pub value_read : (f lender : Arena) (k : ℕ) (v w : Value) → lender ≡ f → v ≡ value_at lender.values k → v ≡ w → value_at f.values k ≡ w
+value_read f lender k v w same read is = sym (value_same f lender k v same read) ∙ is
 
 -- neither an expression nor a reference within the unit
 pub other_aims : (section : List ℕ) (v : Value) (os : List Operation) → ((span : Span) → v ≡ value.Expr span → ⊥) → ((n : ℕ) → v ≡ value.LocalRef n → ⊥) → value_aims (meant_in section v) os ≡ []

@@ -68,7 +68,9 @@ fn put_expression(
     // A law, which costs nothing: an expression gets at most three times its bytes.
     shortest_is_few();
     let forest = unit.forest();
-    match forest.values()[number as usize] {
+    // In order the bytes that a value lends lie in the section.
+    let _entries = forest.entries();
+    match forest.value(number) {
         Value::Expr(span) => {
             let refs = new_refs(alloc, operations, number, numbers)?;
             write_shortest(out, operations.of_value(number), &refs, forest.bytes(span))

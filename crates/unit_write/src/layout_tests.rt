@@ -40,7 +40,7 @@ fn is_there(unit: &Unit<'_>, drawn: Drawn) -> bool
     let forest = unit.forest();
     drawn.fixed < 1 << 31
         && drawn.target < forest.len()
-        && unit.head().at <= forest.entry(drawn.target).at
+        && unit.head().at <= u64::from(forest.entry(drawn.target).at)
 }
 
 // The layout of a unit whose entries have no values, written with these codes, where it owns a list with one expression.

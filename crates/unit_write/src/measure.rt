@@ -37,7 +37,9 @@ fn measure_value(
     // Laws, which cost nothing: an expression has no more slots than bytes.
     slots_are_few();
     let forest = unit.forest();
-    let (fixed, slots) = match forest.values()[number as usize] {
+    // In order the bytes that a value lends lie in the section.
+    let _entries = forest.entries();
+    let (fixed, slots) = match forest.value(number) {
         Value::LocalRef(_) => (0, 1),
         Value::Expr(span) => {
             let ops = operations.of_value(number);

@@ -1,10 +1,11 @@
 // The parts of what is written of an entry: the new columns of its declaration, and its values.
-ghost use Rattle.std.specs.Prelude.{◌≡◌, ◌≤◌, ◌<◌, length, take, drop, slice_index};
+ghost use Rattle.std.specs.Prelude.{◌≡◌, ◌≤◌, ◌<◌, length, take, drop, slice_index, OnOk};
 ghost use Rattle.entry_arena.specs.Order.{IsInOrder};
 ghost use Rattle.unit_write.specs.NewExpressions.{begin_of as begin_among, made_of};
 ghost use Rattle.unit_write.specs.Placing.{columns_of, values_in};
 
 use abbrev_tables::{Spec, Table};
+use dw_base::NoMemory;
 use entry_arena::Forest;
 use form_codec::Value;
 
@@ -25,14 +26,16 @@ pub fn new_columns<'a>(table: &Table, specs: &'a [Spec], number: u32) -> &'a [Sp
     part(specs, declared.first, declared.count)
 }
 
-/// The values of the entry with a number.
-pub fn values_of<'a>(forest: &'a Forest<'_>, id: u32) -> &'a [Value]
+/// Reads the values of the entry with a number into `row`, in place of what it holds. The only error is want of memory.
+pub fn read_row(forest: &Forest<'_>, id: u32, row: &mut Vec<Value>) -> Result<(), NoMemory>
     requires { id < length forest.now.entries }
-    ensures values { result.now ≡ values_in forest.entry.now id }
-    ensures order { IsInOrder forest.entry.now }
+    ensures values { OnOk result (row.new.items ≡ values_in forest.now id) }
+    ensures order { IsInOrder forest.now }
 {
+    // In order the values of an entry are among those of the forest.
+    let _entries = forest.entries();
     let entry = forest.entry(id);
-    part(forest.values(), entry.first, entry.count)
+    forest.read_values(entry.first, entry.count, row)
 }
 
 /// Where the bytes of the expression of the value with a number begin, where `ends` says of each value where they end.

@@ -15,7 +15,7 @@ ghost use Rattle.unit_write.specs.inside.Readings.{AreStanding, HasItem, PutsIte
 
 use crate::items::{Items, Next};
 use crate::laws::bytes_are_small;
-use crate::parts::{new_columns, part, values_of};
+use crate::parts::{new_columns, part, read_row};
 use crate::values::written_size;
 use abbrev_tables::{Spec, Table};
 use dw_base::NoMemory;
@@ -66,30 +66,31 @@ fn code_size(numbers: &Vec<u32>, number: u32) -> u64
     u64::from(len_u(u64::from(numbers[number as usize])))
 }
 
-// The place after an entry, which is written at a place.
+// The place after an entry, which is written at a place. Its values are read into `row`.
 fn after_entry(
     forest: &Forest<'_>,
     decls: &Table,
     specs: &Vec<Spec>,
     numbers: &Vec<u32>,
     lens: &Vec<u32>,
+    row: &mut Vec<Value>,
     id: u32,
     at: u64,
-) -> u64
+) -> Result<u64, NoMemory>
     requires id { id < length forest.now.entries }
     requires declared { (entry_at forest.now.entries id).decl < length decls.now.decls }
     requires numbered { length numbers.now.items ≡ length decls.now.decls }
     requires stands { AreStanding forest.now.section (values_in forest.now id) }
     requires room { (size : ℕ) × EntrySize decls.now specs.now.items numbers.now.items forest.now lens.now.items id size × (at + size < least_reserved) }
-    ensures { (size : ℕ) → EntrySize decls.now specs.now.items numbers.now.items forest.now lens.now.items id size → result ≡ at + size }
+    ensures { IfOk result (λ to. (size : ℕ) → EntrySize decls.now specs.now.items numbers.now.items forest.now lens.now.items id size → to ≡ at + size) }
 {
     bytes_are_small(forest.section());
     let entry = forest.entry(id);
     let values_at = at + code_size(numbers, entry.decl);
     let columns = new_columns(decls, specs, entry.decl);
-    let values = values_of(forest, id);
+    read_row(forest, id, row)?;
     let own = part(lens, entry.first, entry.count);
-    after_values(columns, values, own, values_at)
+    Ok(after_values(columns, row, own, values_at))
 }
 
 // Puts what stands next behind all that has its place.
@@ -100,6 +101,7 @@ fn place_next(
     specs: &Vec<Spec>,
     numbers: &Vec<u32>,
     lens: &Vec<u32>,
+    row: &mut Vec<Value>,
     next: Next,
 ) -> Result<(), NoMemory>
     requires fits { places.old.end < least_reserved }
@@ -113,7 +115,16 @@ fn place_next(
     match next {
         Next::Entry(id) => {
             places.entries.push(place)?;
-            places.end = after_entry(unit.forest(), decls, specs, numbers, lens, id, places.end);
+            places.end = after_entry(
+                unit.forest(),
+                decls,
+                specs,
+                numbers,
+                lens,
+                row,
+                id,
+                places.end,
+            )?;
         }
         Next::End => {
             places.ends.push(place)?;
@@ -158,8 +169,21 @@ pub fn place_unit(
         end: start + header_size(unit.head().kind) as u64,
     };
     let mut items = Items::new();
+    let mut row = Vec::new(alloc);
     while let Some(next) = items.next(unit.forest()) {
-        place_next(&mut places, unit, decls, specs, numbers, lens, next)?;
+        place_next(
+            &mut places,
+            unit,
+            decls,
+            specs,
+            numbers,
+            lens,
+            &mut row,
+            next,
+        )?;
     }
+    // The places of all units are held at once.
+    places.entries.shrink_to_fit();
+    places.ends.shrink_to_fit();
     Ok(places)
 }

@@ -126,7 +126,9 @@ fn push_value_slots(
     ensures { OnOk result (AreSlotsMade marks.now spots.now.items (aims_before (meaning_at unit.now.forest) (operations_in unit.now.forest operations.now) (suc number)) slots.new.items) }
 {
     let forest = unit.forest();
-    match forest.values()[number as usize] {
+    // In order the bytes that a value lends lie in the section.
+    let _entries = forest.entries();
+    match forest.value(number) {
         Value::LocalRef(_) => {
             let spot = spots[slots.len()];
             slots.push(marks.slot(SlotKind::Uleb, spot))?;

@@ -19,7 +19,7 @@ ghost use Rattle.unit_write.specs.inside.Puts.{AreNew, PutsValues, PutsEntry, Pu
 
 use crate::expressions::NewExpressions;
 use crate::items::{Items, Next};
-use crate::parts::{made_for, new_columns, values_of};
+use crate::parts::{made_for, new_columns, read_row};
 use crate::values::put_value;
 use abbrev_tables::{Spec, Table};
 use dw_base::NoMemory;
@@ -27,6 +27,7 @@ use dw_base::constants::{DW_UT_SKELETON, DW_UT_TYPE};
 use entry_read::{Unit, UnitHead};
 use form_codec::{Value, Width, put_low};
 use leb_codec::put_u;
+use std::alloc::Global;
 
 const VERSION: u64 = 5;
 
@@ -111,7 +112,7 @@ fn put_values(
     Ok(())
 }
 
-// Appends the entry with a number, or a front of it: the new code of its declaration, and its values.
+// Appends the entry with a number, or a front of it: the new code of its declaration, and its values, which `row` is for.
 fn put_entry(
     out: &mut Vec<u8>,
     unit: &Unit<'_>,
@@ -119,6 +120,7 @@ fn put_entry(
     specs: &[Spec],
     numbers: &[u32],
     new: &NewNumbers,
+    row: &mut Vec<Value>,
     id: u32,
 ) -> Result<(), NoMemory>
     requires writable { IsWritable unit.now decls.now specs.now numbers.now (lens_anew unit.now.forest (new_values new.now)) }
@@ -129,11 +131,12 @@ fn put_entry(
 {
     let forest = unit.forest();
     let entry = forest.entry(id);
+    read_row(forest, id, row)?;
     put_u(out, u64::from(numbers[entry.decl as usize]))?;
     put_values(
         out,
         new_columns(decls, specs, entry.decl),
-        values_of(forest, id),
+        row,
         forest.section(),
         entry.first,
         new,
@@ -148,6 +151,7 @@ fn put_next(
     specs: &[Spec],
     numbers: &[u32],
     new: &NewNumbers,
+    row: &mut Vec<Value>,
     next: Next,
 ) -> Result<(), NoMemory>
     requires writable { IsWritable unit.now decls.now specs.now numbers.now (lens_anew unit.now.forest (new_values new.now)) }
@@ -157,7 +161,7 @@ fn put_next(
     ensures err { OnErr result (Extends out.old.items out.new.items) }
 {
     match next {
-        Next::Entry(id) => put_entry(out, unit, decls, specs, numbers, new, id),
+        Next::Entry(id) => put_entry(out, unit, decls, specs, numbers, new, row, id),
         Next::End => {
             out.push(0)?;
             Ok(())
@@ -167,6 +171,7 @@ fn put_next(
 
 // Appends the entries of a unit and the codes 0 that end chains, in the order of their places, or a front of them.
 fn put_items(
+    alloc: Global,
     out: &mut Vec<u8>,
     unit: &Unit<'_>,
     decls: &Table,
@@ -180,14 +185,16 @@ fn put_items(
     ensures grows { Extends out.old.items out.new.items }
 {
     let mut items = Items::new();
+    let mut row = Vec::new(alloc);
     while let Some(next) = items.next(unit.forest()) {
-        put_next(out, unit, decls, specs, numbers, new, next)?;
+        put_next(out, unit, decls, specs, numbers, new, &mut row, next)?;
     }
     Ok(())
 }
 
 // Appends a unit written anew, or a front of it.
 fn put_unit(
+    alloc: Global,
     out: &mut Vec<u8>,
     unit: &Unit<'_>,
     decls: &Table,
@@ -206,7 +213,7 @@ fn put_unit(
 {
     let len = new.end - out.len() as u64 - 4;
     put_head(out, unit.head(), len, new)?;
-    put_items(out, unit, decls, specs, numbers, new)
+    put_items(alloc, out, unit, decls, specs, numbers, new)
 }
 
 /// Appends a unit written anew (DWARF 5 section 7.5) to `out`, the front of a new .debug_info, with the unit's table `decls`, a
@@ -217,6 +224,7 @@ fn put_unit(
 /// `place_unit` says where each reference within the unit and each length of an expression is as long as its number needs. The only
 /// error is want of memory; it leaves `out` as it was.
 pub fn write_unit(
+    alloc: Global,
     out: &mut Vec<u8>,
     unit: &Unit<'_>,
     decls: &Table,
@@ -236,7 +244,7 @@ pub fn write_unit(
     ensures unchanged { OnErr result (out.new.items ≡ out.old.items) }
 {
     let start = out.len();
-    match put_unit(out, unit, decls, specs, numbers, new) {
+    match put_unit(alloc, out, unit, decls, specs, numbers, new) {
         Ok(()) => Ok(()),
         Err(error) => {
             out.truncate(start);

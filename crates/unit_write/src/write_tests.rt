@@ -14,7 +14,7 @@ ghost use Rattle.unit_write.specs.NewExpressions.{lens_of, new_len, new_lens};
 ghost use Rattle.unit_write.specs.Moved.{IsWritable};
 
 use crate::laws::bytes_are_small;
-use crate::parts::{new_columns, values_of};
+use crate::parts::{new_columns, read_row};
 use crate::place_tests::has_room;
 use crate::write::put_head;
 use crate::{NewExpressions, NewNumbers, place_unit, write_expressions, write_unit};
@@ -107,20 +107,27 @@ fn are_sized(columns: &[Spec], values: &[Value]) -> bool
 }
 
 // Whether it can for all entries of a unit.
-fn entries_are_sized(unit: &Unit<'_>, table: &Table, specs: &[Spec]) -> bool
-    ensures { IsTrue result → (id : ℕ) → id < length unit.now.forest.entries → ((entry_at unit.now.forest.entries id).decl < length table.now.decls) × ((section lens : List ℕ) → length section < 2 ^ 63 → All (IsValueIn section) (values_in unit.now.forest id) → length lens ≡ length (values_in unit.now.forest id) → (size : ℕ) × HaveSize section (columns_of table.now specs.now (entry_at unit.now.forest.entries id).decl) (values_in unit.now.forest id) lens size) }
+fn entries_are_sized(
+    alloc: Global,
+    unit: &Unit<'_>,
+    table: &Table,
+    specs: &[Spec],
+) -> Result<bool, NoMemory>
+    ensures { IfOk result (λ sized. IsTrue sized → (id : ℕ) → id < length unit.now.forest.entries → ((entry_at unit.now.forest.entries id).decl < length table.now.decls) × ((section lens : List ℕ) → length section < 2 ^ 63 → All (IsValueIn section) (values_in unit.now.forest id) → length lens ≡ length (values_in unit.now.forest id) → (size : ℕ) × HaveSize section (columns_of table.now specs.now (entry_at unit.now.forest.entries id).decl) (values_in unit.now.forest id) lens size)) }
 {
     let forest = unit.forest();
+    let mut row = Vec::new(alloc);
     for id in 0..forest.len() {
         let number = forest.entry(id).decl;
         if number >= table.len() {
-            return false;
+            return Ok(false);
         }
-        if !are_sized(new_columns(table, specs, number), values_of(forest, id)) {
-            return false;
+        read_row(forest, id, &mut row)?;
+        if !are_sized(new_columns(table, specs, number), &row) {
+            return Ok(false);
         }
     }
-    true
+    Ok(true)
 }
 
 fn are_used(numbers: &[u32]) -> bool
@@ -131,25 +138,26 @@ fn are_used(numbers: &[u32]) -> bool
 
 // Whether a unit can be written with these columns and codes.
 fn is_writable(
+    alloc: Global,
     unit: &Unit<'_>,
     table: &Table,
     specs: &Vec<Spec>,
     numbers: &Vec<u32>,
     lens: &Vec<u32>,
-) -> bool
+) -> Result<bool, NoMemory>
     requires head { IsHead unit.now.forest.section unit.now.head }
     requires held { IsUnitHeld unit.now.forest.section unit.now.head (declarations_of table.now) unit.now.forest }
     requires lens { AreLensFor unit.now.forest lens.now.items }
-    ensures { IsTrue result → IsWritable unit.now table.now specs.now.items numbers.now.items lens.now.items }
+    ensures { IfOk result (λ writable. IsTrue writable → IsWritable unit.now table.now specs.now.items numbers.now.items lens.now.items) }
 {
     bytes_are_small(unit.forest().section());
     if specs.len() != table.specs().len() || numbers.len() != table.len() as usize {
-        return false;
+        return Ok(false);
     }
     if !are_used(numbers) {
-        return false;
+        return Ok(false);
     }
-    entries_are_sized(unit, table, specs)
+    entries_are_sized(alloc, unit, table, specs)
 }
 
 // Whether these are so many numbers of 32 bits.
@@ -183,9 +191,12 @@ fn lens_for(
 ) -> Result<Vec<u32>, Fail>
     ensures { IfOk result (λ lens. lens.items ≡ new_lens unit.now.forest.section unit.now.forest.values held.now.items (lens_of ends.now.items)) }
 {
+    let forest = unit.forest();
+    let mut values: Vec<Value> = Vec::new(alloc);
+    forest.read_values(0, forest.value_count(), &mut values)?;
     let mut lens: Vec<u32> = Vec::new(alloc);
     let mut begin = 0u32;
-    for ((value, number), end) in unit.forest().values().iter().zip(held).zip(ends) {
+    for ((value, number), end) in values.iter().zip(held).zip(ends) {
         let len = len_for(value, *number, begin, *end).ok_or("too long")?;
         lens.push(len)?;
         begin = *end;
@@ -229,7 +240,7 @@ fn write_sized(
     }
     let expressions = write_expressions(alloc, unit, operations, &references)?;
     let lens = lens_for(alloc, unit, &held, &expressions.ends)?;
-    if !is_writable(unit, table, &specs, &numbers, &lens) {
+    if !is_writable(alloc, unit, table, &specs, &numbers, &lens)? {
         return Err("not writable")?;
     }
     if !has_room(unit, 2) {
@@ -244,7 +255,7 @@ fn write_sized(
         expressions,
     };
     let mut out = [0xaa, 0xbb].to_vec(alloc)?;
-    write_unit(&mut out, unit, table, &specs, &numbers, &new)?;
+    write_unit(alloc, &mut out, unit, table, &specs, &numbers, &new)?;
     Ok(out)
 }
 

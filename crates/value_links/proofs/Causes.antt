@@ -1,6 +1,6 @@
 -- Why values name nothing.
 use Rattle.std.proofs.Common.{◌≡◌, ◌≤◌, ◌<◌, ◌+◌, ◌∙◌, ◌-◌, take, drop, ℕ, List, length, get_or, sym, subst, refl, arith}
-use Rattle.std.proofs.lemmas.List.{length-drop, length-take-le, get_or-take, get_or-drop, get_or_read_under}
+use Rattle.std.proofs.lemmas.List.{length-drop, length-take-le, get_or-take, get_or-drop}
 use Rattle.dw_base.specs.declared.fault.Kind.{Kind}
 use Rattle.dw_base.specs.declared.fault.Kind.TheVariants.{Pointer, NoBase}
 use Rattle.form_codec.specs.declared.value.Value.{Value}
@@ -19,10 +19,6 @@ use Rattle.value_links.specs.LinkFaults.{NamesNothing, FaultValue}
 use Rattle.value_links.specs.inside.Checks.{IsBaseCause, IsCause, IsNoExpr}
 
 -- VALUES BY THEIR NUMBERS
-
--- a value that is read at the place of a column among the values of all entries
-pub value_read : (values : List Value) (first count k : ℕ) (v : Value) → first + count ≤ length values → k < count → v ≡ get_or values (first + k) v → v ≡ value_at values (first + k)
-value_read values first count k v there inside read = get_or_read_under values (first + k) (length values) v (value.Addr 0) read (omega arith) refl
 
 -- the values of an entry, by their numbers among all
 pub own_value : (values : List Value) (first count k : ℕ) → k < count → value_at (take count (drop first values)) k ≡ value_at values (first + k)

@@ -108,13 +108,13 @@ module _ (file : List ℕ) (r : Linkable) (parts : Parts) (holds : HoldsParts fi
           ap (λ (z : Listing). (spec_at (declared_at (declarations_of z) entry.decl).columns k).name) (t ∙ table_same)
           ∙ ap (λ (z : Entry). (spec_at (declared_at (declarations (unit_at r u)) z.decl).columns k).name) entry_same
 
-      value_same : (values : List Value) (k : ℕ) → values ≡ (held_at parts.units.units.items u).forest.values → value_at values (entry.first + k) ≡ value_at (unit_at r u).forest.values ((entry_of (unit_at r u) id).first + k)
-      value_same values k v =
-          ap (λ (z : List Value). value_at z (entry.first + k)) (v ∙ ap (λ (z : HeadAndForest). z.forest.values) unit_same)
+      value_same : (k : ℕ) → value_at (held_at parts.units.units.items u).forest.values (entry.first + k) ≡ value_at (unit_at r u).forest.values ((entry_of (unit_at r u) id).first + k)
+      value_same k =
+          ap (λ (z : HeadAndForest). value_at z.forest.values (entry.first + k)) unit_same
           ∙ ap (λ (z : Entry). value_at (unit_at r u).forest.values (z.first + k)) entry_same
 
       -- what the value of a column names is added
-      pub column_joined : (kind : ListKind) (xs ys : List (ℕ × ℕ)) (values : List Value) (k name : ℕ) (value : Value) → values ≡ (held_at parts.units.units.items u).forest.values → name ≡ (spec_at (declared_at (declarations_of table) entry.decl).columns k).name → value ≡ value_at values (entry.first + k) → AreJoined xs ys (λ y. ValueNames r kind u id name (meant_in (unit_at r u).forest.section value) y.0 × (y.1 ≡ u)) → AreJoined xs ys (λ y. ColumnNames r kind u id k y.0 × (y.1 ≡ u))
-      column_joined kind xs ys values k name value v n w joined =
+      pub column_joined : (kind : ListKind) (xs ys : List (ℕ × ℕ)) (k name : ℕ) (value : Value) → name ≡ (spec_at (declared_at (declarations_of table) entry.decl).columns k).name → value ≡ value_at (held_at parts.units.units.items u).forest.values (entry.first + k) → AreJoined xs ys (λ y. ValueNames r kind u id name (meant_in (unit_at r u).forest.section value) y.0 × (y.1 ≡ u)) → AreJoined xs ys (λ y. ColumnNames r kind u id k y.0 × (y.1 ≡ u))
+      column_joined kind xs ys k name value n w joined =
           subst (λ (z : ℕ). AreJoined xs ys (λ y. ValueNames r kind u id z (meant_in (unit_at r u).forest.section (value_at (unit_at r u).forest.values ((entry_of (unit_at r u) id).first + k))) y.0 × (y.1 ≡ u))) (n ∙ name_same k)
-          (subst (λ (z : Value). AreJoined xs ys (λ y. ValueNames r kind u id name (meant_in (unit_at r u).forest.section z) y.0 × (y.1 ≡ u))) (w ∙ value_same values k v) joined)
+          (subst (λ (z : Value). AreJoined xs ys (λ y. ValueNames r kind u id name (meant_in (unit_at r u).forest.section z) y.0 × (y.1 ≡ u))) (w ∙ value_same k) joined)

@@ -71,7 +71,9 @@ pub(crate) fn attribute_of(unit: &Unit<'_>, table: &Table, id: u32, column: u32)
     let forest = unit.forest();
     let entry = forest.entry(id);
     let name = column_name(table, entry.decl, column);
-    let value = forest.values()[entry.first as usize + column as usize];
+    // Numbers of 32 bits name the values.
+    let _count = forest.value_count();
+    let value = forest.value(entry.first + column);
     (name, value)
 }
 

@@ -191,10 +191,11 @@ fn push_entry(
     let forest = unit_of(&parts.units, unit).forest();
     let table = table_of(&parts.units, unit);
     let entry = forest.entry(id);
-    let values = forest.values();
+    // Numbers of 32 bits name the values.
+    let _count = forest.value_count();
     for column in 0..entry.count {
         let name = column_name(table, entry.decl, column);
-        let value = values[entry.first as usize + column as usize];
+        let value = forest.value(entry.first + column);
         push_value(namings, parts, kind, unit, name, &value)?;
     }
     Ok(())

@@ -1,5 +1,6 @@
 use Rattle.check_classes.proofs.TreeEnds.{count_some, end_fits, bare_ends, entry_behind, code_there, code_behind}
-use Rattle.std.proofs.Common.{◌<◌, ◌≤◌, ◌+◌, ◌^◌, arith}
+use Rattle.std.proofs.Common.{◌≡◌, ◌<◌, ◌≤◌, ◌+◌, ◌^◌, subst, arith}
+use Rattle.check_classes.specs.inside.Paddings.{IsTreeEnd}
 use Rattle.check_classes.proofs.units.tree_end.Goals as goal
 
 pub overflow_sub-len : goal.overflow_sub-len
@@ -17,16 +18,23 @@ overflow_add-end c =
 
 pub code_end-requires : goal.code_end-requires
 code_end-requires c =
-    code_there c.args.unit.now c.requires.held c.forest-forest.result.now c.forest-forest.ensures c.len.result c.len.ensures c.entry-last.result c.entry-last.ensures c.chain_ends.result.now c.chain_ends.ensures.ends c.in-Some.code.now c.in-Some.ensures.item.3.0 c.in-Some.ensures.item.1 c.if-end-code.true c.section.result.now c.section.ensures
+    let reached : c.entry-last.result.at + c.entry-last.result.len ≤ c.in-Some.code.now.at = omega (arith, c.if-end-from.true, c.from.ensures, c.from-2.ensures, c.from-in-Some.ensures) in
+    code_there c.args.unit.now c.requires.held c.forest-forest.result.now c.forest-forest.ensures c.len.result c.len.ensures c.entry-last.result c.entry-last.ensures c.chain_ends.result.now c.chain_ends.ensures.ends c.in-Some.code.now c.in-Some.ensures.item.3.0 c.in-Some.ensures.item.1 reached c.section.result.now c.section.ensures
 
-pub returns-then-end-code : goal.returns-then-end-code
-returns-then-end-code c =
-    code_behind c.args.unit.now c.requires.held c.forest-forest.result.now c.forest-forest.ensures c.len.result c.len.ensures c.entry-last.result c.entry-last.ensures c.chain_ends.result.now c.chain_ends.ensures.ends c.in-Some.code.now c.in-Some.ensures.item.3.0 c.in-Some.ensures.item.1 c.if-end-code.true c.section.result.now c.section.ensures c.code_end.result c.code_end.ensures
+pub returns-then-end-from : goal.returns-then-end-from
+returns-then-end-from c =
+    let reached : c.entry-last.result.at + c.entry-last.result.len ≤ c.in-Some.code.now.at = omega (arith, c.if-end-from.true, c.from.ensures, c.from-2.ensures, c.from-in-Some.ensures) in
+    code_behind c.args.unit.now c.requires.held c.forest-forest.result.now c.forest-forest.ensures c.len.result c.len.ensures c.entry-last.result c.entry-last.ensures c.chain_ends.result.now c.chain_ends.ensures.ends c.in-Some.code.now c.in-Some.ensures.item.3.0 c.in-Some.ensures.item.1 reached c.section.result.now c.section.ensures c.code_end.result c.code_end.ensures
 
-pub returns-else-end-code : goal.returns-else-end-code
-returns-else-end-code c =
-    entry_behind c.args.unit.now c.requires.held c.forest-forest.result.now c.forest-forest.ensures c.len.result c.len.ensures c.entry-last.result c.entry-last.ensures c.chain_ends.result.now c.chain_ends.ensures.ends c.in-Some.code.now c.in-Some.ensures.item.3.0 c.in-Some.ensures.item.1 c.if-end-code.false
+pub returns-else-end-from : goal.returns-else-end-from
+returns-else-end-from c =
+    let short : c.in-Some.code.now.at < c.entry-last.result.at + c.entry-last.result.len = omega (arith, c.if-end-from.false, c.from.ensures, c.from-2.ensures, c.from-in-Some.ensures) in
+    let sum : c.entry-last.result.at + c.entry-last.result.len ≡ c.from.result + c.from-2.result = omega (arith, c.from.ensures, c.from-2.ensures) in
+    subst (IsTreeEnd c.args.unit.now) sum
+    (entry_behind c.args.unit.now c.requires.held c.forest-forest.result.now c.forest-forest.ensures c.len.result c.len.ensures c.entry-last.result c.entry-last.ensures c.chain_ends.result.now c.chain_ends.ensures.ends c.in-Some.code.now c.in-Some.ensures.item.3.0 c.in-Some.ensures.item.1 short)
 
 pub returns-in_default : goal.returns-in_default
 returns-in_default c =
-    bare_ends c.args.unit.now c.requires.held c.forest-forest.result.now c.forest-forest.ensures c.len.result c.len.ensures c.entry-last.result c.entry-last.ensures c.chain_ends.result.now c.chain_ends.ensures.ends c.in_default.ensures.item.3
+    let sum : c.entry-last.result.at + c.entry-last.result.len ≡ c.from.result + c.from-2.result = omega (arith, c.from.ensures, c.from-2.ensures) in
+    subst (IsTreeEnd c.args.unit.now) sum
+    (bare_ends c.args.unit.now c.requires.held c.forest-forest.result.now c.forest-forest.ensures c.len.result c.len.ensures c.entry-last.result c.entry-last.ensures c.chain_ends.result.now c.chain_ends.ensures.ends c.in_default.ensures.item.3)

@@ -15,7 +15,7 @@ returns-then-not-branch c =
     let now = c.loop-id.pairings in
     let after = c.add_pair.new.pairings in
     let inside : id < length written = search rules in
-    first_apart c.args.pairings.now old written now id c.loop-id.invariant k w refl refl after (entry_at written id).at inside refl
+    first_apart c.args.pairings.now old written now id c.loop-id.invariant k w refl refl after c.from.result inside c.from.ensures
     (subst (λ (z : Bool). IsAdded now after k w z) c.if-not-branch.true c.in_ok-add_pair.ensures)
 
 pub loop-id-preserved : goal.loop-id-preserved

@@ -21,7 +21,7 @@ push_chain_end-requires c =
     let ds = declarations_of c.args.table.now in
     let chains = innermost c.args.chains.now.items c.pop.new.self.items c.in-Some.id c.in-Some.ensures.items in
     let coded = subst (λ (z : ℕ). SpellsBetween (Uleb z) c.args.info.now c.args.at c.in-Ok.code.end) c.if-code-ne0.false c.in-Ok.ensures.read.2 in
-    pushed_end c.args.info.now scope.head ds scope.before c.args.forest.now (reverse c.args.chains.now.items) (reverse c.pop.new.self.items) c.in-Some.id c.args.at c.in-Ok.code.end c.requires.front chains coded
+    rw c.in_ok-narrow.ensures (pushed_end c.args.info.now scope.head ds scope.before c.args.forest.now (reverse c.args.chains.now.items) (reverse c.pop.new.self.items) c.in-Some.id c.args.at c.in-Ok.code.end c.requires.front chains coded)
 
 pub returns-clause-front : goal.returns-clause-front
 returns-clause-front c =
@@ -31,4 +31,5 @@ returns-clause-front c =
     let inside : c.in-Ok.code.end ≤ c.end-end.result = c.in-Ok.ensures.read.1 in
     let chains = innermost c.args.chains.now.items c.pop.new.self.items c.in-Some.id c.in-Some.ensures.items in
     let coded = subst (λ (z : ℕ). SpellsBetween (Uleb z) c.args.info.now c.args.at c.in-Ok.code.end) c.if-code-ne0.false c.in-Ok.ensures.read.2 in
-    front_end c.args.info.now scope.head ds scope.before c.args.forest.now (reverse c.args.chains.now.items) (reverse c.pop.new.self.items) c.in-Some.id c.args.at c.in-Ok.code.end c.requires.front chains coded c.push_chain_end.new.self c.in_ok-push_chain_end.ensures.pushed (omega arith)
+    let pushed = rw c.in_ok-narrow.ensures at c.in_ok-push_chain_end.ensures.pushed in
+    front_end c.args.info.now scope.head ds scope.before c.args.forest.now (reverse c.args.chains.now.items) (reverse c.pop.new.self.items) c.in-Some.id c.args.at c.in-Ok.code.end c.requires.front chains coded c.push_chain_end.new.self pushed (omega arith)

@@ -12,7 +12,7 @@ is_long-requires-clause-number c = end_begins c.args.info.now c.args.ends.now c.
 
 pub loop-end-preserved : goal.loop-end-preserved
 loop-end-preserved c =
-    end_more c.args.info.now c.args.ends.now c.requires c.loop-end.end-index c.loop-end-test.true c.is_long.result c.loop-end.first c.then_some-here.result c.earlier-first.result c.is_long.ensures c.then_some-here.ensures c.loop-end.invariant c.earlier-first.ensures
+    end_more c.args.info.now c.args.ends.now c.requires c.loop-end.end-index c.loop-end-test.true c.is_long.result c.loop-end.first c.then_some-here.result c.earlier-first.result c.is_long.ensures (rw c.from.ensures at c.then_some-here.ensures) c.loop-end.invariant c.earlier-first.ensures
 
 pub returns : goal.returns
 returns c =

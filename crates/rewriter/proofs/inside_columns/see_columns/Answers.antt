@@ -21,4 +21,4 @@ loop-number-preserved c =
     let listed : c.deref-number-items.result.now ≡ named = c.deref-number-items.ensures.value in
     let inside : n < length named = subst (λ (z : List ℕ). n < length z) listed c.loop-number-test.true in
     let unit_is = at_number units table named c.requires.named.0 c.requires.named.1 n inside number (ap (λ (z : List ℕ). get_or z n 0) listed) c.index.result.now c.index.ensures in
-    unit_sees units table named n inside c.index.result.now unit_is (length table.specs) c.loop-number.seen.items c.see_unit.new.seen.items c.loop-number.invariant c.see_unit.ensures
+    unit_sees units table named n inside c.index.result.now unit_is (length table.specs) c.loop-number.seen.items c.see_unit.new.seen.items c.loop-number.invariant c.in_ok-see_unit.ensures

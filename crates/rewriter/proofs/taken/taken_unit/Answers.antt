@@ -81,9 +81,9 @@ with_values-requires c =
     let old = named_is c.args.world.now c.args.number c.tables.result.now.items c.table_numbers.result.now.items c.index.result.now c.index-2.result.now has.numbered has.old c.tables.ensures c.table_numbers.ensures c.index.ensures c.index-2.ensures in
     let new = new_table_is c.args.world.now c.args.tables.now.items c.args.number c.table_numbers.result.now.items c.index.result.now c.index-3.result.now has c.table_numbers.ensures c.index.ensures c.index-3.ensures in
     let columns : List Spec = (new_table_at c.args.tables.now.items (slice_index world.table_of number)).columns in
-    let values : c.in_ok-values.values.items ≡ taken_values (table_for world number) columns (unit_in world.units number) = c.in_ok-values.ensures ∙ values_same c.index-2.result.now c.deref-2.result.now c.index-unit.result.now (table_at world.tables (slice_index world.table_of number)) columns (unit_in world.units number) old (c.deref-2.ensures.value ∙ ap (λ (t : TableAnew). t.columns) new) own in
+    let values : c.deref-3.result.now ≡ taken_values (table_for world number) columns (unit_in world.units number) = c.deref-3.ensures.value ∙ c.in_ok-values.ensures ∙ values_same c.index-2.result.now c.deref-2.result.now c.index-unit.result.now (table_at world.tables (slice_index world.table_of number)) columns (unit_in world.units number) old (c.deref-2.ensures.value ∙ ap (λ (t : TableAnew). t.columns) new) own in
     let alike = lend_alike c.args.world.now c.args.tables.now.items c.args.number c.requires.world c.requires.writable c.requires.known in
-    subst (λ (h : HeadAndForest). LendAlike h.forest.values c.in_ok-values.values.items) (sym own) (subst (LendAlike (unit_in world.units number).forest.values) (sym values) alike)
+    subst (λ (h : HeadAndForest). LendAlike h.forest.values c.deref-3.result.now) (sym own) (subst (LendAlike (unit_in world.units number).forest.values) (sym values) alike)
 
 pub returns : goal.returns
 returns c =
@@ -94,7 +94,7 @@ returns c =
     let old = named_is c.args.world.now c.args.number c.tables.result.now.items c.table_numbers.result.now.items c.index.result.now c.index-2.result.now has.numbered has.old c.tables.ensures c.table_numbers.ensures c.index.ensures c.index-2.ensures in
     let new = new_table_is c.args.world.now c.args.tables.now.items c.args.number c.table_numbers.result.now.items c.index.result.now c.index-3.result.now has c.table_numbers.ensures c.index.ensures c.index-3.ensures in
     let columns : List Spec = (new_table_at c.args.tables.now.items (slice_index world.table_of number)).columns in
-    let values : c.in_ok-values.values.items ≡ taken_values (table_for world number) columns (unit_in world.units number) = c.in_ok-values.ensures ∙ values_same c.index-2.result.now c.deref-2.result.now c.index-unit.result.now (table_at world.tables (slice_index world.table_of number)) columns (unit_in world.units number) old (c.deref-2.ensures.value ∙ ap (λ (t : TableAnew). t.columns) new) own in
+    let values : c.deref-3.result.now ≡ taken_values (table_for world number) columns (unit_in world.units number) = c.deref-3.ensures.value ∙ c.in_ok-values.ensures ∙ values_same c.index-2.result.now c.deref-2.result.now c.index-unit.result.now (table_at world.tables (slice_index world.table_of number)) columns (unit_in world.units number) old (c.deref-2.ensures.value ∙ ap (λ (t : TableAnew). t.columns) new) own in
     c.in_ok-with_values.ensures
-    ∙ ap (λ (h : HeadAndForest). unit_with h c.in_ok-values.values.items) own
+    ∙ ap (λ (h : HeadAndForest). unit_with h c.deref-3.result.now) own
     ∙ ap (λ (vs : List Value). unit_with (unit_in world.units number) vs) values

@@ -28,10 +28,11 @@ push_row-requires c =
     let id : ℕ = c.loop-entry.entry-index in
     let entries : List Entry = c.entries-entry-items.result.now in
     let entries_are : entries ≡ unit.forest.entries = c.entries-entry-items.ensures.entries ∙ ap (λ f. f.entries) c.forest-2.ensures in
-    let values : List Value = c.values-olds.result.now in
-    let values_are : values ≡ unit.forest.values = c.values-olds.ensures.values ∙ ap (λ f. f.values) c.forest.ensures in
+    let values : List Value = c.forest-in-loop-entry.result.now.values in
+    let values_are = ap (λ f. f.values) c.forest-in-loop-entry.ensures in
+    let row_is = c.deref.ensures.value ∙ c.in_ok-read_values.ensures.values in
     record {
-      columns = (olds_count unit table news c.requires.table c.requires.unit c.requires.renewed entries entries_are id c.loop-entry-test.true c.decl-decl.result c.decl-decl.ensures c.columns.result.now c.columns.ensures values values_are, news_count unit table news c.requires.table c.requires.unit c.requires.renewed entries entries_are id c.loop-entry-test.true c.decl-decl.result c.decl-decl.ensures c.columns.result.now c.columns.ensures values values_are);
+      columns = (olds_count unit table news c.requires.table c.requires.unit c.requires.renewed entries entries_are id c.loop-entry-test.true c.decl-decl.result c.decl-decl.ensures c.columns.result.now c.columns.ensures values values_are c.deref.result.now row_is, news_count unit table news c.requires.table c.requires.unit c.requires.renewed entries entries_are id c.loop-entry-test.true c.decl-decl.result c.decl-decl.ensures c.columns.result.now c.columns.ensures values values_are c.deref.result.now row_is);
     }
 
 pub loop-entry-preserved : goal.loop-entry-preserved
@@ -40,10 +41,11 @@ loop-entry-preserved c =
     let id : ℕ = c.loop-entry.entry-index in
     let entries : List Entry = c.entries-entry-items.result.now in
     let entries_are : entries ≡ unit.forest.entries = c.entries-entry-items.ensures.entries ∙ ap (λ f. f.entries) c.forest-2.ensures in
-    let values : List Value = c.values-olds.result.now in
-    let values_are : values ≡ unit.forest.values = c.values-olds.ensures.values ∙ ap (λ f. f.values) c.forest.ensures in
+    let values : List Value = c.forest-in-loop-entry.result.now.values in
+    let values_are = ap (λ f. f.values) c.forest-in-loop-entry.ensures in
+    let row_is = c.deref.ensures.value ∙ c.in_ok-read_values.ensures.values in
     let at_is : c.head-at.result.at ≡ unit.head.at = ap (λ h. h.at) c.head-at.ensures in
-    row_pushed unit c.args.table.now c.args.news.now c.requires.table c.requires.unit c.requires.renewed entries entries_are id c.loop-entry-test.true c.decl-decl.result c.decl-decl.ensures c.columns.result.now c.columns.ensures values values_are c.head-at.result.at c.loop-entry.values.items c.push_row.new.values.items at_is c.loop-entry.invariant c.in_ok-push_row.ensures
+    row_pushed unit c.args.table.now c.args.news.now c.requires.table c.requires.unit c.requires.renewed entries entries_are id c.loop-entry-test.true c.decl-decl.result c.decl-decl.ensures c.columns.result.now c.columns.ensures values values_are c.deref.result.now row_is c.head-at.result.at c.loop-entry.values.items c.push_row.new.values.items at_is c.loop-entry.invariant c.in_ok-push_row.ensures
 
 pub returns : goal.returns
 returns c =

@@ -9,7 +9,7 @@ returns-then-branch-eq0-clause-read g c = λ x told.
     let new = c.read_on.new.file in
     let old = c.loop-file.file in
     let within : length new.items ≤ c.args.limit + 1 = omega (arith, c.in_ok-read_on.ensures.grown.1, new.ok.0, old.ok.0) in
-    whole_read _ _ _ read.0 (read.1 c.if-branch-eq0.true) within
+    c.shrink_to_fit.ensures.items ∙ whole_read _ _ _ read.0 (read.1 c.if-branch-eq0.true) within
 
 pub returns-clause-read : goal.returns-clause-read
 returns-clause-read g c = λ x told.

@@ -17,8 +17,8 @@ use Rattle.unit_write.proofs.measure.measure_value.Goals as goal
 pub bytes-requires : goal.bytes-requires
 bytes-requires c =
     let f : Arena = c.args.unit.now.forest in
-    let is : value_at f.values c.args.number ≡ value.Expr c.in-Expr.span = value_read f c.forest-forest.result.now c.values.result.now c.args.number _ _ c.forest-forest.ensures c.values.ensures.values c.requires.number c.in-Expr.is in
-    let order = subst (λ (z : Arena). IsInOrder z) c.forest-forest.ensures c.values.ensures.order in
+    let is : value_at f.values c.args.number ≡ value.Expr c.in-Expr.span = value_read f c.forest-forest.result.now c.args.number c.value.result _ c.forest-forest.ensures c.value.ensures c.in-Expr.is in
+    let order = subst (λ (z : Arena). IsInOrder z) c.forest-forest.ensures c.entries-entries.ensures.order in
     let inside : c.in-Expr.span.at + c.in-Expr.span.len ≤ length f.section = subst (LiesIn (length f.section)) is (order.spans.inside c.args.number c.requires.number) in
     let same : length c.forest-forest.result.now.section ≡ length f.section = ap (λ (z : Arena). length z.section) c.forest-forest.ensures in
     omega arith
@@ -28,7 +28,7 @@ fixed_len-fixed-requires c =
     let f : Arena = c.args.unit.now.forest in
     let k : ℕ = c.args.number in
     let span : Span = c.in-Expr.span in
-    let is : value_at f.values k ≡ value.Expr span = value_read f c.forest-forest.result.now c.values.result.now k _ _ c.forest-forest.ensures c.values.ensures.values c.requires.number c.in-Expr.is in
+    let is : value_at f.values k ≡ value.Expr span = value_read f c.forest-forest.result.now k c.value.result _ c.forest-forest.ensures c.value.ensures c.in-Expr.is in
     let here : IsExprAt f k span = record { inside = c.requires.number; is = is } in
     let bytes : c.bytes.result.now ≡ bytes_in f.section span = c.bytes.ensures ∙ ap (λ (z : Arena). bytes_in z.section span) c.forest-forest.ensures in
     let same : fixed_length (all_meant c.bytes.result.now c.of_value-ops.result.now) ≡ fixed_length (all_meant (bytes_in f.section span) (ops_of c.args.operations.now k)) = ap (λ (z : List ℕ). fixed_length (all_meant z c.of_value-ops.result.now)) bytes ∙ ap (λ (z : List Op). fixed_length (all_meant (bytes_in f.section span) z)) c.of_value-ops.ensures in
@@ -41,7 +41,7 @@ overflow_cast-fixed c =
     let f : Arena = c.args.unit.now.forest in
     let k : ℕ = c.args.number in
     let span : Span = c.in-Expr.span in
-    let is : value_at f.values k ≡ value.Expr span = value_read f c.forest-forest.result.now c.values.result.now k _ _ c.forest-forest.ensures c.values.ensures.values c.requires.number c.in-Expr.is in
+    let is : value_at f.values k ≡ value.Expr span = value_read f c.forest-forest.result.now k c.value.result _ c.forest-forest.ensures c.value.ensures c.in-Expr.is in
     let here : IsExprAt f k span = record { inside = c.requires.number; is = is } in
     let bytes : c.bytes.result.now ≡ bytes_in f.section span = c.bytes.ensures ∙ ap (λ (z : Arena). bytes_in z.section span) c.forest-forest.ensures in
     let same : c.fixed_len-fixed.result ≡ fixed_length (all_meant (bytes_in f.section span) (ops_of c.args.operations.now k)) = c.fixed_len-fixed.ensures ∙ ap (λ (z : List ℕ). fixed_length (all_meant z c.of_value-ops.result.now)) bytes ∙ ap (λ (z : List Op). fixed_length (all_meant (bytes_in f.section span) z)) c.of_value-ops.ensures in
@@ -54,7 +54,7 @@ overflow_cast-fixed-in-Expr c =
     let f : Arena = c.args.unit.now.forest in
     let k : ℕ = c.args.number in
     let span : Span = c.in-Expr.span in
-    let is : value_at f.values k ≡ value.Expr span = value_read f c.forest-forest.result.now c.values.result.now k _ _ c.forest-forest.ensures c.values.ensures.values c.requires.number c.in-Expr.is in
+    let is : value_at f.values k ≡ value.Expr span = value_read f c.forest-forest.result.now k c.value.result _ c.forest-forest.ensures c.value.ensures c.in-Expr.is in
     let here : IsExprAt f k span = record { inside = c.requires.number; is = is } in
     let same : c.slot_count.result ≡ slots_among (all_meant (bytes_in f.section span) (ops_of c.args.operations.now k)) = c.slot_count.ensures (bytes_in f.section span) ∙ ap (λ (z : List Op). slots_among (all_meant (bytes_in f.section span) z)) c.of_value-ops.ensures in
     let most = expr_slots f c.args.operations.now c.requires.operations c.slots_are_few.ensures.opcodes c.slots_are_few.ensures.few k span here in
@@ -66,7 +66,7 @@ overflow_add-fixed c =
     let f : Arena = c.args.unit.now.forest in
     let k : ℕ = c.args.number in
     let span : Span = c.in-Expr.span in
-    let is : value_at f.values k ≡ value.Expr span = value_read f c.forest-forest.result.now c.values.result.now k _ _ c.forest-forest.ensures c.values.ensures.values c.requires.number c.in-Expr.is in
+    let is : value_at f.values k ≡ value.Expr span = value_read f c.forest-forest.result.now k c.value.result _ c.forest-forest.ensures c.value.ensures c.in-Expr.is in
     let here : IsExprAt f k span = record { inside = c.requires.number; is = is } in
     let same : c.slot_count.result ≡ slots_among (all_meant (bytes_in f.section span) (ops_of c.args.operations.now k)) = c.slot_count.ensures (bytes_in f.section span) ∙ ap (λ (z : List Op). slots_among (all_meant (bytes_in f.section span) z)) c.of_value-ops.ensures in
     let most = expr_slots f c.args.operations.now c.requires.operations c.slots_are_few.ensures.opcodes c.slots_are_few.ensures.few k span here in
@@ -78,9 +78,9 @@ returns c =
     let f : Arena = c.args.unit.now.forest in
     let k : ℕ = c.args.number in
     let operations = c.requires.operations in
-    let same = value_same f c.values.result.now k _ (c.values.ensures.values ∙ ap (λ (z : Arena). z.values) c.forest-forest.ensures) c.requires.number in
-    let next = value_measured f c.args.operations.now operations k c.requires.number c.args.measured.now (record { fixed = c.push.new.self; slots = c.push-2.new.self }) c.requires.before c.match-values-number.fixed c.in_ok-push.ensures.items c.in_ok-push-2.ensures.items in
-    elim c.match-values-number.branch [
+    let same = value_same f c.forest-forest.result.now k c.value.result c.forest-forest.ensures c.value.ensures in
+    let next = value_measured f c.args.operations.now operations k c.requires.number c.args.measured.now (record { fixed = c.push.new.self; slots = c.push-2.new.self }) c.requires.before c.match-value.fixed c.in_ok-push.ensures.items c.in_ok-push-2.ensures.items in
+    elim c.match-value.branch [
       | in-LocalRef w ↦ next.local w.in-LocalRef.field-0 (sym same ∙ w.in-LocalRef.is) w.fixed-is
       | in-Expr w ↦
           let span : Span = w.in-Expr.span in

@@ -27,7 +27,7 @@ after_values-requires c =
     let first : c.entry-entry.result.first ≡ e.first = ap (λ (z : Entry). z.first) c.entry-entry.ensures in
     let count : c.entry-entry.result.count ≡ e.count = ap (λ (z : Entry). z.count) c.entry-entry.ensures in
     let own : c.part-own.result.now ≡ among_values f lens c.args.id = c.part-own.ensures ∙ ap (λ (z : List ℕ). take c.entry-entry.result.count (drop c.entry-entry.result.first z)) c.deref-2.ensures.value ∙ ap (λ (z : ℕ). take c.entry-entry.result.count (drop z lens)) first ∙ ap (λ (z : ℕ). take z (drop e.first lens)) count in
-    entry_room table columns numbers f lens c.args.id c.args.at c.new_columns-columns.result.now c.values_of-values.result.now _ c.code_size.result _ named c.values_of-values.ensures.values own few small c.requires.stands coded refl c.requires.room
+    entry_room table columns numbers f lens c.args.id c.args.at c.new_columns-columns.result.now c.deref-3.result.now _ c.code_size.result _ named (c.deref-3.ensures.value ∙ c.in_ok-read_row.ensures.values) own few small c.requires.stands coded refl c.requires.room
 
 pub returns : goal.returns
 returns c =
@@ -47,4 +47,4 @@ returns c =
     let first : c.entry-entry.result.first ≡ e.first = ap (λ (z : Entry). z.first) c.entry-entry.ensures in
     let count : c.entry-entry.result.count ≡ e.count = ap (λ (z : Entry). z.count) c.entry-entry.ensures in
     let own : c.part-own.result.now ≡ among_values f lens c.args.id = c.part-own.ensures ∙ ap (λ (z : List ℕ). take c.entry-entry.result.count (drop c.entry-entry.result.first z)) c.deref-2.ensures.value ∙ ap (λ (z : ℕ). take c.entry-entry.result.count (drop z lens)) first ∙ ap (λ (z : ℕ). take z (drop e.first lens)) count in
-    entry_summed table columns numbers f lens c.args.id c.args.at c.new_columns-columns.result.now c.values_of-values.result.now _ c.code_size.result _ c.after_values.result named c.values_of-values.ensures.values own few small c.requires.stands coded refl c.after_values.ensures
+    entry_summed table columns numbers f lens c.args.id c.args.at c.new_columns-columns.result.now c.deref-3.result.now _ c.code_size.result _ c.after_values.result named (c.deref-3.ensures.value ∙ c.in_ok-read_row.ensures.values) own few small c.requires.stands coded refl c.after_values.ensures

@@ -1,4 +1,4 @@
-use Rattle.std.proofs.Common.{◌≡◌, ◌≤◌, ◌<◌, ◌+◌, ◌∙◌, sym, ap, subst, refl, ℕ, Some, None, arith}
+use Rattle.std.proofs.Common.{◌≡◌, ◌≤◌, ◌<◌, ◌+◌, ◌∙◌, sym, ap, subst, refl, ℕ, List, Some, None, arith}
 use Rattle.entry_arena.specs.Arena.{Arena}
 use Rattle.entry_read.specs.declared.head.UnitHead.{UnitHead}
 use Rattle.fixed_width.specs.InitialLengths.{least_reserved}
@@ -6,6 +6,7 @@ use Rattle.entry_read.specs.Heads.{header_size}
 use Rattle.entry_read.specs.Units.{entries_at, declarations_of}
 use Rattle.unit_write.specs.declared.items.Items.{Items}
 use Rattle.unit_write.specs.Most.{most_bytes}
+use Rattle.unit_write.specs.Moved.{IsPlacedAt}
 use Rattle.unit_write.specs.inside.Readings.{GoesOn}
 use Rattle.unit_write.proofs.PlacingUnit.{IsPlacing, placing_none, placing_most, placing_next, placing_room, placing_all}
 use Rattle.unit_write.proofs.places.place_unit.Goals as goal
@@ -31,7 +32,15 @@ returns-clause-placed c =
     let h = c.loop-next.invariant in
     let on = subst (λ (f : Arena). GoesOn f c.loop-next.items c.next.new.self None) c.forest.ensures c.in_default.ensures.next in
     let n = on h.values (declarations_of c.args.decls.now) (entries_at unit.head) h.place h.done h.now h.chains h.rest h.walked in
-    placing_all unit c.args.decls.now c.args.specs.now.items c.args.numbers.now.items c.args.lens.now.items c.args.start c.loop-next.items c.next.new.self c.loop-next.places h n c.requires.writable
+    let table = c.args.decls.now in
+    let columns = c.args.specs.now.items in
+    let numbers : List ℕ = c.args.numbers.now.items in
+    let lens : List ℕ = c.args.lens.now.items in
+    let ends : List ℕ = c.loop-next.places.ends.items in
+    let end : ℕ = c.loop-next.places.end in
+    let placed = placing_all unit table columns numbers lens c.args.start c.loop-next.items c.next.new.self c.loop-next.places h n c.requires.writable in
+    let first = subst (λ (z : List ℕ). IsPlacedAt unit table columns numbers lens c.args.start z ends end) (sym c.shrink_to_fit.ensures.items) placed in
+    subst (λ (z : List ℕ). IsPlacedAt unit table columns numbers lens c.args.start c.shrink_to_fit.new.self.items z end) (sym c.shrink_to_fit-2.ensures.items) first
 
 pub place_next-requires-clause-room : goal.place_next-requires-clause-room
 place_next-requires-clause-room c =

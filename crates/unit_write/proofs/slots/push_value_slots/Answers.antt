@@ -27,7 +27,7 @@ index-spot-requires c =
     let f : Arena = c.args.unit.now.forest in
     let k : ℕ = c.args.number in
     let ops : ℕ → List Operation = operations_in f c.args.operations.now in
-    let is : value_at f.values k ≡ value.LocalRef c.in-LocalRef.field-0 = value_read f c.forest-forest.result.now c.values.result.now k _ _ c.forest-forest.ensures c.values.ensures.values c.requires.number c.in-LocalRef.is in
+    let is : value_at f.values k ≡ value.LocalRef c.in-LocalRef.field-0 = value_read f c.forest-forest.result.now k c.value.result _ c.forest-forest.ensures c.value.ensures c.in-LocalRef.is in
     let inside : slots_before f ops k < length c.args.spots.now.items = (local_spot c.args.marks.now f ops c.args.spots.now.items k c.requires.number c.in-LocalRef.field-0 is c.requires.spots).0 in
     let number : c.len.result ≡ slots_before f ops k = c.len.ensures ∙ c.args.slots.now.ok.0 ∙ c.requires.before.count in
     let all : vec_len c.args.spots.now ≡ length c.args.spots.now.items = c.args.spots.now.ok.0 in
@@ -39,7 +39,7 @@ slot-requires c =
     let k : ℕ = c.args.number in
     let spots : List Spot = c.args.spots.now.items in
     let ops : ℕ → List Operation = operations_in f c.args.operations.now in
-    let is : value_at f.values k ≡ value.LocalRef c.in-LocalRef.field-0 = value_read f c.forest-forest.result.now c.values.result.now k _ _ c.forest-forest.ensures c.values.ensures.values c.requires.number c.in-LocalRef.is in
+    let is : value_at f.values k ≡ value.LocalRef c.in-LocalRef.field-0 = value_read f c.forest-forest.result.now k c.value.result _ c.forest-forest.ensures c.value.ensures c.in-LocalRef.is in
     let own = local_spot c.args.marks.now f ops spots k c.requires.number c.in-LocalRef.field-0 is c.requires.spots in
     let inside : slots_before f ops k < length spots = own.0 in
     let number : c.len.result ≡ slots_before f ops k = c.len.ensures ∙ c.args.slots.now.ok.0 ∙ c.requires.before.count in
@@ -49,8 +49,8 @@ slot-requires c =
 pub bytes-requires : goal.bytes-requires
 bytes-requires c =
     let f : Arena = c.args.unit.now.forest in
-    let is : value_at f.values c.args.number ≡ value.Expr c.in-Expr.span = value_read f c.forest-forest.result.now c.values.result.now c.args.number _ _ c.forest-forest.ensures c.values.ensures.values c.requires.number c.in-Expr.is in
-    let order = subst (λ (z : Arena). IsInOrder z) c.forest-forest.ensures c.values.ensures.order in
+    let is : value_at f.values c.args.number ≡ value.Expr c.in-Expr.span = value_read f c.forest-forest.result.now c.args.number c.value.result _ c.forest-forest.ensures c.value.ensures c.in-Expr.is in
+    let order = subst (λ (z : Arena). IsInOrder z) c.forest-forest.ensures c.entries-entries.ensures.order in
     let inside : c.in-Expr.span.at + c.in-Expr.span.len ≤ length f.section = subst (LiesIn (length f.section)) is (order.spans.inside c.args.number c.requires.number) in
     let same : length c.forest-forest.result.now.section ≡ length f.section = ap (λ (z : Arena). length z.section) c.forest-forest.ensures in
     omega arith
@@ -60,7 +60,7 @@ push_expression_slots-requires-clause-fits c =
     let f : Arena = c.args.unit.now.forest in
     let k : ℕ = c.args.number in
     let span : Span = c.in-Expr.span in
-    let is : value_at f.values k ≡ value.Expr span = value_read f c.forest-forest.result.now c.values.result.now k _ _ c.forest-forest.ensures c.values.ensures.values c.requires.number c.in-Expr.is in
+    let is : value_at f.values k ≡ value.Expr span = value_read f c.forest-forest.result.now k c.value.result _ c.forest-forest.ensures c.value.ensures c.in-Expr.is in
     let bytes : c.bytes.result.now ≡ bytes_in f.section span = c.bytes.ensures ∙ ap (λ (z : Arena). bytes_in z.section span) c.forest-forest.ensures in
     let same : all_meant c.bytes.result.now c.of_value-ops.result.now ≡ operations_in f c.args.operations.now k = ap (λ (z : List ℕ). all_meant z c.of_value-ops.result.now) bytes ∙ ap (all_meant (bytes_in f.section span)) c.of_value-ops.ensures ∙ sym (expr_ops_are f c.args.operations.now c.requires.operations k span (record { inside = c.requires.number; is = is })) in
     subst (λ (z : List Operation). fixed_length z < 2 ^ 31) (sym same) (c.requires.fits k c.requires.number)
@@ -72,7 +72,7 @@ push_expression_slots-requires-clause-spots c =
     let spots : List Spot = c.args.spots.now.items in
     let ops : ℕ → List Operation = operations_in f c.args.operations.now in
     let span : Span = c.in-Expr.span in
-    let is : value_at f.values k ≡ value.Expr span = value_read f c.forest-forest.result.now c.values.result.now k _ _ c.forest-forest.ensures c.values.ensures.values c.requires.number c.in-Expr.is in
+    let is : value_at f.values k ≡ value.Expr span = value_read f c.forest-forest.result.now k c.value.result _ c.forest-forest.ensures c.value.ensures c.in-Expr.is in
     let bytes : c.bytes.result.now ≡ bytes_in f.section span = c.bytes.ensures ∙ ap (λ (z : Arena). bytes_in z.section span) c.forest-forest.ensures in
     let same : all_meant c.bytes.result.now c.of_value-ops.result.now ≡ ops k = ap (λ (z : List ℕ). all_meant z c.of_value-ops.result.now) bytes ∙ ap (all_meant (bytes_in f.section span)) c.of_value-ops.ensures ∙ sym (expr_ops_are f c.args.operations.now c.requires.operations k span (record { inside = c.requires.number; is = is })) in
     let own : HaveSpots c.args.marks.now (slots_before f ops k) (expression_aims (ops k)) spots = expr_spots c.args.marks.now f ops spots k c.requires.number span is c.requires.spots in
@@ -88,7 +88,7 @@ returns-in_ok-push-in-LocalRef c =
     let old : List Slot = c.args.slots.now.items in
     let n : ℕ = c.in-LocalRef.field-0 in
     let ops : ℕ → List Operation = operations_in f c.args.operations.now in
-    let is : value_at f.values k ≡ value.LocalRef n = value_read f c.forest-forest.result.now c.values.result.now k _ _ c.forest-forest.ensures c.values.ensures.values c.requires.number c.in-LocalRef.is in
+    let is : value_at f.values k ≡ value.LocalRef n = value_read f c.forest-forest.result.now k c.value.result _ c.forest-forest.ensures c.value.ensures c.in-LocalRef.is in
     let inside : slots_before f ops k < length spots = (local_spot marks f ops spots k c.requires.number n is c.requires.spots).0 in
     let number : c.len.result ≡ length old = c.len.ensures ∙ c.args.slots.now.ok.0 in
     let count : length old ≡ slots_before f ops k = c.requires.before.count in

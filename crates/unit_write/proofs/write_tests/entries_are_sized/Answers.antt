@@ -19,9 +19,9 @@ loop-id-preserved c =
     let count : c.len.result ≡ length table.decls = c.len.ensures in
     let known : e.decl < length table.decls = omega (arith, c.if-number-len.false) in
     let columns : c.new_columns.result.now ≡ columns_of table specs e.decl = c.new_columns.ensures ∙ ap (columns_of table specs) decl in
-    let values : c.values_of.result.now ≡ values_in f c.loop-id.id = c.values_of.ensures.values ∙ ap (λ (g : Arena). values_in g c.loop-id.id) forest in
-    let sized : AreSizedIn c.new_columns.result.now c.values_of.result.now = c.are_sized.ensures c.if-not-are_sized.false in
-    let first = subst (λ (z : List Spec). AreSizedIn z c.values_of.result.now) columns sized in
+    let values : c.deref.result.now ≡ values_in f c.loop-id.id = c.deref.ensures.value ∙ c.in_ok-read_row.ensures.values ∙ ap (λ (g : Arena). values_in g c.loop-id.id) forest in
+    let sized : AreSizedIn c.new_columns.result.now c.deref.result.now = c.are_sized.ensures c.if-not-are_sized.false in
+    let first = subst (λ (z : List Spec). AreSizedIn z c.deref.result.now) columns sized in
     let both = subst (λ (z : List Value). AreSizedIn (columns_of table specs e.decl) z) values first in
     record {
       each = below_more (λ (i : ℕ). ((entry_at f.entries i).decl < length table.decls) × AreSizedIn (columns_of table specs (entry_at f.entries i).decl) (values_in f i)) c.loop-id.id c.loop-id.invariant.each (known, both);

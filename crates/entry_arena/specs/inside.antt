@@ -1,0 +1,2 @@
+-- What inner functions and proofs need, and no public clause says.
+pub mod Values
