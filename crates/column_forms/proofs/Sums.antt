@@ -128,3 +128,12 @@ summed_out c ms m old one none = record {
       let p = entries_split old.form other ms m n w in
       none (record { choice = choice; bytes = p.bytes; spelled = with_constant old.form other c m p.bytes (λ is. one other p.before (subst (λ (z : ℕ). EntriesWithin z other ms p.before) is p.within)) p.spelled });
 }
+
+-- a form that doesn't spell all earlier values doesn't spell all with one more
+pub summed_still : (c : ℤ) (ms : List Meaning) (m : Meaning) (old : Candidate) → old.admits ≡ false → IsSummed c ms old → IsSummed c (ms ++ m ∷ []) old
+summed_still c ms m old never s = record {
+  sized = λ is. absurd (cc (is, never));
+  out = λ same other n choice w.
+      let p = entries_split old.form other ms m n w in
+      s.out same other p.before choice p.within;
+}

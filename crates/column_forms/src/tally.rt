@@ -54,6 +54,10 @@ fn count(candidate: &mut Candidate, value: &Value)
     requires shape { HasConstant candidate.old.shape }
     ensures { IsNext value.now candidate.old candidate.new }
 {
+    // A form that doesn't admit an earlier value is never chosen, so that its bytes don't matter.
+    if !candidate.admits {
+        return;
+    }
     match size_in(candidate.shape, value) {
         Some(size) => candidate.size += u128::from(size),
         None => candidate.admits = false,

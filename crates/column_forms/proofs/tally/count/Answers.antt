@@ -1,7 +1,15 @@
 use Rattle.std.proofs.Common.{refl, arith}
 use Rattle.form_codec.specs.Values.{meant_in}
-use Rattle.column_forms.proofs.Sums.{summed_more, summed_out, shaped_none, shaped_size}
+use Rattle.column_forms.proofs.Sums.{summed_more, summed_out, summed_still, shaped_none, shaped_size}
 use Rattle.column_forms.proofs.tally.count.Goals as goal
+
+pub returns-then-not-candidate : goal.returns-then-not-candidate
+returns-then-not-candidate c = record {
+  form = refl;
+  shape = refl;
+  few = omega arith;
+  summed = λ constant section meanings shaped h one s. summed_still constant meanings (meant_in section c.args.value.now) c.args.candidate.now c.if-not-candidate.true s;
+}
 
 pub returns-in-Some : goal.returns-in-Some
 returns-in-Some c = record {
