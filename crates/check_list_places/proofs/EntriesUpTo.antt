@@ -1,8 +1,8 @@
 -- Where entries of lists end.
 use Rattle.std.proofs.Common.{◌≡◌, ◌≤◌, ◌<◌, ◌+◌, ◌-◌, ◌++◌, ◌∙◌, ℕ, zero, suc, List, [], ◌∷◌, length, take, drop, get_or, refl, sym, ap, subst, arith}
-use Rattle.std.specs.Prelude.{nat_eq, Bool, true, false, not, Option, Some, None, MatchOption}
+use Rattle.std.specs.Prelude.{Bool, true, false, not, Option, Some, None, MatchOption}
 use Rattle.std.proofs.Math.Seq.{drop-append_seam, drop-nil}
-use Rattle.std.proofs.lemmas.Bool.{true≢false, ne_eqb}
+use Rattle.std.proofs.lemmas.Bool.{true≢false}
 use Rattle.std.proofs.lemmas.List.{length-append, length-drop, length-take-le, take-append-drop, append-nil, append_assoc}
 use Rattle.spelled.specs.Spelled.{HasUniqueFronts}
 use Rattle.dw_base.specs.declared.fault.Span.{Span}
@@ -136,14 +136,10 @@ drop_on zero m xs = let e : m ≡ 0 + m = omega arith in ap (λ (k : ℕ). drop 
 drop_on (suc n) m [] = drop-nil m ∙ sym (drop-nil (suc n + m))
 drop_on (suc n) m (x ∷ xs) = drop_on n m xs ∙ (let e : suc (n + m) ≡ suc n + m = omega arith in ap (λ (k : ℕ). drop k (x ∷ xs)) e)
 
--- a list that isn't empty has a last place
-pub last_place : (raws : List RawEntry) → false ≡ nat_eq (length raws) 0 → length raws - 1 + 1 ≡ length raws
-last_place [] some = absurd (true≢false (sym some))
-last_place (raw ∷ raws) some = omega arith
-
-pub no_place : (raws : List RawEntry) → true ≡ nat_eq (length raws) 0 → raws ≡ []
-no_place [] none = refl
-no_place (raw ∷ raws) none = absurd (true≢false (none ∙ ne_eqb (length (raw ∷ raws)) 0 (λ e. omega (arith, e))))
+-- a list whose entries are none
+pub no_entries : (raws : List RawEntry) → length raws ≡ 0 → raws ≡ []
+no_entries [] none = refl
+no_entries (raw ∷ raws) none = absurd (omega (arith, none))
 
 -- behind a front of bytes that stand at a place others stand
 behind_front : (bytes : List ℕ) (at : ℕ) (before first rest : List ℕ) → drop at bytes ≡ (before ++ first) ++ rest → drop (at + length before) bytes ≡ first ++ rest

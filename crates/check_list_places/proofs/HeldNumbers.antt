@@ -1,19 +1,14 @@
 -- The numbers of lists and of runs of view pairs, as they are found by their places.
-use Rattle.std.proofs.Common.{◌≡◌, ◌<◌, ◌∙◌, inl, inr, ℕ, List, [], ◌∷◌, length, get_or, sym, ap, subst, arith, Less, Equal, Greater}
-use Rattle.std.specs.List.{HoldsAt}
-use Rattle.std.specs.List.Sorted.{IsNonDecreasingBy, IsPartitionPoint}
-use Rattle.std.specs.Ordering.{nat_cmp, ordering_then, ordering_index}
+use Rattle.std.proofs.Common.{◌≡◌, ◌<◌, ◌∙◌, inl, inr, ℕ, List, [], ◌∷◌, length, get_or, sym, ap, subst, arith}
+use Rattle.std.specs.Prelude.{Some, None}
 use Rattle.std.proofs.lemmas.Bool.{cases_lt}
 use Rattle.std.proofs.lemmas.List.{get_or-map, length-map}
 use Rattle.list_model.specs.declared.entry.ListKind.{ListKind}
-use Rattle.list_model.proofs.Found.{found, not_found}
-use Rattle.value_links.specs.declared.lists.ListRead.{ListRead as HeldList}
-use Rattle.value_links.specs.declared.views.ViewRead.{ViewRead as HeldViews}
+use Rattle.list_arena.specs.Held.{HeldList, HeldViews, ViewsRise, AreViewsFound, IsListFound}
 use Rattle.value_links.specs.Reading.{ViewRead, Reading, lists_of, list_at, view_at}
 use Rattle.value_links.specs.Lists.{AreViewsApart}
 use Rattle.value_links.specs.World.{HoldLists, HoldViews}
 use Rattle.value_links.specs.Whole.{IsReading}
-use Rattle.value_links.proofs.FoundPairs.{Below, pair_found, pair_not_found}
 use Rattle.check_list_places.specs.inside.NamedNumbers.{IsListNumber, IsRunNumber}
 
 -- an item of a list that has one
@@ -23,32 +18,22 @@ some_of (x ∷ xs) k inside = x
 
 -- LISTS
 
-abbrev pub place_of : HeldList → ℕ
-place_of list = list.at
-
 module _ (file : List ℕ) (r : Reading) (read : IsReading file r) (kind : ListKind) (held : List HeldList) (holds : HoldLists r.links kind (lists_of r kind) held) (place : ℕ) where
   place_same : (k : ℕ) (d : HeldList) → k < length held → (get_or held k d).at ≡ (list_at (lists_of r kind) k).at
   place_same k d inside = (holds.each k d (subst (λ (n : ℕ). k < n) holds.count inside)).at
 
-  places_rise : (d : HeldList) (i j : ℕ) → i < j → j < length held → (get_or held i d).at < (get_or held j d).at
-  places_rise d i j less inside =
-      let first = place_same i d (omega (arith, less, inside)) in
-      let second = place_same j d inside in
-      let rising = (read.lists kind).rising i j less (subst (λ (n : ℕ). j < n) holds.count inside) in
-      omega (arith, first, second, rising)
-
   -- a search ends at the number of the list
-  pub list_found : (k : ℕ) → k < length held → HoldsAt (λ (x : HeldList). nat_cmp (place_of x) place ≡ Equal) held k → IsListNumber r kind place k
-  list_found k inside equal =
+  pub list_found : (k : ℕ) → IsListFound held place (Some k) → IsListNumber r kind place k
+  list_found k (inside, here) =
       let d = some_of held k inside in
-      (subst (λ (n : ℕ). k < n) holds.count inside, sym (place_same k d inside) ∙ found place_of held d (places_rise d) place k equal)
+      (subst (λ (n : ℕ). k < n) holds.count inside, sym (place_same k d inside) ∙ here d)
 
   -- or no list begins there
-  pub list_not_found : (at : ℕ) → (IsNonDecreasingBy (λ (x : HeldList). ordering_index (nat_cmp (place_of x) place)) held → IsPartitionPoint (λ (x : HeldList). nat_cmp (place_of x) place ≡ Less) (λ (x : HeldList). nat_cmp (place_of x) place ≡ Greater) held at) → (k : ℕ) → IsListNumber r kind place k → ⊥
-  list_not_found at parted k (known, here) =
+  pub list_not_found : IsListFound held place None → (k : ℕ) → IsListNumber r kind place k → ⊥
+  list_not_found none k (known, here) =
       let inside : k < length held = subst (λ (n : ℕ). k < n) (sym holds.count) known in
       let d = some_of held k inside in
-      not_found place_of held d (places_rise d) place at parted k inside (place_same k d inside ∙ here)
+      none k d inside (place_same k d inside ∙ here)
 
 -- one list begins at a place
 pub list_once : (file : List ℕ) (r : Reading) → IsReading file r → (kind : ListKind) (place i k : ℕ) → IsListNumber r kind place i → IsListNumber r kind place k → i ≡ k
@@ -62,40 +47,35 @@ list_once file r read kind place i k (i_in, i_at) (k_in, k_at) = elim (cases_lt 
 
 -- RUNS OF VIEW PAIRS
 
-abbrev pub with_of : HeldViews → ℕ
-with_of run = run.list
-
-abbrev pub stands_of : HeldViews → ℕ
-stands_of run = run.at
-
 abbrev read_of : HeldViews → ViewRead
-read_of run = record { list = run.list; at = run.at; pairs = run.pairs.items }
+read_of run = record { list = run.list; at = run.at; pairs = run.pairs }
 
-module _ (file : List ℕ) (r : Reading) (read : IsReading file r) (held : List HeldViews) (holds : HoldViews r.views held) (list place : ℕ) where
+module _ (file : List ℕ) (r : Reading) (read : IsReading file r) (held : List HeldViews) (holds : HoldViews r.views held) where
   counted : length held ≡ length r.views
   counted = sym (ap length holds ∙ length-map held read_of)
 
   run_same : (k : ℕ) (d : HeldViews) → k < length held → view_at r.views k ≡ read_of (get_or held k d)
   run_same k d inside = ap (λ (z : List ViewRead). view_at z k) holds ∙ get_or-map read_of held k d (record { list = 0; at = 0; pairs = [] }) inside
 
-  runs_rise : (d : HeldViews) (i j : ℕ) → i < j → j < length held → Below (get_or held i d).list (get_or held i d).at (get_or held j d).list (get_or held j d).at
-  runs_rise d i j less inside =
+  -- runs rise as they are held
+  pub runs_apart : ViewsRise held
+  runs_apart = λ i j d less inside.
       let rising : AreViewsApart (view_at r.views i) (view_at r.views j) = read.views.rising i j less (subst (λ (n : ℕ). j < n) counted inside) in
       subst (λ (z : ViewRead). AreViewsApart (read_of (get_or held i d)) z) (run_same j d inside) (subst (λ (z : ViewRead). AreViewsApart z (view_at r.views j)) (run_same i d (omega (arith, less, inside))) rising)
 
   -- a search ends at the number of the run
-  pub run_found : (k : ℕ) → k < length held → HoldsAt (λ (x : HeldViews). ordering_then (nat_cmp x.list list) (nat_cmp x.at place) ≡ Equal) held k → IsRunNumber r list place k
-  run_found k inside equal =
+  pub run_found : (list place k : ℕ) → AreViewsFound held list place (Some k) → IsRunNumber r list place k
+  run_found list place k (inside, there) =
       let d = some_of held k inside in
-      let (with, here) = pair_found with_of stands_of held d (runs_rise d) list place k equal in
+      let (with, here) = there d in
       (subst (λ (n : ℕ). k < n) counted inside, ap (λ (z : ViewRead). z.list) (run_same k d inside) ∙ with, ap (λ (z : ViewRead). z.at) (run_same k d inside) ∙ here)
 
   -- or none stands there
-  pub run_not_found : (at : ℕ) → (IsNonDecreasingBy (λ (x : HeldViews). ordering_index (ordering_then (nat_cmp x.list list) (nat_cmp x.at place))) held → IsPartitionPoint (λ (x : HeldViews). ordering_then (nat_cmp x.list list) (nat_cmp x.at place) ≡ Less) (λ (x : HeldViews). ordering_then (nat_cmp x.list list) (nat_cmp x.at place) ≡ Greater) held at) → (k : ℕ) → IsRunNumber r list place k → ⊥
-  run_not_found at parted k (known, with, here) =
+  pub run_not_found : (list place : ℕ) → AreViewsFound held list place None → (k : ℕ) → IsRunNumber r list place k → ⊥
+  run_not_found list place none k (known, with, here) =
       let inside : k < length held = subst (λ (n : ℕ). k < n) (sym counted) known in
       let d = some_of held k inside in
-      pair_not_found with_of stands_of held d (runs_rise d) list place at parted k inside (ap (λ (z : ViewRead). z.list) (sym (run_same k d inside)) ∙ with) (ap (λ (z : ViewRead). z.at) (sym (run_same k d inside)) ∙ here)
+      none k d inside (ap (λ (z : ViewRead). z.list) (sym (run_same k d inside)) ∙ with) (ap (λ (z : ViewRead). z.at) (sym (run_same k d inside)) ∙ here)
 
 -- one run goes with a list and stands at a place
 pub run_once : (file : List ℕ) (r : Reading) → IsReading file r → (list place i k : ℕ) → IsRunNumber r list place i → IsRunNumber r list place k → i ≡ k

@@ -1,13 +1,12 @@
 -- Lists and runs of view pairs as they are held, and as they were read.
-use Rattle.std.proofs.Common.{◌≡◌, ◌≤◌, ◌<◌, ◌∙◌, ℕ, List, [], ◌∷◌, length, get_or, map, sym, ap, subst, refl, arith}
+use Rattle.std.proofs.Common.{◌≡◌, ◌≤◌, ◌<◌, ◌∙◌, ℕ, List, [], ◌∷◌, length, get_or, map, sym, ap, refl, arith}
 use Rattle.std.specs.Prelude.{slice_index_or}
 use Rattle.std.proofs.lemmas.List.{length-map, get_or-map}
 use Rattle.dw_base.specs.declared.fault.Reach.{Reach}
 use Rattle.list_model.specs.declared.contribution.Contribution.{Contribution}
 use Rattle.list_model.specs.declared.entry.ListKind.{ListKind}
 use Rattle.list_model.specs.declared.entry.ListKind.TheVariants.{Ranges, Locations}
-use Rattle.value_links.specs.declared.lists.ListRead.{ListRead as HeldList}
-use Rattle.value_links.specs.declared.views.ViewRead.{ViewRead as HeldViews}
+use Rattle.list_arena.specs.Held.{HeldList, HeldViews}
 use Rattle.value_links.specs.Reading.{ViewRead, Reading, of_kind, lists_of, part_at, list_at, view_at}
 use Rattle.value_links.specs.Whole.{IsReading}
 use Rattle.value_links.specs.World.{World, contributions_held, contribution_at, lists_held, Holds, IsWorldOf}
@@ -40,29 +39,25 @@ module _ (world : World) (r : Reading) (holds : Holds world.image world r) (kind
 pub run_count : (world : World) (r : Reading) → Holds world.image world r → (kind : ListKind) → length (runs_held world kind) ≡ length (runs_of r kind)
 run_count world r holds Ranges = refl
 run_count world r holds Locations =
-    sym (ap (λ (z : List ViewRead). length z) holds.views ∙ length-map world.views (λ (run : HeldViews). record { list = run.list; at = run.at; pairs = run.pairs.items }))
+    sym (ap (λ (z : List ViewRead). length z) holds.views ∙ length-map world.views (λ (run : HeldViews). record { list = run.list; at = run.at; pairs = run.pairs }))
+
+-- a kind that has runs has all that are held
+pub runs_all : (world : World) (kind : ListKind) (n : ℕ) → n < length (runs_held world kind) → world.views ≡ runs_held world kind
+runs_all world Ranges n inside = absurd (omega (arith, inside))
+runs_all world Locations n inside = refl
 
 pub held_run : (world : World) (r : Reading) → Holds world.image world r → (kind : ListKind) (j : ℕ) (d : HeldViews) → j < length (runs_held world kind) → (get_or (runs_held world kind) j d).list ≡ (view_at (runs_of r kind) j).list
 held_run world r holds Ranges j d inside = absurd (omega (arith, inside))
 held_run world r holds Locations j d inside =
-    let there : view_at (map (λ (run : HeldViews). record { list = run.list; at = run.at; pairs = run.pairs.items }) world.views) j ≡ record { list = (get_or world.views j d).list; at = (get_or world.views j d).at; pairs = (get_or world.views j d).pairs.items } = get_or-map (λ (run : HeldViews). record { list = run.list; at = run.at; pairs = run.pairs.items }) world.views j d (record { list = 0; at = 0; pairs = [] }) inside in
+    let there : view_at (map (λ (run : HeldViews). record { list = run.list; at = run.at; pairs = run.pairs }) world.views) j ≡ record { list = (get_or world.views j d).list; at = (get_or world.views j d).at; pairs = (get_or world.views j d).pairs } = get_or-map (λ (run : HeldViews). record { list = run.list; at = run.at; pairs = run.pairs }) world.views j d (record { list = 0; at = 0; pairs = [] }) inside in
     sym (ap (λ (z : List ViewRead). (view_at z j).list) holds.views ∙ ap (λ (z : ViewRead). z.list) there)
 
 pub held_run_at : (world : World) (r : Reading) → Holds world.image world r → (j : ℕ) (d : HeldViews) → j < length world.views → (get_or world.views j d).at ≡ (view_at r.views j).at
 held_run_at world r holds j d inside =
-    let there : view_at (map (λ (run : HeldViews). record { list = run.list; at = run.at; pairs = run.pairs.items }) world.views) j ≡ record { list = (get_or world.views j d).list; at = (get_or world.views j d).at; pairs = (get_or world.views j d).pairs.items } = get_or-map (λ (run : HeldViews). record { list = run.list; at = run.at; pairs = run.pairs.items }) world.views j d (record { list = 0; at = 0; pairs = [] }) inside in
+    let there : view_at (map (λ (run : HeldViews). record { list = run.list; at = run.at; pairs = run.pairs }) world.views) j ≡ record { list = (get_or world.views j d).list; at = (get_or world.views j d).at; pairs = (get_or world.views j d).pairs } = get_or-map (λ (run : HeldViews). record { list = run.list; at = run.at; pairs = run.pairs }) world.views j d (record { list = 0; at = 0; pairs = [] }) inside in
     sym (ap (λ (z : List ViewRead). (view_at z j).at) holds.views ∙ ap (λ (z : ViewRead). z.at) there)
 
 -- LISTS BY THEIR PLACES
-
-pub held_rising : (world : World) → IsSomeWorld world → (kind : ListKind) (lists : List HeldList) → lists ≡ lists_held world kind → (d : HeldList) (j k : ℕ) → j < k → k < length lists → (get_or lists j d).at < (get_or lists k d).at
-held_rising world (reach, is) kind lists same d j k less inside =
-    let there : k < length (lists_held world kind) = subst (λ (z : List HeldList). k < length z) same inside in
-    let count : length (lists_held world kind) ≡ length (lists_of is.r kind) = list_count world is.r is.holds kind in
-    let before : (list_at (lists_of is.r kind) j).at < (list_at (lists_of is.r kind) k).at = (is.read.lists kind).rising j k less (omega (arith, there, count)) in
-    let first : (get_or (lists_held world kind) j d).at ≡ (list_at (lists_of is.r kind) j).at = held_at world is.r is.holds kind j d (omega (arith, less, there)) in
-    let second : (get_or (lists_held world kind) k d).at ≡ (list_at (lists_of is.r kind) k).at = held_at world is.r is.holds kind k d there in
-    subst (λ (z : List HeldList). (get_or z j d).at < (get_or z k d).at) (sym same) (omega (arith, before, first, second))
 
 -- a list at a place, and the number of its contribution
 pub part_found : (world : World) (kind : ListKind) (k at part : ℕ) (d : HeldList) → k < length (lists_held world kind) → (get_or (lists_held world kind) k d).at ≡ at → part ≡ (get_or (lists_held world kind) k d).part → OfBoth world world (λ r s. IsPartOfList kind s at part)
@@ -98,6 +93,13 @@ part_known a b (reach, is) (range, was) same kind k d inside =
     let begins = list_begins a.image is.r is.read kind k (omega (arith, inside, list_count a is.r is.holds kind)) in
     let known : part_of is.r kind k < length (of_kind is.r.links kind).parts = begins.0 in
     omega (arith, known, held_part a is.r is.holds kind k d inside, same_parts a b is.r was.r is.read was.read same kind, part_count b was.r was.holds kind)
+
+-- and of its own file
+pub part_inside : (a : World) → IsSomeWorld a → (kind : ListKind) (k : ℕ) (d : HeldList) → k < length (lists_held a kind) → (get_or (lists_held a kind) k d).part < length (contributions_held a kind)
+part_inside a (reach, is) kind k d inside =
+    let begins = list_begins a.image is.r is.read kind k (omega (arith, inside, list_count a is.r is.holds kind)) in
+    let known : part_of is.r kind k < length (of_kind is.r.links kind).parts = begins.0 in
+    omega (arith, known, held_part a is.r is.holds kind k d inside, part_count a is.r is.holds kind)
 
 -- RUNS THAT ARE SWEPT
 

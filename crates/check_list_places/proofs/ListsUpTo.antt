@@ -14,7 +14,7 @@ use Rattle.list_model.proofs.Tiling.{part_inside}
 use Rattle.range_lists.specs.Ranges.{IsRead as IsRangeRead}
 use Rattle.loc_lists.specs.Locations.{SpellsLocation}
 use Rattle.loc_lists.specs.Locations.{IsRead as IsLocationRead}
-use Rattle.value_links.specs.declared.lists.ListRead.{ListRead as HeldList}
+use Rattle.list_arena.specs.Held.{HeldList}
 use Rattle.value_links.specs.Sections.{debug_lists}
 use Rattle.value_links.specs.Lists.{IsListOf}
 use Rattle.value_links.specs.Reading.{ListRead, Reading, of_kind, lists_of, part_at, list_at}
@@ -103,13 +103,16 @@ module _ (world : World) (s : Reading) (read : IsReading world.image s) (holds :
 
   -- LISTS
 
-  -- The list with a number, as it is held: where it ends, and how many bytes it has as it is read.
-  pub list_stands : (number : ℕ) (held : HeldList) → number < length (lists_held world kind) → held ≡ slice_index_or (lists_held world kind) number held → (end : ℕ) × IsListUpTo kind (take (part_end (contribution_at world kind held.part)) (debug_lists world.image kind)) held.at held.raw.items end × HasLength kind s (list_at (lists_of s kind) number) (end - held.at) × ((list_at (lists_of s kind) number).at ≡ held.at) × (held.at < end) × (end ≤ length (of_kind s.links kind).section)
-  list_stands number held inside is =
+  -- The list with a number, as it is held: where it ends in the bytes up to the end of its contribution, and how many bytes it has as it is
+  -- read.
+  pub list_stands :
+      (lists : List HeldList) (number : ℕ) (d held : HeldList) (part : ℕ) (bytes : List ℕ) → lists ≡ lists_held world kind → number < length (lists_held world kind) → held ≡ slice_index_or lists number d → part ≡ held.part → bytes ≡ take (part_end (contribution_at world kind part)) (debug_lists world.image kind) → (end : ℕ) × IsListUpTo kind bytes held.at held.raw end × HasLength kind s (list_at (lists_of s kind) number) (end - held.at) × ((list_at (lists_of s kind) number).at ≡ held.at) × (held.at < end) × (end ≤ length (of_kind s.links kind).section)
+  list_stands lists number d held p bytes those inside is own given =
       let section = of_kind s.links kind in
       let known : number < length (lists_of s kind) = subst (λ (n : ℕ). number < n) (holds.lists kind).count inside in
       let l : ListRead = list_at (lists_of s kind) number in
-      let h = subst (λ (d : HeldList). HoldsList s.links kind l d) (sym is) ((holds.lists kind).each number held known) in
+      let same : held ≡ slice_index_or (lists_held world kind) number d = is ∙ ap (λ (all : List HeldList). slice_index_or all number d) those in
+      let h = subst (λ (x : HeldList). HoldsList s.links kind l x) (sym same) ((holds.lists kind).each number d known) in
       let one = (read.lists kind).each number known in
       let begins : l.at < part_end (part_at section l.part) = one.begins.1.before in
       let here = list_here kind section.section (part_at section l.part) l.at l.raws (omega arith) one.read in
@@ -117,11 +120,12 @@ module _ (world : World) (s : Reading) (read : IsReading world.image s) (holds :
       let part : part_at section l.part ≡ contribution_at world kind held.part = ap (part_at section) (sym h.part) ∙ sym (part_held held.part) in
       let up_to = list_inside kind (take (part_end (part_at section l.part)) section.section) l.at l.raws here.end here.up_to in
       let short : length (take (part_end (part_at section l.part)) section.section) ≤ length section.section = simp length-take (omega arith) in
-      let moved : IsListUpTo kind (take (part_end (contribution_at world kind held.part)) (debug_lists world.image kind)) held.at held.raw.items here.end =
-      subst (λ (raws : List RawEntry). IsListUpTo kind (take (part_end (contribution_at world kind held.part)) (debug_lists world.image kind)) held.at raws here.end) (sym h.raws)
+      let moved : IsListUpTo kind bytes held.at held.raw here.end =
+      subst (λ (all : List ℕ). IsListUpTo kind all held.at held.raw here.end) (sym (given ∙ ap (λ (n : ℕ). take (part_end (contribution_at world kind n)) (debug_lists world.image kind)) own))
+      (subst (λ (raws : List RawEntry). IsListUpTo kind (take (part_end (contribution_at world kind held.part)) (debug_lists world.image kind)) held.at raws here.end) (sym h.raws)
       (subst (λ (at : ℕ). IsListUpTo kind (take (part_end (contribution_at world kind held.part)) (debug_lists world.image kind)) at l.raws here.end) (sym h.at)
-      (subst (λ (bytes : List ℕ). IsListUpTo kind (take (part_end (contribution_at world kind held.part)) bytes) l.at l.raws here.end) (holds.sections kind)
-      (subst (λ (p : Contribution). IsListUpTo kind (take (part_end p) section.section) l.at l.raws here.end) part here.up_to))) in
+      (subst (λ (all : List ℕ). IsListUpTo kind (take (part_end (contribution_at world kind held.part)) all) l.at l.raws here.end) (holds.sections kind)
+      (subst (λ (p : Contribution). IsListUpTo kind (take (part_end p) section.section) l.at l.raws here.end) part here.up_to)))) in
       let at : held.at ≡ l.at = h.at in
       let len : here.end ≡ l.at + length here.bytes = here.len in
       (here.end, moved, record { bytes = here.bytes; rest = here.rest; stands = here.stands; read = here.read; count = omega (arith, len, at) }, sym at, omega (arith, up_to.0, at), omega (arith, up_to.1, short))

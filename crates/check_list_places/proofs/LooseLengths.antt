@@ -12,8 +12,7 @@ use Rattle.loc_lists.specs.Laws.{LocationsEnd}
 use Rattle.loc_lists.specs.Views.{SpellsPair}
 use Rattle.list_model.specs.Contributions.{bytes_from}
 use Rattle.value_links.specs.Reading.{ListRead, ViewRead, Reading, lists_of, part_at, list_at, view_at}
-use Rattle.value_links.specs.declared.lists.ListRead.{ListRead as HeldList}
-use Rattle.value_links.specs.declared.views.ViewRead.{ViewRead as HeldViews}
+use Rattle.list_arena.specs.Held.{HeldList, HeldViews}
 use Rattle.value_links.specs.World.{World, Holds, lists_held}
 use Rattle.value_links.specs.Whole.{IsReading}
 use Rattle.check_list_places.specs.Followers.{HasLength, IsPartOfRun, RunHasLength}
@@ -82,7 +81,7 @@ module _ (file : List ℕ) (s : Reading) (read : IsReading file s) where
   ))
 
 abbrev read_of : HeldViews → ViewRead
-read_of run = record { list = run.list; at = run.at; pairs = run.pairs.items }
+read_of run = record { list = run.list; at = run.at; pairs = run.pairs }
 
 -- as many runs are held as were read
 pub runs_counted : (world : World) (s : Reading) → Holds world.image world s → length world.views ≡ length s.views

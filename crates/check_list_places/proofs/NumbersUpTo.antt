@@ -46,3 +46,10 @@ number_found bytes at n first rest spelled e fault short wide = code_found bytes
 pub one_left : (bytes : List ℕ) (place n counter count end : ℕ) → counter + n ≡ count → counter < count → AreNumbersUpTo bytes place n end → (m : ℕ) × (n ≡ suc m)
 one_left bytes place zero counter count end sum less numbers = absurd (omega arith)
 one_left bytes place (suc m) counter count end sum less numbers = (m, refl)
+
+-- each of them has a byte
+pub numbers_size : (bytes : List ℕ) (at count end : ℕ) → AreNumbersUpTo bytes at count end → at + count ≤ end
+numbers_size bytes at zero end e = omega (arith, e)
+numbers_size bytes at (suc count) end (n, first, rest, spelled, e, more) =
+    let left = numbers_size bytes (at + length first) count end more in
+    omega (arith, left, spelled.0.0.filled)

@@ -9,7 +9,7 @@ use Rattle.list_model.specs.Contributions.{part_end}
 use Rattle.list_model.proofs.Tiling.{part_inside}
 use Rattle.loc_lists.specs.declared.views.ViewPair.{ViewPair}
 use Rattle.loc_lists.specs.Views.{SpellsPair}
-use Rattle.value_links.specs.declared.views.ViewRead.{ViewRead as HeldViews}
+use Rattle.list_arena.specs.Held.{HeldViews}
 use Rattle.value_links.specs.Sections.{debug_lists}
 use Rattle.value_links.specs.Reading.{ViewRead, Reading, part_at, view_at, list_at}
 use Rattle.value_links.specs.ListPlaces.{IsListPlace}
@@ -40,14 +40,17 @@ pairs_numbers bytes at (pair ∷ pairs) run rest (suc (suc count)) size (first, 
     (pair.first, one, two ++ (later ++ rest), low, all, (pair.last, two, later ++ rest, high, next, subst (λ (n : ℕ). AreNumbersUpTo bytes (at + length one + length two) count n) end more))
 
 module _ (world : World) (s : Reading) (read : IsReading world.image s) (holds : Holds world.image world s) where
-  -- The run with a number, as it is held: where its numbers end, and how many bytes it has as it is read.
-  pub run_stands : (number : ℕ) (held : HeldViews) → number < length world.views → held ≡ slice_index_or world.views number held → (len : ℕ) × AreNumbersUpTo s.links.locations.section held.at (2 * length held.pairs.items) (held.at + len) × RunHasLength s (view_at s.views number) len × ((view_at s.views number).at ≡ held.at) × (held.at + len ≤ length s.links.locations.section)
-  run_stands number held inside is =
-      let as_read : HeldViews → ViewRead = λ (run : HeldViews). record { list = run.list; at = run.at; pairs = run.pairs.items } in
+  -- The run with a number, as it is held: where its numbers end in the bytes of the section, and how many bytes it has as it is read.
+  pub run_stands :
+      (views : List HeldViews) (number : ℕ) (d : HeldViews) (bytes : List ℕ) (at count : ℕ) → views ≡ world.views → number < length world.views → bytes ≡ debug_lists world.image Locations → at ≡ (slice_index_or views number d).at → count ≡ length (slice_index_or views number d).pairs →
+      (len : ℕ) × AreNumbersUpTo bytes at (2 * count) (at + len) × RunHasLength s (view_at s.views number) len × ((view_at s.views number).at ≡ at) × (at + len ≤ length s.links.locations.section)
+  run_stands views number d bytes at count those inside given here counted =
+      let held : HeldViews = slice_index_or views number d in
+      let as_read : HeldViews → ViewRead = λ (run : HeldViews). record { list = run.list; at = run.at; pairs = run.pairs } in
       let section = s.links.locations in
       let none : ViewRead = record { list = 0; at = 0; pairs = [] } in
       let v : ViewRead = view_at s.views number in
-      let same : v ≡ as_read held = ap (λ (views : List ViewRead). slice_index_or views number none) holds.views ∙ get_or-map as_read world.views number held none inside ∙ ap as_read (sym is) in
+      let same : v ≡ as_read held = ap (λ (all : List ViewRead). slice_index_or all number none) holds.views ∙ get_or-map as_read world.views number d none inside ∙ ap (λ (all : List HeldViews). as_read (slice_index_or all number d)) (sym those) in
       let known : number < length s.views = subst (λ (n : ℕ). number < n) (sym (ap length holds.views ∙ length-map world.views as_read)) inside in
       let of = read.views.each number known in
       let p : ℕ = (list_at s.location_lists of.k).part in
@@ -57,22 +60,18 @@ module _ (world : World) (s : Reading) (read : IsReading world.image s) (holds :
       let front : drop v.at section.section ≡ run.run ++ (run.rest ++ drop (part_end (part_at section p) - v.at) (drop v.at section.section)) =
       sym (take-append-drop (part_end (part_at section p) - v.at) (drop v.at section.section)) ∙ ap (λ (z : List ℕ). z ++ drop (part_end (part_at section p) - v.at) (drop v.at section.section)) run.whole ∙ append_assoc run.run run.rest (drop (part_end (part_at section p) - v.at) (drop v.at section.section)) in
       let numbers = pairs_numbers section.section v.at v.pairs run.run (run.rest ++ drop (part_end (part_at section p) - v.at) (drop v.at section.section)) (2 * length v.pairs) refl run.spelled front in
-      let at : v.at ≡ held.at = ap (λ (z : ViewRead). z.at) same in
+      let place : v.at ≡ at = ap (λ (z : ViewRead). z.at) same ∙ sym here in
       let (u, value, unit, linked) = of.named in
       let told = views_told s.links u linked.id v.list v.at linked.name linked.meaning linked.links in
       let together = told.together (p, subst (λ (n : ℕ). IsListPlace section p n) of.at begins) in
       let lies : v.at < part_end (part_at section together.0) = together.2.1.before in
       let last : part_end (part_at section together.0) ≤ length section.section = (part_inside section.section (part_at section together.0) (part_stands section.section section.parts (read.links.lists Locations).tiled together.0 together.2.0)).1 in
       let sum : length section.section - v.at ≡ length run.run + length (run.rest ++ drop (part_end (part_at section p) - v.at) (drop v.at section.section)) = sym (length-drop v.at section.section) ∙ ap length front ∙ length-append run.run (run.rest ++ drop (part_end (part_at section p) - v.at) (drop v.at section.section)) in
-      let room : held.at + length run.run ≤ length section.section = omega (arith, at, lies, last, sum) in
-      (length run.run, subst (λ (z : ViewRead). AreNumbersUpTo section.section z.at (2 * length z.pairs) (z.at + length run.run)) same numbers, record { p = p; part = record { k = of.k; inside = of.inside; list = of.at; part = refl }; bytes = run.run; rest = run.rest; stands = run.whole; read = run.spelled; count = refl }, at, room)
-
-  -- the run that is taken from those that are held
-  pub run_taken : (views : List HeldViews) (number : ℕ) (held : HeldViews) → views ≡ world.views → held ≡ slice_index_or views number held → held ≡ slice_index_or world.views number held
-  run_taken views number held same is = is ∙ ap (λ (all : List HeldViews). slice_index_or all number held) same
-
-  -- and its numbers in the bytes of the section
-  pub numbers_taken : (section : List ℕ) (held : HeldViews) (pairs : List ViewPair) (end : ℕ) → section ≡ debug_lists world.image Locations → pairs ≡ held.pairs.items → AreNumbersUpTo s.links.locations.section held.at (2 * length held.pairs.items) end → AreNumbersUpTo section held.at (2 * length pairs) end
-  numbers_taken section held pairs end bytes same numbers =
-      subst (λ (all : List ViewPair). AreNumbersUpTo section held.at (2 * length all) end) (sym same)
-      (subst (λ (z : List ℕ). AreNumbersUpTo z held.at (2 * length held.pairs.items) end) (holds.sections Locations ∙ sym bytes) numbers)
+      let room : at + length run.run ≤ length section.section = omega (arith, place, lies, last, sum) in
+      let numbers_held : AreNumbersUpTo bytes held.at (2 * length held.pairs) (held.at + length run.run) =
+      subst (λ (z : List ℕ). AreNumbersUpTo z held.at (2 * length held.pairs) (held.at + length run.run)) (holds.sections Locations ∙ sym given)
+      (subst (λ (z : ViewRead). AreNumbersUpTo section.section z.at (2 * length z.pairs) (z.at + length run.run)) same numbers) in
+      let numbers_here : AreNumbersUpTo bytes at (2 * count) (at + length run.run) =
+      subst (λ (n : ℕ). AreNumbersUpTo bytes at (2 * n) (at + length run.run)) (sym counted)
+      (subst (λ (n : ℕ). AreNumbersUpTo bytes n (2 * length held.pairs) (n + length run.run)) (sym here) numbers_held) in
+      (length run.run, numbers_here, record { p = p; part = record { k = of.k; inside = of.inside; list = of.at; part = refl }; bytes = run.run; rest = run.rest; stands = run.whole; read = run.spelled; count = refl }, place, room)

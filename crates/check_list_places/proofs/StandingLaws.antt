@@ -1,10 +1,9 @@
 -- Where lists and runs of view pairs stand, as it is found.
-use Rattle.std.proofs.Common.{◌≡◌, ◌<◌, ◌+◌, ◌∙◌, ℕ, List, [], ◌∷◌, ◌++◌, length, get_or, map, sym, ap, subst, arith}
-use Rattle.std.proofs.lemmas.List.{get_or-map, length_push}
+use Rattle.std.proofs.Common.{◌≡◌, ◌<◌, ◌+◌, ◌∙◌, ℕ, List, [], ◌∷◌, ◌++◌, length, get_or, map, take, sym, ap, subst, arith}
+use Rattle.std.proofs.lemmas.List.{get_or-map, length_push, map_more}
 use Rattle.list_model.specs.declared.entry.ListKind.{ListKind}
 use Rattle.list_model.specs.declared.entry.ListKind.TheVariants.{Ranges, Locations}
-use Rattle.value_links.specs.declared.lists.ListRead.{ListRead as HeldList}
-use Rattle.value_links.specs.declared.views.ViewRead.{ViewRead as HeldViews}
+use Rattle.list_arena.specs.Held.{HeldList, HeldViews}
 use Rattle.value_links.specs.Reading.{Reading, lists_of, view_at}
 use Rattle.value_links.specs.World.{World, lists_held, Holds}
 use Rattle.check_list_places.specs.declared.due.Place.{Place}
@@ -25,6 +24,12 @@ runs_more world kind n places place at d inside count list here part before = λ
     let own : IsPartOfList kind s (view_at (runs_of s kind) n).list place.part = subst (λ (z : ℕ). IsPartOfList kind s z place.part) (list ∙ held_run world s held kind n d inside) (part r s read holds again held) in
     let is : StandsRun kind s n place = record { part = own; at = here ∙ run_begins world s held kind n d inside } in
     push_before (StandsRun kind s) places place (λ k less. before r s read holds again held k (omega (arith, less, count))) (subst (λ (z : ℕ). StandsRun kind s z place) (sym count) is) k (omega (arith, less, count, length_push places place))
+
+-- one more list
+pub lists_more : (lists : List HeldList) (n : ℕ) (places : List Place) (place : Place) (d : HeldList) → n < length lists → places ≡ map standing (take n lists) → place.part ≡ (get_or lists n d).part → place.at ≡ (get_or lists n d).at → places ++ place ∷ [] ≡ map standing (take (n + 1) lists)
+lists_more lists n places place d inside before part at =
+    let is : place ≡ standing (get_or lists n d) = ap (λ (z : ℕ). record { part = z; at = place.at }) part ∙ ap (λ (z : ℕ). record { part = (get_or lists n d).part; at = z }) at in
+    ap (λ (z : List Place). z ++ place ∷ []) before ∙ ap (λ (z : Place). map standing (take n lists) ++ z ∷ []) is ∙ sym (map_more standing lists n d inside)
 
 -- lists
 pub lists_stand : (world : World) (s : Reading) → Holds world.image world s → (kind : ListKind) (stands : List Place) → stands ≡ map standing (lists_held world kind) → StandLists kind s (length (lists_of s kind)) stands

@@ -12,7 +12,7 @@ use crate::lengths::{list_len, run_len};
 use dw_base::NoMemory;
 use list_model::{Contribution, ListKind};
 use std::alloc::Global;
-use value_links::{ViewRead, World};
+use value_links::World;
 
 /// Where a list or a run of view pairs stands or is due: the number of its contribution, and the place of its first byte, counted from the
 /// first byte of the section.
@@ -36,14 +36,13 @@ const PART_HEADER_SIZE: u64 = 12;
 // The bytes of an offset.
 const OFFSET_SIZE: u64 = 4;
 
-/// The runs of view pairs of a file that go with lists of a kind; range lists have none.
-pub(crate) fn runs_of<'a>(world: &'a World<'_>, kind: ListKind) -> &'a [ViewRead]
-    ensures { result.now ≡ runs_held world.now kind }
+/// How many runs of view pairs of a file go with lists of a kind; range lists have none.
+pub(crate) fn run_count(world: &World<'_>, kind: ListKind) -> usize
+    ensures { result ≡ length (runs_held world.now kind) }
 {
-    let views = world.views();
     match kind {
-        ListKind::Ranges => &views[..0],
-        ListKind::Locations => views,
+        ListKind::Ranges => 0,
+        ListKind::Locations => world.views().len(),
     }
 }
 
@@ -75,7 +74,7 @@ fn begin_of(
     requires due { OfBoth before.now after.now (λ r s. AreListsDue kind r s number due.now) }
     ensures { OfBoth before.now after.now (λ r s. IsHeldEnd kind r s number (pieces_before r kind number) result) }
 {
-    let part = before.lists(kind)[number].part;
+    let part = before.lists(kind).part(number);
     if number > 0 && due[number - 1].part == part {
         let len = list_len(after, kind, firsts[number - 1]);
         let at = due[number - 1].at.saturating_add(len);
@@ -106,10 +105,11 @@ fn push_runs(
     ensures next { IfOk result (λ next. OfBoth before.now after.now (λ r s. IsNextDue kind r s number due.new.items next)) }
     ensures runs { OnOk result (AreRunsHeld before.now kind number (length due.old.items) (length due.new.items)) }
 {
-    let views = runs_of(before, kind);
-    let list = before.lists(kind)[number].at;
+    let views = before.views();
+    let count = run_count(before, kind);
+    let list = before.lists(kind).at(number);
     let mut next = begin;
-    while due.len() < views.len() && views[due.len()].list == list {
+    while due.len() < count && views.list(due.len()) == list {
         let len = run_len(after, firsts[due.len()]);
         due.push(next)?;
         next.at = next.at.saturating_add(len);

@@ -10,7 +10,7 @@ ghost use Rattle.check_list_places.specs.inside.Compared.{OfBoth};
 ghost use Rattle.check_list_places.specs.inside.DuePlaces.{runs_of, runs_held, AreKindRunPairs, IsKindRunElsewhere, AreListsDue, AreRunsDue};
 ghost use Rattle.check_list_places.specs.inside.Pairs.{AreListPairs};
 
-use crate::due::{DuePlaces, Place, due_places, runs_of};
+use crate::due::{DuePlaces, Place, due_places, run_count};
 use crate::firsts::first_followers;
 use crate::followers::{Follower, followers_of_lists, followers_of_runs};
 use crate::least::{first_displaced, lesser};
@@ -58,7 +58,7 @@ fn due_by(
     ensures runs { IfOk result (λ due. OfBoth before.now after.now (λ r s. AreRunsDue kind r s (length (runs_of r kind)) due.runs.items)) }
 {
     let first_lists = first_followers(alloc, lists, before.lists(kind).len())?;
-    let first_runs = first_followers(alloc, runs, runs_of(before, kind).len())?;
+    let first_runs = first_followers(alloc, runs, run_count(before, kind))?;
     due_places(alloc, before, after, kind, &first_lists, &first_runs)
 }
 

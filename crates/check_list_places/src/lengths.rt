@@ -1,6 +1,7 @@
 // How many bytes lists and runs of view pairs have as they stand.
-ghost use Rattle.std.specs.Prelude.{◌≡◌, ◌≤◌, ◌<◌, ◌+◌, ◌^◌, ℕ, length, take};
+ghost use Rattle.std.specs.Prelude.{◌≡◌, ◌≤◌, ◌<◌, ◌+◌, ◌^◌, ℕ, length, take, slice_index_or};
 ghost use Rattle.dw_base.specs.declared.fault.Reach.{Reach};
+ghost use Rattle.list_arena.specs.Held.{HeldList};
 ghost use Rattle.list_model.specs.Contributions.{part_end};
 ghost use Rattle.value_links.specs.Reading.{of_kind, lists_of, list_at, view_at};
 ghost use Rattle.value_links.specs.Sections.{debug_lists};
@@ -10,6 +11,7 @@ ghost use Rattle.check_list_places.specs.inside.Compared.{OfBoth};
 ghost use Rattle.check_list_places.specs.inside.Lengths.{IsBareUpTo, IsEntryUpTo, IsListUpTo, AreNumbersUpTo};
 
 use leb_codec::read_u;
+use list_arena::Lists;
 use list_model::{ListKind, RawEntry, entries_end, read_entry};
 use loc_lists::is_item;
 use value_links::World;
@@ -65,18 +67,20 @@ fn numbers_end(bytes: &[u8], at: usize, count: usize) -> usize
     place
 }
 
-// The place behind a list of a kind that begins at a place, with its end. `bytes` goes from the first byte of the section to the end of the
+// The place behind the list of a kind with a number, with its end. `bytes` goes from the first byte of the section to the end of the
 // contribution.
-fn list_end(kind: ListKind, bytes: &[u8], at: u64, raws: &[RawEntry]) -> u64
+fn list_end(kind: ListKind, bytes: &[u8], lists: &Lists, number: usize) -> u64
     requires small { length bytes.now < 2 ^ 63 }
-    requires list { (end : ℕ) × IsListUpTo kind bytes.now at raws.now end }
-    ensures { (end : ℕ) → IsListUpTo kind bytes.now at raws.now end → result ≡ end }
+    requires inside { number < length lists.now }
+    requires list { (d : HeldList) → (end : ℕ) × IsListUpTo kind bytes.now (slice_index_or lists.now number d).at (slice_index_or lists.now number d).raw end }
+    ensures { (d : HeldList) (end : ℕ) → IsListUpTo kind bytes.now (slice_index_or lists.now number d).at (slice_index_or lists.now number d).raw end → result ≡ end }
 {
+    let count = lists.entry_count(number);
     // The end of a list has one byte.
-    if raws.is_empty() {
-        return at + 1;
+    if count == 0 {
+        return lists.at(number) + 1;
     }
-    entry_end(kind, bytes, &raws[raws.len() - 1]) + 1
+    entry_end(kind, bytes, &lists.entry(number, count - 1)) + 1
 }
 
 // The body of the section of lists of a kind.
@@ -107,8 +111,10 @@ pub(crate) fn list_len(world: &World<'_>, kind: ListKind, number: u32) -> u64
     ensures len { OfBoth world.now world.now (λ r s. HasLength kind s (list_at (lists_of s kind) number) result) }
     ensures within { OfBoth world.now world.now (λ r s. (list_at (lists_of s kind) number).at + result ≤ length (of_kind s.links kind).section) }
 {
-    let list = &world.lists(kind)[number as usize];
-    list_end(kind, bytes_to(world, kind, list.part), list.at, &list.raw) - list.at
+    let lists = world.lists(kind);
+    let number = number as usize;
+    let bytes = bytes_to(world, kind, lists.part(number));
+    list_end(kind, bytes, lists, number) - lists.at(number)
 }
 
 /// The bytes of the run of view pairs with a number.
@@ -118,9 +124,9 @@ pub(crate) fn run_len(world: &World<'_>, number: u32) -> u64
     ensures len { OfBoth world.now world.now (λ r s. RunHasLength s (view_at s.views number) result) }
     ensures within { OfBoth world.now world.now (λ r s. (view_at s.views number).at + result ≤ length s.links.locations.section) }
 {
-    let run = &world.views()[number as usize];
+    let views = world.views();
+    let number = number as usize;
     let section = section_of(world, ListKind::Locations);
-    let at = run.at as usize;
-    let pairs = run.pairs.as_slice();
-    (numbers_end(section, at, 2 * pairs.len()) - at) as u64
+    let at = views.at(number) as usize;
+    (numbers_end(section, at, 2 * views.pair_count(number)) - at) as u64
 }

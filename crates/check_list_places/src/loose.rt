@@ -75,7 +75,7 @@ fn push_list(
     // The bytes of a list end by themselves, so that it has one length.
     ranges_end();
     locations_end();
-    let start = world.lists(kind)[number as usize].at;
+    let start = world.lists(kind).at(number as usize);
     push_span(spans, start, list_len(world, kind, number))
 }
 
@@ -102,7 +102,7 @@ fn push_run(spans: &mut Vec<(u64, u64)>, world: &World<'_>, number: u32) -> Resu
 {
     // The bytes of a number end by themselves, so that a run has one length.
     numbers_end();
-    let start = world.views()[number as usize].at;
+    let start = world.views().at(number as usize);
     push_span(spans, start, run_len(world, number))
 }
 

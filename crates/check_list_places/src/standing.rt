@@ -1,12 +1,12 @@
 // Where the lists and view pairs of a file stand.
 ghost use Rattle.std.specs.Prelude.{◌≡◌, ◌<◌, ℕ, length, map, slice_index_or, IfOk};
 ghost use Rattle.dw_base.specs.declared.fault.Reach.{Reach};
-ghost use Rattle.value_links.specs.declared.lists.ListRead.{ListRead as HeldList};
+ghost use Rattle.list_arena.specs.Held.{HeldList};
 ghost use Rattle.value_links.specs.World.{IsWorldOf, lists_held};
 ghost use Rattle.check_list_places.specs.inside.Compared.{OfBoth};
 ghost use Rattle.check_list_places.specs.inside.DuePlaces.{runs_held, standing, IsPartOfList, StandRuns};
 
-use crate::due::{Place, runs_of};
+use crate::due::{Place, run_count};
 use dw_base::NoMemory;
 use list_model::ListKind;
 use std::alloc::Global;
@@ -21,10 +21,11 @@ pub(crate) fn list_places(
     ensures { IfOk result (λ places. places.items ≡ map standing (lists_held world.now kind)) }
 {
     let mut places = Vec::new(alloc);
-    for list in world.lists(kind) {
+    let lists = world.lists(kind);
+    for number in 0..lists.len() {
         let place = Place {
-            part: list.part,
-            at: list.at,
+            part: lists.part(number),
+            at: lists.at(number),
         };
         places.push(place)?;
     }
@@ -38,10 +39,10 @@ fn part_of_list(world: &World<'_>, kind: ListKind, at: u64) -> u32
     ensures { OfBoth world.now world.now (λ r s. IsPartOfList kind s at result) }
 {
     let lists = world.lists(kind);
-    match lists.binary_search_by_key(&at, |list| list.at) {
-        Ok(number) => lists[number].part,
+    match lists.find(at) {
+        Some(number) => lists.part(number),
         // A list begins there.
-        Err(_) => unreachable!(),
+        None => unreachable!(),
     }
 }
 
@@ -56,9 +57,13 @@ pub(crate) fn run_places(
     ensures each { IfOk result (λ places. OfBoth world.now world.now (λ r s. StandRuns kind s (length places.items) places.items)) }
 {
     let mut places = Vec::new(alloc);
-    for run in runs_of(world, kind) {
-        let part = part_of_list(world, kind, run.list);
-        places.push(Place { part, at: run.at })?;
+    let views = world.views();
+    for number in 0..run_count(world, kind) {
+        let part = part_of_list(world, kind, views.list(number));
+        places.push(Place {
+            part,
+            at: views.at(number),
+        })?;
     }
     Ok(places)
 }

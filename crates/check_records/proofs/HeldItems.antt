@@ -19,7 +19,7 @@ use Rattle.list_model.specs.Items.{Bounds, SetsBase, HasBounds, GiveFrom, Give, 
 use Rattle.list_model.specs.Items.Bounds.{between, elsewhere}
 use Rattle.list_least.specs.Plans.{bounds_of}
 use Rattle.loc_lists.specs.Locations.{items_among, AreItems}
-use Rattle.value_links.specs.declared.lists.ListRead.{ListRead as HeldList}
+use Rattle.list_arena.specs.Held.{HeldList}
 use Rattle.value_links.specs.Reading.{ListRead, Linkable, context_at}
 use Rattle.value_links.specs.Lists.{IsOwner, item_count}
 use Rattle.value_links.specs.World.{IsMeaningOf, HoldsMeaning, HoldsList}

@@ -14,7 +14,7 @@ use Rattle.list_least.specs.Plans.{bounds_of}
 use Rattle.list_lookup.specs.Maps.{IsContextIn}
 use Rattle.list_lookup.proofs.AddressTables.{context_same}
 use Rattle.check_lists.specs.Refused.{IsFirstRefused}
-use Rattle.value_links.specs.declared.lists.ListRead.{ListRead as HeldList}
+use Rattle.list_arena.specs.Held.{HeldList}
 use Rattle.value_links.specs.Certificates.{ArePotentialsFor}
 use Rattle.value_links.specs.Reading.{Reading, of_kind, lists_of, part_at, list_at, context_at}
 use Rattle.value_links.specs.Sections.{debug_addr, debug_lists}
@@ -44,11 +44,11 @@ module _ (world : World) (reach : Reach) (is : IsWorldOf world.image reach world
   own_section = is.holds.sections kind
 
   -- its entries stand in the section
-  pub held_stands : (section : List ℕ) → section ≡ debug_lists world.image kind → StandFrom kind section 0 held.raw.items
+  pub held_stands : (section : List ℕ) → section ≡ debug_lists world.image kind → StandFrom kind section 0 held.raw
   held_stands section same =
       let list = list_at (lists_of is.r kind) number in
       let stand = list_stands kind (of_kind is.r.links kind).section (part_at (of_kind is.r.links kind) list.part) list.at list.raws ((is.read.lists kind).each number inside).read in
-      subst (λ (z : List ℕ). StandFrom kind z 0 held.raw.items) (own_section ∙ sym same) (subst (λ (z : List RawEntry). StandFrom kind (of_kind is.r.links kind).section 0 z) (sym holds.raws) stand)
+      subst (λ (z : List ℕ). StandFrom kind z 0 held.raw) (own_section ∙ sym same) (subst (λ (z : List RawEntry). StandFrom kind (of_kind is.r.links kind).section 0 z) (sym holds.raws) stand)
 
   module _ (items : List Item) (live : held.meaning ≡ Live items) where
     pub owner_there : held.owner ≡ None → ⊥
@@ -70,12 +70,12 @@ module _ (world : World) (reach : Reach) (is : IsWorldOf world.image reach world
         pub context_known : IsContextIn world context
         context_known = (owner, owner_known, context_is world.image is.r is.holds ∙ sym (context_same world.image world is.r owner is.holds))
 
-        module _ (addr : List ℕ) (addr_is : addr ≡ debug_addr world.image) (section : List ℕ) (section_is : section ≡ debug_lists world.image kind) (size : ℕ) (sized : HasBareSize kind section held.raw.items size) where
+        module _ (addr : List ℕ) (addr_is : addr ≡ debug_addr world.image) (section : List ℕ) (section_is : section ≡ debug_lists world.image kind) (size : ℕ) (sized : HasBareSize kind section held.raw size) where
           potentials_read : (Judge : List ℕ → Context → List Bounds → List ℕ → ℕ → Type 0) (potentials : List ℕ) → Judge addr context (map bounds_of items) potentials size → ArePotentialsFor Judge kind is.r number potentials
           potentials_read Judge potentials judged =
               let list = list_at (lists_of is.r kind) number in
               let says = items_said is.r.links kind list held holds items live owner owner_is in
-              let there : HasBareSize kind (of_kind is.r.links kind).section list.raws size = subst (λ (z : List RawEntry). HasBareSize kind (of_kind is.r.links kind).section z size) holds.raws (subst (λ (z : List ℕ). HasBareSize kind z held.raw.items size) (section_is ∙ sym own_section) sized) in
+              let there : HasBareSize kind (of_kind is.r.links kind).section list.raws size = subst (λ (z : List RawEntry). HasBareSize kind (of_kind is.r.links kind).section z size) holds.raws (subst (λ (z : List ℕ). HasBareSize kind z held.raw size) (section_is ∙ sym own_section) sized) in
               let bare = list_bare kind (of_kind is.r.links kind).section (part_at (of_kind is.r.links kind) list.part) list.at list.raws says.entries size ((is.read.lists kind).each number inside).read says.said there in
               let here : Judge is.r.links.addresses context (map bounds_of items) potentials size = subst (λ (z : List ℕ). Judge z context (map bounds_of items) potentials size) (addr_is ∙ sym is.holds.addresses) judged in
               let own : Judge is.r.links.addresses (context_at is.r.links owner) (map bounds_of items) potentials size = subst (λ (z : Context). Judge is.r.links.addresses z (map bounds_of items) potentials size) (context_is world.image is.r is.holds) here in

@@ -5,7 +5,7 @@ use Rattle.dw_base.specs.declared.fault.Reach.{Reach}
 use Rattle.list_model.specs.declared.entry.ListKind.{ListKind}
 use Rattle.list_model.specs.declared.entry.ListKind.TheVariants.{Locations}
 use Rattle.list_lookup.specs.Owned.{IsOwnedBy, AreOwnedIn}
-use Rattle.value_links.specs.declared.lists.ListRead.{ListRead as HeldList}
+use Rattle.list_arena.specs.Held.{HeldList}
 use Rattle.value_links.specs.Layouts.{AreOwnedLists}
 use Rattle.value_links.specs.Lists.{IsOwner}
 use Rattle.value_links.specs.Reading.{Linkable, Reading, list_at}

@@ -1,8 +1,8 @@
 -- The parts of a file, from what World holds of it.
-use Rattle.std.proofs.Common.{◌≡◌, ◌<◌, ◌+◌, ◌^◌, ◌∙◌, ℕ, List, [], ◌∷◌, ◌++◌, length, get_or, map, sym, ap, subst, refl, arith}
-use Rattle.std.specs.Prelude.{Option}
+use Rattle.std.proofs.Common.{◌≡◌, ◌<◌, ◌+◌, ◌^◌, ◌∙◌, ℕ, List, [], ◌∷◌, ◌++◌, length, get_or, map, Bool, true, false, true≢false, sym, ap, subst, refl, arith}
+use Rattle.std.specs.Prelude.{Option, None, ◌↔◌, IsTrue}
 use Rattle.std.specs.List.{All}
-use Rattle.std.proofs.lemmas.List.{append_assoc, append-nil, map-append, map_push, length-map, get_or-map, get_or_read}
+use Rattle.std.proofs.lemmas.List.{append_assoc, append-nil, map-append, map_push, length-map, get_or-map}
 use Rattle.std.proofs.lemmas.List.Elements.{All-append, All-map, All-same}
 use Rattle.dw_base.specs.declared.fault.Reach.{Reach}
 use Rattle.list_model.specs.declared.entry.ListKind.{ListKind}
@@ -11,7 +11,7 @@ use Rattle.list_model.specs.declared.item.Item.{Item}
 use Rattle.list_model.specs.declared.item.Meaning.{Meaning}
 use Rattle.list_model.specs.declared.item.Meaning.TheVariants.{Live, Dead}
 use Rattle.line_machine.specs.declared.head.Head.{Head}
-use Rattle.value_links.specs.declared.lists.ListRead.{ListRead as HeldList}
+use Rattle.list_arena.specs.Held.{HeldList}
 use Rattle.value_links.specs.Layouts.{AreNumbersOf}
 use Rattle.value_links.specs.Lists.{IsFrozen}
 use Rattle.value_links.specs.Reading.{ProgramRead, ListRead, Linkable, Reading, line_heads, lists_of, list_at}
@@ -47,29 +47,33 @@ parts_once s a b p q =
 
 -- LISTS THAT ARE PUSHED
 
+-- past the end there is no list, and an empty one stands for it
+abbrev no_list : HeldList
+no_list = record { at = 0; part = 0; owner = None; raw = []; meaning = Dead }
+
 -- a list that has items isn't dead
-pub live_apart : (meaning : Meaning) (items : List Item) → meaning ≡ Live items → ¬ (meaning ≡ Dead)
+live_apart : (meaning : Meaning) (items : List Item) → meaning ≡ Live items → ¬ (meaning ≡ Dead)
 live_apart meaning items live dead = cc
 
 module _ (world : World) (kind : ListKind) where
   pub adds_none : (parts : List HeldPart) → AddsLists world kind 0 parts parts
   adds_none parts = record { numbers = []; live = numbers_none (IsLive world kind); whole = sym (append-nil parts) }
 
-  module _ (lists : List HeldList) (same : lists ≡ lists_held world kind) (old now new : List HeldPart) (k : ℕ) (inside : k < length lists) (list : HeldList) (here : list ≡ get_or lists k list) (are : AddsLists world kind k old now) where
-    there : (d : HeldList) → list ≡ get_or (lists_held world kind) k d
-    there d = get_or_read lists k list inside here d ∙ ap (λ (z : List HeldList). get_or z k d) same
+  module _ (lists : List HeldList) (same : lists ≡ lists_held world kind) (old now new : List HeldPart) (k : ℕ) (frozen : Bool) (told : (d : HeldList) → IsTrue frozen ↔ ((get_or lists k d).meaning ≡ Dead)) (are : AddsLists world kind k old now) where
+    told_held : (d : HeldList) → IsTrue frozen ↔ ((get_or (lists_held world kind) k d).meaning ≡ Dead)
+    told_held = subst (λ (z : List HeldList). (d : HeldList) → IsTrue frozen ↔ ((get_or z k d).meaning ≡ Dead)) same told
 
-    pub adds_more : ¬ (list.meaning ≡ Dead) → new ≡ now ++ held.List kind k ∷ [] → AddsLists world kind (k + 1) old new
+    pub adds_more : frozen ≡ false → new ≡ now ++ held.List kind k ∷ [] → AddsLists world kind (k + 1) old new
     adds_more live pushed = record {
       numbers = are.numbers ++ k ∷ [];
-      live = numbers_more (IsLive world kind) k are.numbers are.live (λ d dead. live (ap (λ (z : HeldList). z.meaning) (there d) ∙ dead));
+      live = numbers_more (IsLive world kind) k are.numbers are.live (λ d dead. true≢false (sym ((told_held d).1 dead) ∙ live));
       whole = pushed ∙ ap (λ (z : List HeldPart). z ++ held.List kind k ∷ []) are.whole ∙ append_assoc old (map (held.List kind) are.numbers) (held.List kind k ∷ []) ∙ ap (λ (z : List HeldPart). old ++ z) (sym (map_push (held.List kind) are.numbers k));
     }
 
-    pub adds_still : list.meaning ≡ Dead → new ≡ now → AddsLists world kind (k + 1) old new
+    pub adds_still : frozen ≡ true → new ≡ now → AddsLists world kind (k + 1) old new
     adds_still dead kept = record {
       numbers = are.numbers;
-      live = numbers_still (IsLive world kind) k are.numbers are.live (λ live. live list (ap (λ (z : HeldList). z.meaning) (sym (there list)) ∙ dead));
+      live = numbers_still (IsLive world kind) k are.numbers are.live (λ live. live no_list ((told_held no_list).0 dead));
       whole = kept ∙ are.whole;
     }
 

@@ -3,7 +3,7 @@ ghost use Rattle.std.specs.Prelude.{◌≡◌, ◌<◌, length, slice_index_or, 
 ghost use Rattle.dw_base.specs.declared.fault.Reach.{Reach};
 ghost use Rattle.leb_codec.specs.Records.{OfList};
 ghost use Rattle.list_model.specs.declared.item.Meaning.TheVariants.{Dead};
-ghost use Rattle.value_links.specs.declared.lists.ListRead.{ListRead as HeldList};
+ghost use Rattle.list_arena.specs.Held.{HeldList};
 ghost use Rattle.value_links.specs.Sections.{debug_addr, debug_lists};
 ghost use Rattle.value_links.specs.World.{IsWorldOf, lists_held};
 ghost use Rattle.list_lookup.specs.Maps.{AreMapsFor};
@@ -13,19 +13,20 @@ ghost use Rattle.check_records.specs.inside.Judged.{IsVerdictOn};
 
 use check_lists::accept_list;
 use dw_base::NoMemory;
+use list_arena::ListRead;
 use list_lookup::TableMaps;
 use list_model::{ListKind, Meaning};
 use std::alloc::Global;
 use unit_slots::operands_end;
-use value_links::{ListRead, World};
+use value_links::World;
 
 // The bytes of a list without its expressions and their lengths: of each entry its code and its operands, and the end of the list.
 fn bare_size(section: &[u8], kind: ListKind, list: &ListRead) -> u64
-    requires { StandFrom kind section.now 0 list.now.raw.items }
-    ensures { HasBareSize kind section.now list.now.raw.items result }
+    requires { StandFrom kind section.now 0 list.now.raw }
+    ensures { HasBareSize kind section.now list.now.raw result }
 {
     let mut size = 1;
-    for raw in &list.raw {
+    for raw in list.entries() {
         size += operands_end(section, kind, raw) as u64 - raw.at;
     }
     size
@@ -57,14 +58,14 @@ pub(crate) fn judge_list(
     requires maps { AreMapsFor written.now (debug_addr written.now.image) maps.now }
     ensures { IfOk result (IsVerdictOn written.now.image (AList kind number) (OfList potentials.now)) }
 {
-    let list = &written.lists(kind)[number as usize];
-    let (Meaning::Live(items), Some(owner)) = (&list.meaning, list.owner) else {
+    let list = written.lists(kind).list(alloc, number as usize)?;
+    let (Meaning::Live(items), Some(owner)) = (list.meaning(), list.owner()) else {
         // A list that isn't frozen has items and an owner.
         unreachable!()
     };
     let addr = written.section(b".debug_addr".as_slice());
     let context = written.context(owner);
-    let size = bare_size(section_of(written, kind), kind, list);
+    let size = bare_size(section_of(written, kind), kind, &list);
     accept_list(
         alloc,
         items.as_slice(),

@@ -11,7 +11,7 @@ ghost use Rattle.check_records.specs.inside.Pushed.{AddsAllLists};
 
 use certificates::Proof;
 use dw_base::NoMemory;
-use list_model::{ListKind, Meaning};
+use list_model::ListKind;
 use std::alloc::Global;
 use value_links::World;
 
@@ -48,8 +48,9 @@ fn push_lists(parts: &mut Vec<Part>, world: &World<'_>, kind: ListKind) -> Resul
     requires { (reach : Reach) × IsWorldOf world.now.image reach world.now }
     ensures { OnOk result (AddsAllLists world.now kind parts.old.items parts.new.items) }
 {
-    for (number, list) in world.lists(kind).iter().enumerate() {
-        if let Meaning::Live(_) = list.meaning {
+    let lists = world.lists(kind);
+    for number in 0..lists.len() {
+        if !lists.is_frozen(number) {
             parts.push(Part::List(kind, number as u32))?;
         }
     }

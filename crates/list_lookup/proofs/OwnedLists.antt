@@ -1,14 +1,15 @@
 -- The location lists that units own, as they are found one after the other.
 use Rattle.std.proofs.Common.{◌≡◌, ◌<◌, ◌+◌, ◌∙◌, inl, inr, ℕ, List, [], ◌∷◌, ◌++◌, length, get_or, sym, ap, subst, refl, arith}
-use Rattle.std.specs.Prelude.{Option, Some, slice_set}
+use Rattle.std.specs.Prelude.{Option, Some, None, slice_set}
 use Rattle.std.specs.List.{All}
 use Rattle.std.proofs.lemmas.Bool.{cases_lt, cases_eq}
 use Rattle.std.proofs.lemmas.Option.{same_Some}
-use Rattle.std.proofs.lemmas.List.{length_push, get_or_push, get_or_append_left, get_or_read, length-set, get_or-set_same, get_or-set_other}
+use Rattle.std.proofs.lemmas.List.{length_push, get_or_push, get_or_append_left, length-set, get_or-set_same, get_or-set_other}
 use Rattle.std.proofs.lemmas.List.Elements.{All-nil, All-push}
 use Rattle.dw_base.specs.declared.fault.Reach.{Reach}
 use Rattle.list_model.specs.declared.entry.ListKind.TheVariants.{Locations}
-use Rattle.value_links.specs.declared.lists.ListRead.{ListRead as HeldList}
+use Rattle.list_model.specs.declared.item.Meaning.TheVariants.{Dead}
+use Rattle.list_arena.specs.Held.{HeldList}
 use Rattle.value_links.specs.Layouts.{AreNumbersOf}
 use Rattle.value_links.specs.Lists.{IsOwner}
 use Rattle.value_links.specs.Reading.{list_at}
@@ -62,52 +63,48 @@ module _ (Those : ℕ → Type 0) where
 
 -- OWNERS
 
+-- past the end there is no list, and an empty one stands for it
+abbrev no_list : HeldList
+no_list = record { at = 0; part = 0; owner = None; raw = []; meaning = Dead }
+
 -- the owner of a list is a unit that is held
-pub owner_held : (world : World) (reach : Reach) → IsWorldOf world.image reach world → (k u : ℕ) (list : HeldList) → k < length world.locations → list ≡ get_or world.locations k list → list.owner ≡ Some u → u < length world.units
-owner_held world reach is k u list inside here owner =
+pub owner_held : (world : World) (reach : Reach) → IsWorldOf world.image reach world → (k u : ℕ) → k < length world.locations → IsOwnedBy world u k → u < length world.units
+owner_held world reach is k u inside own =
     let count : length world.locations ≡ length is.r.location_lists = (is.holds.lists Locations).count in
-    let held = (is.holds.lists Locations).each k list (omega (arith, inside, count)) in
-    let own : (get_or world.locations k list).owner ≡ Some u = ap (λ (z : HeldList). z.owner) (sym here) ∙ owner in
-    let owned = subst (λ (z : Option ℕ). IsOwner is.r.links Locations (list_at is.r.location_lists k).at z) own held.owner in
+    let held = (is.holds.lists Locations).each k no_list (omega (arith, inside, count)) in
+    let owned = subst (λ (z : Option ℕ). IsOwner is.r.links Locations (list_at is.r.location_lists k).at z) (own no_list) held.owner in
     omega (arith, owned.0.known, held_count is.r.links.units world.units is.holds.units)
 
-module _ (world : World) (n : ℕ) (list : HeldList) (inside : n < length world.locations) (here : list ≡ get_or world.locations n list) where
-  same_list : (d : HeldList) → get_or world.locations n d ≡ list
-  same_list d = sym (get_or_read world.locations n list inside here d)
+-- UNIT BY UNIT
 
-  pub owned_here : (u : ℕ) → list.owner ≡ Some u → IsOwnedBy world u n
-  owned_here u owner d = ap (λ (z : HeldList). z.owner) (same_list d) ∙ owner
+module _ (world : World) (n : ℕ) (owner : Option ℕ) (here : (d : HeldList) → owner ≡ (get_or world.locations n d).owner) (all : List Owned) (are : AreAllOwned world n all) where
+  owner_told : (u : ℕ) → IsOwnedBy world u n → owner ≡ Some u
+  owner_told u is = here no_list ∙ is no_list
 
-  owner_told : (u : ℕ) → IsOwnedBy world u n → list.owner ≡ Some u
-  owner_told u is = ap (λ (z : HeldList). z.owner) (sym (same_list list)) ∙ is list
+  -- no unit owns it
+  pub owned_none : ((u : ℕ) → owner ≡ Some u → ⊥) → AreAllOwned world (n + 1) all
+  owned_none none = record {
+    units = are.units;
+    each = λ u d below. numbers_still (IsOwnedBy world u) n (get_or all u d).lists.items (are.each u d below) (λ is. none u (owner_told u is));
+  }
 
-  -- UNIT BY UNIT
-
-  module _ (all : List Owned) (are : AreAllOwned world n all) where
-    -- no unit owns it
-    pub owned_none : ((u : ℕ) → list.owner ≡ Some u → ⊥) → AreAllOwned world (n + 1) all
-    owned_none none = record {
-      units = are.units;
-      each = λ u d below. numbers_still (IsOwnedBy world u) n (get_or all u d).lists.items (are.each u d below) (λ is. none u (owner_told u is));
-    }
-
-    -- or this one does
-    pub owned_one : (u : ℕ) (old now : Owned) → list.owner ≡ Some u → u < length all → old ≡ get_or all u old → now.lists.items ≡ old.lists.items ++ n ∷ [] → AreAllOwned world (n + 1) (slice_set all u now)
-    owned_one u old now owner known was pushed = record {
-      units = length-set all u now ∙ are.units;
-      each = λ v d below.
-          let less : v < length all = omega (arith, below, length-set all u now) in
-          elim (cases_eq v u) [
-            | inl same ↦
-                let put : get_or (slice_set all u now) v d ≡ now = ap (λ (z : ℕ). get_or (slice_set all u now) z d) same ∙ get_or-set_same all u now d known in
-                let more = numbers_more (IsOwnedBy world u) n old.lists.items (subst (λ (o : Owned). AreOwnedUpTo world n u o.lists.items) (sym was) (are.each u old known)) (owned_here u owner) in
-                subst (λ (z : ℕ). AreOwnedUpTo world (n + 1) z (get_or (slice_set all u now) v d).lists.items) (sym same)
-                (subst (λ (z : List ℕ). AreOwnedUpTo world (n + 1) u z) (sym (ap (λ (o : Owned). o.lists.items) put ∙ pushed)) more)
-            | inr apart ↦
-                let still = numbers_still (IsOwnedBy world v) n (get_or all v d).lists.items (are.each v d less) (λ is. apart (same_Some v u (sym (owner_told v is) ∙ owner))) in
-                subst (λ (o : Owned). AreOwnedUpTo world (n + 1) v o.lists.items) (sym (get_or-set_other all u v now d apart)) still
-          ];
-    }
+  -- or this one does
+  pub owned_one : (u : ℕ) (old now : Owned) → owner ≡ Some u → u < length all → old ≡ get_or all u old → now.lists.items ≡ old.lists.items ++ n ∷ [] → AreAllOwned world (n + 1) (slice_set all u now)
+  owned_one u old now owned known was pushed = record {
+    units = length-set all u now ∙ are.units;
+    each = λ v d below.
+        let less : v < length all = omega (arith, below, length-set all u now) in
+        elim (cases_eq v u) [
+          | inl same ↦
+              let put : get_or (slice_set all u now) v d ≡ now = ap (λ (z : ℕ). get_or (slice_set all u now) z d) same ∙ get_or-set_same all u now d known in
+              let more = numbers_more (IsOwnedBy world u) n old.lists.items (subst (λ (o : Owned). AreOwnedUpTo world n u o.lists.items) (sym was) (are.each u old known)) (λ e. sym (here e) ∙ owned) in
+              subst (λ (z : ℕ). AreOwnedUpTo world (n + 1) z (get_or (slice_set all u now) v d).lists.items) (sym same)
+              (subst (λ (z : List ℕ). AreOwnedUpTo world (n + 1) u z) (sym (ap (λ (o : Owned). o.lists.items) put ∙ pushed)) more)
+          | inr apart ↦
+              let still = numbers_still (IsOwnedBy world v) n (get_or all v d).lists.items (are.each v d less) (λ is. apart (same_Some v u (sym (owner_told v is) ∙ owned))) in
+              subst (λ (o : Owned). AreOwnedUpTo world (n + 1) v o.lists.items) (sym (get_or-set_other all u v now d apart)) still
+        ];
+  }
 
 -- none is found yet
 pub owned_nothing : (world : World) (all : List Owned) → OwnNothing (length world.units) all → AreAllOwned world 0 all

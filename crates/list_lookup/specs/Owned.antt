@@ -1,7 +1,7 @@
 -- The location lists that the units of a file own: those that an entry of the unit names, and none of a unit before (DWARF 5 section 2.6.2).
 use Rattle.std.specs.Prelude.{◌≡◌, ◌<◌, ℕ, List, [], length, slice_index_or, Some}
 use Rattle.list_lookup.specs.declared.owned.Owned.{Owned}
-use Rattle.value_links.specs.declared.lists.ListRead.{ListRead as HeldList}
+use Rattle.list_arena.specs.Held.{HeldList}
 use Rattle.value_links.specs.Layouts.{AreNumbersOf}
 use Rattle.value_links.specs.World.{World}
 

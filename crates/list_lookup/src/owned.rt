@@ -36,8 +36,9 @@ pub fn owned_lists(alloc: Global, world: &World<'_>) -> Result<Vec<Owned>, NoMem
     ensures { IfOk result (λ all. AreAllOwned world.now (length world.now.locations) all.items) }
 {
     let mut all = nothing_owned(alloc, world.units().len())?;
-    for (number, list) in world.lists(ListKind::Locations).iter().enumerate() {
-        if let Some(unit) = list.owner {
+    let lists = world.lists(ListKind::Locations);
+    for number in 0..lists.len() {
+        if let Some(unit) = lists.owner(number) {
             all[unit as usize].lists.push(number)?;
         }
     }

@@ -23,7 +23,7 @@ use Rattle.list_model.proofs.EntryLaws.{one_kind}
 use Rattle.range_lists.specs.Ranges.{IsRead as IsRangeRead, IsRangeList}
 use Rattle.loc_lists.specs.Locations.{IsRead as IsLocationRead, IsLocationList, SpellsBehind, SpellsExpression, is_item, items_among, bytes_in, expressions_of}
 use Rattle.loc_lists.proofs.Spans.{span_inside}
-use Rattle.value_links.specs.declared.lists.ListRead.{ListRead as HeldList}
+use Rattle.list_arena.specs.Held.{HeldList}
 use Rattle.value_links.specs.Lists.{IsListOf, AreExpressionsRead, owner_unit}
 use Rattle.value_links.specs.Operations.{LinkedOperation, LinksExpression}
 use Rattle.value_links.specs.Reading.{ListRead, Linkable, of_kind, lists_of, list_at, part_at}

@@ -10,7 +10,7 @@ use Rattle.list_model.specs.declared.entry.RawEntry.{RawEntry}
 use Rattle.list_model.specs.declared.item.Meaning.{Meaning}
 use Rattle.list_model.specs.declared.item.Meaning.TheVariants.{Live, Dead}
 use Rattle.loc_lists.specs.Locations.{is_item, items_among}
-use Rattle.value_links.specs.declared.lists.ListRead.{ListRead as HeldList}
+use Rattle.list_arena.specs.Held.{HeldList}
 use Rattle.value_links.specs.Lists.{IsOwner, IsFrozen}
 use Rattle.value_links.specs.Reading.{ListRead, Linkable, Reading, of_kind, lists_of, list_at}
 use Rattle.value_links.specs.World.{World, Holds, HoldsList, HoldsMeaning, lists_held}
@@ -110,10 +110,10 @@ module _ (r : Linkable) (kind : ListKind) (list : ListRead) (held : HeldList) (h
   dead_frozen : held.meaning ≡ Dead → IsFrozen r kind list
   dead_frozen dead = subst (HoldsMeaning r kind list held.owner) dead holds.meaning
 
-  among_read : (Of : RawEntry → ℕ → Type 0) (p : ℕ) → HoldsAmong Of held.raw.items p → (raw : RawEntry) × Contains list.raws raw × Of raw p
+  among_read : (Of : RawEntry → ℕ → Type 0) (p : ℕ) → HoldsAmong Of held.raw p → (raw : RawEntry) × Contains list.raws raw × Of raw p
   among_read Of p long = subst (λ (z : List RawEntry). HoldsAmong Of z p) holds.raws long
 
-  read_among : (Of : RawEntry → ℕ → Type 0) (p : ℕ) → (raw : RawEntry) × Contains list.raws raw × Of raw p → HoldsAmong Of held.raw.items p
+  read_among : (Of : RawEntry → ℕ → Type 0) (p : ℕ) → (raw : RawEntry) × Contains list.raws raw × Of raw p → HoldsAmong Of held.raw p
   read_among Of p long = subst (λ (z : List RawEntry). HoldsAmong Of z p) (sym holds.raws) long
 
   pub frozen_read : (p : ℕ) → IsLongInDead kind (of_kind r kind).section held p → IsLongInFrozen r kind list p

@@ -149,6 +149,13 @@ pub record IsRunWalked (bytes : List ℕ) (run : ViewRead) (before : Option ℕ)
   pub but : IsFoundBut (λ p. (before ≡ Some p) ⊎ IsLongInRun bytes run p) (IsLongInRun bytes (run_of run.list here (drop i run.pairs))) found
 
 module _ (bytes : List ℕ) (run : ViewRead) (before : Option ℕ) where
+  -- none has been looked at
+  pub run_none : (here : ℕ) → here ≡ run.at → IsRunIn bytes run → IsRunWalked bytes run before 0 here before
+  run_none here same stands = record {
+    rest = subst (λ (z : ℕ). IsRunIn bytes (run_of run.list z run.pairs)) (sym same) stands;
+    but = subst (λ (z : ℕ). IsFoundBut (λ p. (before ≡ Some p) ⊎ IsLongInRun bytes run p) (IsLongInRun bytes (run_of run.list z run.pairs)) before) (sym same) (found_before (IsLongInRun bytes run) before);
+  }
+
   module _ (i here : ℕ) (found : Option ℕ) (w : IsRunWalked bytes run before i here found) where
     starts : (d : ViewPair) → i < length run.pairs → Starts bytes run.list (get_or run.pairs i d) (drop (i + 1) run.pairs) here
     starts d inside = run_starts bytes run.list (get_or run.pairs i d) (drop (i + 1) run.pairs) here (subst (λ (z : List ViewPair). IsRunIn bytes (run_of run.list here z)) (drop_more run.pairs i d inside) w.rest)

@@ -8,7 +8,7 @@ use Rattle.list_model.specs.declared.entry.ListKind.TheVariants.{Locations}
 use Rattle.list_model.specs.Contributions.{part_end}
 use Rattle.loc_lists.specs.declared.views.ViewPair.{ViewPair}
 use Rattle.loc_lists.specs.Views.{IsRunAt}
-use Rattle.value_links.specs.declared.views.ViewRead.{ViewRead as HeldViews}
+use Rattle.list_arena.specs.Held.{HeldViews}
 use Rattle.value_links.specs.Sections.{debug_lists}
 use Rattle.value_links.specs.Reading.{ViewRead, Reading, view_at}
 use Rattle.value_links.specs.World.{World, Holds, IsWorldOf}
@@ -27,18 +27,18 @@ run_in section part list start pairs stands =
     )
 
 -- the run with a number
-pub run_at : (runs : List HeldViews) (k : ℕ) (run : HeldViews) → k < length runs → run ≡ get_or runs k run → view_at (map run_read runs) k ≡ run_read run
-run_at runs k run inside is = get_or-map run_read runs k run (record { list = 0; at = 0; pairs = [] }) inside ∙ ap (λ (z : HeldViews). run_read z) (sym is)
+pub run_at : (runs : List HeldViews) (k : ℕ) (d : HeldViews) → k < length runs → view_at (map run_read runs) k ≡ run_read (get_or runs k d)
+run_at runs k d inside = get_or-map run_read runs k d (record { list = 0; at = 0; pairs = [] }) inside
 
 -- each stands where it is said to
-pub runs_stand : (world : World) (reach : Reach) → IsWorldOf world.image reach world → (k : ℕ) (run : HeldViews) → k < length world.views → run ≡ get_or world.views k run → IsRunIn (debug_lists world.image Locations) (run_read run)
-runs_stand world reach is k run inside item =
+pub runs_stand : (world : World) (reach : Reach) → IsWorldOf world.image reach world → (k : ℕ) (d : HeldViews) → k < length world.views → IsRunIn (debug_lists world.image Locations) (run_read (get_or world.views k d))
+runs_stand world reach is k d inside =
     let all : is.r.views ≡ map run_read world.views = is.holds.views in
     let within : k < length is.r.views = subst (λ (n : ℕ). k < n) (sym (ap length all ∙ length-map world.views run_read)) inside in
     let read = is.read.views.each k within in
     let stands = run_in is.r.links.locations.section _ (view_at is.r.views k).list (view_at is.r.views k).at (view_at is.r.views k).pairs read.read in
-    let same : view_at is.r.views k ≡ run_read run = ap (λ (z : List ViewRead). view_at z k) all ∙ run_at world.views k run inside item in
-    subst (λ (bytes : List ℕ). IsRunIn bytes (run_read run)) (is.holds.sections Locations) (subst (λ (z : ViewRead). IsRunIn is.r.links.locations.section z) same stands)
+    let same : view_at is.r.views k ≡ run_read (get_or world.views k d) = ap (λ (z : List ViewRead). view_at z k) all ∙ run_at world.views k d inside in
+    subst (λ (bytes : List ℕ). IsRunIn bytes (run_read (get_or world.views k d))) (is.holds.sections Locations) (subst (λ (z : ViewRead). IsRunIn is.r.links.locations.section z) same stands)
 
 -- the places in the run with a number
 abbrev pub IsLongInRunOf : List ℕ → List HeldViews → ℕ → ℕ → Type 0

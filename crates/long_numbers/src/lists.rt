@@ -18,10 +18,11 @@ use crate::list_operands::{first_in_entry, long_length};
 use crate::operations::first_at;
 use dw_base::{NoMemory, Reach, Refusal};
 use expr_ops::{Op, never_both, push_expr};
+use list_arena::ListRead;
 use list_model::{ListKind, Meaning, RawEntry};
 use loc_lists::{bytes_of, is_item};
 use std::alloc::Global;
-use value_links::{ListRead, World};
+use value_links::World;
 
 // The first operand of some entries with a byte too many.
 fn first_operand_in(section: &[u8], kind: ListKind, raws: &[RawEntry]) -> Option<u64>
@@ -37,11 +38,11 @@ fn first_operand_in(section: &[u8], kind: ListKind, raws: &[RawEntry]) -> Option
 
 // The first operand of a list, if it is frozen.
 fn first_in_frozen(section: &[u8], kind: ListKind, list: &ListRead) -> Option<u64>
-    requires { All (EntryStands kind section.now) list.now.raw.items }
+    requires { All (EntryStands kind section.now) list.now.raw }
     ensures { IsLeastFound (IsLongInDead kind section.now list.now) result }
 {
-    match list.meaning {
-        Meaning::Dead => first_operand_in(section, kind, &list.raw),
+    match list.meaning() {
+        Meaning::Dead => first_operand_in(section, kind, list.entries()),
         Meaning::Live(_) => None,
     }
 }
@@ -61,12 +62,12 @@ fn first_length_in(section: &[u8], raws: &[RawEntry]) -> Option<u64>
 
 // The first length of an expression of a location list, if no entry names it.
 fn first_in_unnamed(section: &[u8], list: &ListRead) -> Option<u64>
-    requires entries { All (EntryStands Locations section.now) list.now.raw.items }
-    requires lengths { All (LengthStands section.now) list.now.raw.items }
+    requires entries { All (EntryStands Locations section.now) list.now.raw }
+    requires lengths { All (LengthStands section.now) list.now.raw }
     ensures { IsLeastFound (IsLongInUnnamed section.now list.now) result }
 {
-    match list.owner {
-        None => first_length_in(section, &list.raw),
+    match list.owner() {
+        None => first_length_in(section, list.entries()),
         Some(_) => None,
     }
 }
@@ -133,7 +134,7 @@ fn first_in_locations(
     ensures { IfOk result (IsLeastFound (IsLongInLocations section.now list.now)) }
 {
     let length = first_in_unnamed(section, list);
-    let inside = first_in_items(alloc, section, &list.raw, list.owner.is_some(), ops)?;
+    let inside = first_in_items(alloc, section, list.entries(), list.owner().is_some(), ops)?;
     Ok(earlier(length, inside))
 }
 
@@ -177,8 +178,10 @@ pub(crate) fn first_in_lists(
     let section = section_of(world, kind);
     let mut ops = Vec::new(alloc);
     let mut found = None;
-    for list in world.lists(kind) {
-        found = earlier(found, first_in_list(alloc, section, kind, list, &mut ops)?);
+    let lists = world.lists(kind);
+    for number in 0..lists.len() {
+        let list = lists.list(alloc, number)?;
+        found = earlier(found, first_in_list(alloc, section, kind, &list, &mut ops)?);
     }
     Ok(found)
 }

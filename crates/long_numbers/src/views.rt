@@ -1,6 +1,7 @@
 // The numbers of view pairs.
-ghost use Rattle.std.specs.Prelude.{◌≡◌, ◌⊎◌, Some};
+ghost use Rattle.std.specs.Prelude.{◌≡◌, ◌<◌, ◌⊎◌, length, slice_index_or, Some};
 ghost use Rattle.dw_base.specs.declared.fault.Reach.{Reach};
+ghost use Rattle.list_arena.specs.Held.{HeldViews};
 ghost use Rattle.loc_lists.specs.declared.views.ViewPair.{ViewPair};
 ghost use Rattle.loc_lists.specs.Views.{SpellsPair};
 ghost use Rattle.value_links.specs.World.{IsWorldOf};
@@ -10,7 +11,8 @@ ghost use Rattle.long_numbers.specs.inside.Held.{OfReading};
 ghost use Rattle.long_numbers.specs.inside.NumberWalks.{StandsFrom, EndsFrom, IsFoundFrom, IsLongPair, run_read, IsRunIn};
 
 use crate::number_walk::Walk;
-use value_links::{ViewRead, World};
+use list_arena::Views;
+use value_links::World;
 
 // Looks at the two numbers of a pair that stands next.
 fn past_pair(walk: Walk, bytes: &[u8]) -> Walk
@@ -23,15 +25,16 @@ fn past_pair(walk: Walk, bytes: &[u8]) -> Walk
 }
 
 // The first place of a number of a run with a byte too many, or an earlier one that was found before.
-fn first_in_run(bytes: &[u8], run: &ViewRead, before: Option<u64>) -> Option<u64>
-    requires { IsRunIn bytes.now (run_read run.now) }
-    ensures { IsLeastFound (λ p. (before ≡ Some p) ⊎ IsLongInRun bytes.now (run_read run.now) p) result }
+fn first_in_run(bytes: &[u8], views: &Views, number: usize, before: Option<u64>) -> Option<u64>
+    requires inside { number < length views.now }
+    requires run { (d : HeldViews) → IsRunIn bytes.now (run_read (slice_index_or views.now number d)) }
+    ensures { (d : HeldViews) → IsLeastFound (λ p. (before ≡ Some p) ⊎ IsLongInRun bytes.now (run_read (slice_index_or views.now number d)) p) result }
 {
     let mut next = Walk {
-        at: run.at as usize,
+        at: views.at(number) as usize,
         long: before,
     };
-    for _ in 0..run.pairs.len() {
+    for _ in 0..views.pair_count(number) {
         next = past_pair(next, bytes);
     }
     next.long
@@ -44,8 +47,9 @@ pub(crate) fn first_in_views(world: &World<'_>) -> Option<u64>
 {
     let bytes = world.section(b".debug_loclists");
     let mut first = None;
-    for run in world.views() {
-        first = first_in_run(bytes, run, first);
+    let views = world.views();
+    for number in 0..views.len() {
+        first = first_in_run(bytes, views, number, first);
     }
     first
 }

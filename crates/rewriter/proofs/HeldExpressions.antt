@@ -11,7 +11,7 @@ use Rattle.loc_lists.specs.Locations.{expressions_of}
 use Rattle.list_write.specs.declared.named.NewExpressions.{NewExpressions}
 use Rattle.list_write.specs.Written.{EndsRise, pieces}
 use Rattle.unit_write.specs.declared.places.Places.{Places}
-use Rattle.value_links.specs.declared.lists.ListRead.{ListRead as HeldList}
+use Rattle.list_arena.specs.Held.{HeldList}
 use Rattle.value_links.specs.Sections.{debug_lists}
 use Rattle.value_links.specs.Reading.{Linkable, Reading, list_at, part_at}
 use Rattle.value_links.specs.Lists.{IsOwner, owner_unit}
@@ -69,25 +69,25 @@ module _ (world : World) (is : IsWorldOf world.image Narrow world) (list : HeldL
   same_section : is.r.links.locations.section ≡ section
   same_section = is.holds.sections Locations ∙ sym section_is
 
-  same_expressions : expressions_of is.r.links.locations.section (list_at is.r.location_lists held.0).raws ≡ expressions_of section list.raw.items
+  same_expressions : expressions_of is.r.links.locations.section (list_at is.r.location_lists held.0).raws ≡ expressions_of section list.raw
   same_expressions = ap (λ (z : List ℕ). expressions_of z (list_at is.r.location_lists held.0).raws) same_section ∙ ap (expressions_of section) (sym held.2.raws)
 
   -- they lie in the section
-  pub lie_inside : All (LiesIn (length section)) list.raw.items
+  pub lie_inside : All (LiesIn (length section)) list.raw
   lie_inside =
       let old = list_at is.r.location_lists held.0 in
       let inside = list_inside is.r.links.locations.section (part_at is.r.links.locations old.part) old.at old.raws ((is.read.lists Locations).each held.0 held.1).read in
       subst (λ (z : List RawEntry). All (LiesIn (length section)) z) (sym held.2.raws) (subst (λ (z : List ℕ). All (LiesIn (length z)) old.raws) same_section inside)
 
   -- each is one
-  pub are_expressions : All (IsSomeExpression Narrow) (expressions_of section list.raw.items)
+  pub are_expressions : All (IsSomeExpression Narrow) (expressions_of section list.raw)
   are_expressions = subst (λ (z : List (List ℕ)). All (IsSomeExpression Narrow) z) same_expressions (is.within Locations held.0 held.1)
 
-  pub expressions_short : expression_bytes list.raw.items ≤ 134217728
-  expressions_short = list_expressions_few world is Locations held.0 held.1 list.raw.items held.2.raws
+  pub expressions_short : expression_bytes list.raw ≤ 134217728
+  expressions_short = list_expressions_few world is Locations held.0 held.1 list.raw held.2.raws
 
   -- and its operations name what they may
-  pub are_linked : All (LinksSomething is.r.links (owner_in world list.owner)) (expressions_of section list.raw.items)
+  pub are_linked : All (LinksSomething is.r.links (owner_in world list.owner)) (expressions_of section list.raw)
   are_linked =
       let read = (is.read.lists Locations).expressions held.0 held.1 in
       let owner : read.owner ≡ list.owner = same_owners is.r.links Locations (list_at is.r.location_lists held.0).at read.owner list.owner read.owned held.2.owner in
@@ -96,16 +96,16 @@ module _ (world : World) (is : IsWorldOf world.image Narrow world) (list : HeldL
       (subst (λ (z : ℕ). All (LinksSomething is.r.links z) (expressions_of is.r.links.locations.section (list_at is.r.location_lists held.0).raws)) unit read.linked)
 
   -- all of them are put
-  all_put : (places : List Places) (new : NewExpressions) → AreExpressionsPut world places (owner_in world list.owner) section list.raw.items new → AreExpressionsFor world places Locations list new
+  all_put : (places : List Places) (new : NewExpressions) → AreExpressionsPut world places (owner_in world list.owner) section list.raw new → AreExpressionsFor world places Locations list new
   all_put places new put = record {
     ends = ends_rise 0 new.ends.items (length new.bytes.items) put.ends;
     few = put.few;
     are = λ r old holds holds_list.
         let u : ℕ = owner_in world list.owner in
-        let linked : All (LinksSomething r.links u) (expressions_of section list.raw.items) = λ k d less. links_still world.image world.image world is.r r is.holds holds u (get_or (expressions_of section list.raw.items) k d) (are_linked k d less) in
+        let linked : All (LinksSomething r.links u) (expressions_of section list.raw) = λ k d less. links_still world.image world.image world is.r r is.holds holds u (get_or (expressions_of section list.raw) k d) (are_linked k d less) in
         let each = put.are world.image r holds linked in
         let unit : u ≡ owner_unit r.links list.owner = sym (owner_is world.image world r holds list.owner) in
-        let there : expressions_of section list.raw.items ≡ expressions_of r.links.locations.section old.raws = ap (λ (z : List ℕ). expressions_of z list.raw.items) (section_is ∙ sym (holds.sections Locations)) ∙ ap (expressions_of r.links.locations.section) holds_list.raws in
+        let there : expressions_of section list.raw ≡ expressions_of r.links.locations.section old.raws = ap (λ (z : List ℕ). expressions_of z list.raw) (section_is ∙ sym (holds.sections Locations)) ∙ ap (expressions_of r.links.locations.section) holds_list.raws in
         record {
           owner = list.owner;
           owned = holds_list.owner;
@@ -115,5 +115,5 @@ module _ (world : World) (is : IsWorldOf world.image Narrow world) (list : HeldL
         };
   }
 
-  pub expressions_put : (places : List Places) (new : NewExpressions) (n : ℕ) → AreExpressionsPut world places (owner_in world list.owner) section (take n list.raw.items) new → length list.raw.items ≤ n → AreExpressionsFor world places Locations list new
-  expressions_put places new n put past = all_put places new (subst (λ (z : List RawEntry). AreExpressionsPut world places (owner_in world list.owner) section z new) (take_all n list.raw.items past) put)
+  pub expressions_put : (places : List Places) (new : NewExpressions) (n : ℕ) → AreExpressionsPut world places (owner_in world list.owner) section (take n list.raw) new → length list.raw ≤ n → AreExpressionsFor world places Locations list new
+  expressions_put places new n put past = all_put places new (subst (λ (z : List RawEntry). AreExpressionsPut world places (owner_in world list.owner) section z new) (take_all n list.raw past) put)

@@ -16,7 +16,7 @@ use Rattle.value_links.specs.declared.link.Link.{Link}
 use Rattle.value_links.specs.declared.link.Link.TheVariants.{Place, Lines, List as AtList, Base, Views as AtViews, Kept as KeptPlace}
 use Rattle.value_links.specs.Attributes.{OffsetClass, offset_class}
 use Rattle.value_links.specs.Attributes.OffsetClass.{LinePtr, RngList, LocList, RngListsPtr, LocListsPtr, AddrPtr, StrOffsetsPtr, MacPtr, Views, NoOffset}
-use Rattle.value_links.specs.declared.views.ViewRead.{ViewRead as HeldViews}
+use Rattle.list_arena.specs.Held.{HeldViews}
 use Rattle.value_links.specs.Reading.{Linkable, Reading, ProgramRead, ViewRead, of_kind, lists_of, unit_at, list_at, view_at}
 use Rattle.value_links.specs.Linked.{Linked, IsTargetAt, IsLocalTarget, IsSectionTarget, OffsetLinks, Links}
 use Rattle.value_links.specs.Linked.Linked.{Program, ListAt, BaseOf, ViewsAt, Kept}
@@ -228,7 +228,7 @@ some_of (x ∷ xs) k inside = x
 
 -- view pairs that are held, as they are read
 abbrev pub view_read : HeldViews → ViewRead
-view_read run = record { list = run.list; at = run.at; pairs = run.pairs.items }
+view_read run = record { list = run.list; at = run.at; pairs = run.pairs }
 
 -- a list that is read began where it was moved from
 pub held_list : (file : List ℕ) (world : World) (r : Reading) (kind : ListKind) (places : ListPlaces) (k : ℕ) → Holds file world r → AreListPlaces world kind places → k < length (lists_of r kind) → (k < length places.lists.items) × ((moved_at places.lists.items k).old ≡ (list_at (lists_of r kind) k).at)

@@ -14,13 +14,12 @@ use Rattle.list_write.specs.Written.{Run, part_at, moved_at, runs_before}
 use Rattle.list_write.specs.Written.{list_at as written_at}
 use Rattle.unit_write.specs.declared.places.Places.{Places}
 use Rattle.value_links.specs.Sections.{debug_lists}
-use Rattle.value_links.specs.declared.lists.ListRead.{ListRead as HeldList}
+use Rattle.list_arena.specs.Held.{HeldList, HeldViews}
 use Rattle.value_links.specs.Reading.{ListRead, ViewRead, Reading, of_kind, lists_of, list_at, view_at}
 use Rattle.value_links.specs.Lists.{AreViewsApart}
 use Rattle.value_links.specs.ListFaults.{entry_total}
 use Rattle.value_links.specs.Whole.{IsReading}
 use Rattle.value_links.specs.World.{World, lists_held, Holds}
-use Rattle.value_links.specs.declared.views.ViewRead.{ViewRead as HeldViews}
 use Rattle.list_model.specs.declared.entry.ListKind.TheVariants.{Locations}
 use Rattle.rewriter.specs.declared.new_places.ListPlaces.{ListPlaces}
 use Rattle.rewriter.specs.inside.Lists.{AreListsWritten}

@@ -41,7 +41,7 @@ use Rattle.list_write.specs.Written.{ToWrite, to_write}
 use Rattle.loc_lists.specs.Locations.{items_among, entries_of, AreItems}
 use Rattle.loc_lists.specs.Locations.{IsRead as IsLocationRead}
 use Rattle.range_lists.specs.Ranges.{IsRead as IsRangeRead}
-use Rattle.value_links.specs.declared.lists.ListRead.{ListRead as HeldList}
+use Rattle.list_arena.specs.Held.{HeldList}
 use Rattle.value_links.specs.Reading.{ListRead, Linkable, Reading, of_kind, lists_of, part_at, list_at, context_at}
 use Rattle.value_links.specs.Lists.{IsOwner, IsFrozen, IsListOf, item_count, AreListsOf}
 use Rattle.value_links.specs.Classes.{AreLeastBytes}
@@ -366,10 +366,10 @@ module _ (r : Reading) (kind : ListKind) (old : ListRead) (list : HeldList) (hel
   frozen : IsFrozen r.links kind old
   frozen = subst (λ (z : Meaning). HoldsMeaning r.links kind old list.owner z) dead held.meaning
 
-  said_held : AreSaid kind list.raw.items frozen.0
+  said_held : AreSaid kind list.raw frozen.0
   said_held = subst (λ (z : List RawEntry). AreSaid kind z frozen.0) (sym held.raws) frozen.1
 
-  pub frozen_planned : ((entries : List Entry) → AreSaid kind list.raw.items entries → ArePicks kind plan.picks.items entries) → ((entries : List Entry) → AreSaid kind list.raw.items entries → plan.size ≡ entries_bytes entries + 1) → (other : NamedList) → IsPlannedFor r kind old (to_write (with_plan list plan other))
+  pub frozen_planned : ((entries : List Entry) → AreSaid kind list.raw entries → ArePicks kind plan.picks.items entries) → ((entries : List Entry) → AreSaid kind list.raw entries → plan.size ≡ entries_bytes entries + 1) → (other : NamedList) → IsPlannedFor r kind old (to_write (with_plan list plan other))
   frozen_planned picked bytes other = record {
     part = held.part;
     at = held.at;

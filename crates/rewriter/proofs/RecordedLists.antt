@@ -11,7 +11,7 @@ use Rattle.leb_codec.specs.Records.{Record, OfList, SpellsRecord}
 use Rattle.list_model.specs.declared.entry.ListKind.{ListKind}
 use Rattle.list_model.specs.declared.item.Meaning.{Meaning}
 use Rattle.list_model.specs.declared.item.Meaning.TheVariants.{Live, Dead}
-use Rattle.value_links.specs.declared.lists.ListRead.{ListRead as HeldList}
+use Rattle.list_arena.specs.Held.{HeldList}
 use Rattle.value_links.specs.Layouts.{AreNumbersOf}
 use Rattle.value_links.specs.Lists.{IsFrozen}
 use Rattle.value_links.specs.Reading.{ListRead, Linkable, Reading, lists_of, list_at}

@@ -34,7 +34,7 @@ use Rattle.unit_write.specs.Slots.{IsSpotFor, IsListSlotFor, AreListSlots}
 use Rattle.elf_place.proofs.Totals.{sum_by-below}
 use Rattle.unit_write.proofs.SlotAims.{fixed_take, fixed_drop, expression_length, expression_within, within_at, IsWithin}
 use Rattle.unit_write.proofs.SlotsMade.{meant_take, take_least, rest_is, aim_length, aim_call, aim_uleb}
-use Rattle.value_links.specs.declared.lists.ListRead.{ListRead as HeldList}
+use Rattle.list_arena.specs.Held.{HeldList}
 use Rattle.value_links.specs.Sections.{debug_lists}
 use Rattle.value_links.specs.Layouts.{list_expressions}
 use Rattle.value_links.specs.ListFaults.{expression_bytes, entry_total, list_total}
@@ -119,12 +119,12 @@ expression_slots unit bytes ops old new small are more slots = slots_behind unit
 
 -- THE ITEMS OF A LIST
 
-module _ (world : World) (is : IsWorldOf world.image Narrow world) (list : HeldList) (one : Contains (lists_held world Locations) list) (n : ℕ) (d : RawEntry) (inside : n < length list.raw.items) (item : is_item (get_or list.raw.items n d) ≡ true) (bytes : List ℕ) (bytes_are : bytes ≡ bytes_in (debug_lists world.image Locations) (get_or list.raw.items n d).expr) where
+module _ (world : World) (is : IsWorldOf world.image Narrow world) (list : HeldList) (one : Contains (lists_held world Locations) list) (n : ℕ) (d : RawEntry) (inside : n < length list.raw) (item : is_item (get_or list.raw n d) ≡ true) (bytes : List ℕ) (bytes_are : bytes ≡ bytes_in (debug_lists world.image Locations) (get_or list.raw n d).expr) where
   -- the operations of its expression name what they may
   pub item_names : (u : ℕ) (ops : List Op) → list.owner ≡ Some u → IsExpression Narrow (all_meant bytes ops) bytes → All (OperationNames world u) ops
   item_names u ops owner spelled =
       let section : List ℕ = debug_lists world.image Locations in
-      let linked : LinksSomething is.r.links u (bytes_in section (get_or list.raw.items n d).expr) = expression_among (LinksSomething is.r.links u) section list.raw.items n d (subst (λ o. All (LinksSomething is.r.links (owner_in world o)) (expressions_of section list.raw.items)) owner (are_linked world is list one section refl)) inside item in
+      let linked : LinksSomething is.r.links u (bytes_in section (get_or list.raw n d).expr) = expression_among (LinksSomething is.r.links u) section list.raw n d (subst (λ o. All (LinksSomething is.r.links (owner_in world o)) (expressions_of section list.raw)) owner (are_linked world is list one section refl)) inside item in
       let own : LinksSomething is.r.links u bytes = subst (LinksSomething is.r.links u) (sym bytes_are) linked in
       All-from_get_or (OperationNames world u) ops (op_at [] 0) (λ k less. λ file r holds.
       let op : Op = op_at ops k in
@@ -135,8 +135,8 @@ module _ (world : World) (is : IsWorldOf world.image Narrow world) (list : HeldL
   pub item_short : length bytes ≤ 134217728
   item_short =
       let section : List ℕ = debug_lists world.image Locations in
-      let span = (get_or list.raw.items n d).expr in
-      let own : (get_or list.raw.items n d).expr.len ≤ expression_bytes list.raw.items = get_or-le-sum_by (λ (raw : RawEntry). raw.expr.len) list.raw.items n d inside in
+      let span = (get_or list.raw n d).expr in
+      let own : (get_or list.raw n d).expr.len ≤ expression_bytes list.raw = get_or-le-sum_by (λ (raw : RawEntry). raw.expr.len) list.raw n d inside in
       omega (arith, own, ap length bytes_are, length-take span.len (drop span.at section), expressions_short world is list one section refl)
 
   pub item_fits : (ops : List Op) → SlotsAreFew → IsExpression Narrow (all_meant bytes ops) bytes → fixed_length (all_meant bytes ops) < 2 ^ 31
@@ -186,26 +186,26 @@ module _ (world : World) (unit : HeadAndForest) where
   }
 
   module _ (numbers : List ℕ) (i : ℕ) (inside : i < length numbers) (k : ℕ) (k_is : k ≡ get_or numbers i 0) (list : HeldList) (known : k < length world.locations) (here : list ≡ get_or world.locations k list) where
-    same_expressions : (r : Reading) → Holds world.image world r → expressions_of (debug_lists world.image Locations) list.raw.items ≡ expressions_at r.links Locations (list_at r.location_lists k)
+    same_expressions : (r : Reading) → Holds world.image world r → expressions_of (debug_lists world.image Locations) list.raw ≡ expressions_at r.links Locations (list_at r.location_lists k)
     same_expressions r holds =
         let count : length world.locations ≡ length r.location_lists = (holds.lists Locations).count in
         let held = (holds.lists Locations).each k list (omega (arith, known, count)) in
-        let raws : list.raw.items ≡ (list_at r.location_lists k).raws = ap (λ (z : HeldList). z.raw.items) here ∙ held.raws in
-        ap (λ (z : List ℕ). expressions_of z list.raw.items) (sym (holds.sections Locations)) ∙ ap (expressions_of r.links.locations.section) raws
+        let raws : list.raw ≡ (list_at r.location_lists k).raws = ap (λ (z : HeldList). z.raw) here ∙ held.raws in
+        ap (λ (z : List ℕ). expressions_of z list.raw) (sym (holds.sections Locations)) ∙ ap (expressions_of r.links.locations.section) raws
 
-    next_expressions : (r : Reading) → Holds world.image world r → list_expressions r (take (i + 1) numbers) ≡ list_expressions r (take i numbers) ++ expressions_of (debug_lists world.image Locations) list.raw.items
+    next_expressions : (r : Reading) → Holds world.image world r → list_expressions r (take (i + 1) numbers) ≡ list_expressions r (take i numbers) ++ expressions_of (debug_lists world.image Locations) list.raw
     next_expressions r holds =
         let each : ℕ → List (List ℕ) = λ n. expressions_at r.links Locations (list_at r.location_lists n) in
         ap (list_expressions r) (take_more numbers i 0 inside)
         ∙ flat_map-append (λ (n : ℕ). expressions_at r.links Locations (list_at r.location_lists n)) (take i numbers) (get_or numbers i 0 ∷ [])
         ∙ ap (λ (z : List (List ℕ)). list_expressions r (take i numbers) ++ z) (append-nil (expressions_at r.links Locations (list_at r.location_lists (get_or numbers i 0))) ∙ ap (λ (n : ℕ). expressions_at r.links Locations (list_at r.location_lists n)) (sym k_is) ∙ sym (same_expressions r holds))
 
-    pub lists_more : (old new : List ListSlot) → AreSlotsOfLists world unit (take i numbers) old → AddsListSlots unit (expressions_of (debug_lists world.image Locations) list.raw.items) old new → AreSlotsOfLists world unit (take (i + 1) numbers) new
+    pub lists_more : (old new : List ListSlot) → AreSlotsOfLists world unit (take i numbers) old → AddsListSlots unit (expressions_of (debug_lists world.image Locations) list.raw) old new → AreSlotsOfLists world unit (take (i + 1) numbers) new
     lists_more old new so_far adds = record {
       more = so_far.more ++ flat_map expression_aims adds.ops;
       told = λ r holds.
           let (ops, spelled, told) = so_far.told r holds in
-          (ops ++ adds.ops, subst (AllZip (IsExpression Narrow) (ops ++ adds.ops)) (sym (next_expressions r holds)) (zip_append (IsExpression Narrow) ops adds.ops (list_expressions r (take i numbers)) (expressions_of (debug_lists world.image Locations) list.raw.items) spelled adds.spelled), ap (λ (z : List Aim). z ++ flat_map expression_aims adds.ops) told ∙ sym (flat_map-append expression_aims ops adds.ops));
+          (ops ++ adds.ops, subst (AllZip (IsExpression Narrow) (ops ++ adds.ops)) (sym (next_expressions r holds)) (zip_append (IsExpression Narrow) ops adds.ops (list_expressions r (take i numbers)) (expressions_of (debug_lists world.image Locations) list.raw) spelled adds.spelled), ap (λ (z : List Aim). z ++ flat_map expression_aims adds.ops) told ∙ sym (flat_map-append expression_aims ops adds.ops));
       are = adds.slots so_far.more so_far.are;
     }
 

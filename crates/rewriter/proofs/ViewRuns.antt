@@ -16,8 +16,7 @@ use Rattle.loc_lists.specs.Views.{SpellsPair}
 use Rattle.list_write.specs.declared.named.NamedList.{NamedList}
 use Rattle.list_write.specs.Written.{ToWrite, Run, to_write, run_of, all_runs, runs_before, run_size, pair_size, own_size, full_size}
 use Rattle.list_write.specs.Written.{list_at as written_at}
-use Rattle.value_links.specs.declared.lists.ListRead.{ListRead as HeldList}
-use Rattle.value_links.specs.declared.views.ViewRead.{ViewRead as HeldViews}
+use Rattle.list_arena.specs.Held.{HeldList, HeldViews}
 use Rattle.value_links.specs.Reading.{ViewRead, Reading, lists_of, list_at, view_at}
 use Rattle.value_links.specs.Lists.{AreViewsApart, pair_total}
 use Rattle.value_links.specs.Whole.{IsReading}

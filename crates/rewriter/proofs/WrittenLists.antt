@@ -24,7 +24,7 @@ use Rattle.list_write.specs.declared.named.NamedList.{NamedList}
 use Rattle.list_write.specs.Written.{ToWrite, pieces, AreEnds, to_write, all_runs, run_size, own_size, full_size, behind_size, HasExpressions, IsSized, IsToWrite, CanBeWritten, AreWritten}
 use Rattle.list_write.specs.Written.{part_at as old_part_at, list_at as written_at}
 use Rattle.unit_write.specs.declared.places.Places.{Places}
-use Rattle.value_links.specs.declared.lists.ListRead.{ListRead as HeldList}
+use Rattle.list_arena.specs.Held.{HeldList}
 use Rattle.value_links.specs.Sections.{lists_name, debug_lists}
 use Rattle.value_links.specs.Reading.{ListRead, ListSection, Reading, of_kind, lists_of, list_at, part_at, context_at}
 use Rattle.value_links.specs.Lists.{IsOwner, IsFrozen, item_count, expressions_at, owner_unit}

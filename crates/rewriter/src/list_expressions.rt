@@ -12,12 +12,13 @@ ghost use Rattle.rewriter.specs.inside.ListNumbers.{owner_in, IsOwnedIn, AreList
 use crate::numbers::{entry_place, op_number};
 use dw_base::{NoMemory, Reach, Refusal};
 use expr_ops::{Named, Op, has_reference, named_by, push_expr, write_shortest};
+use list_arena::ListRead;
 use list_model::ListKind;
 use list_write::NewExpressions;
 use loc_lists::{bytes_of, is_item};
 use std::alloc::Global;
 use unit_write::Places;
-use value_links::{ListRead, OpLink, World};
+use value_links::{OpLink, World};
 
 // The new number of the reference of an operation in an expression of a list that no unit owns: it counts from the first byte of
 // .debug_info, or names nothing.
@@ -133,7 +134,7 @@ pub(crate) fn new_expressions(
         return Ok(new);
     }
     let mut ops: Vec<Op> = Vec::new(alloc);
-    for entry in &list.raw {
+    for entry in list.entries() {
         if !is_item(entry) {
             continue;
         }
@@ -143,7 +144,7 @@ pub(crate) fn new_expressions(
             &mut new.bytes,
             world,
             places,
-            list.owner,
+            list.owner(),
             bytes,
             &mut ops,
         )?;

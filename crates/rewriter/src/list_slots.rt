@@ -21,12 +21,13 @@ use crate::list_expressions::read_again;
 use crate::spots::op_spot;
 use dw_base::NoMemory;
 use expr_ops::{CALL4, ENTRY_VALUE, Op, fixed_len, has_slot, slot_count, slots_are_few};
+use list_arena::ListRead;
 use list_model::ListKind;
 use loc_lists::{bytes_of, is_item};
 use slot_layout::SlotKind;
 use std::alloc::Global;
 use unit_write::ListSlot;
-use value_links::{ListRead, World};
+use value_links::World;
 
 // The slot of the length of an expression, which some operations are.
 fn length_slot(ops: &[Op], bytes: &[u8]) -> ListSlot
@@ -93,12 +94,12 @@ fn push_list(
     requires unit { unit < length world.now.units }
     requires list { Contains (lists_held world.now Locations) list.now }
     requires owned { list.now.owner ≡ Some unit }
-    ensures { OnOk result (AddsListSlots (unit_in world.now.units unit) (expressions_of (debug_lists world.now.image Locations) list.now.raw.items) slots.old.items slots.new.items) }
+    ensures { OnOk result (AddsListSlots (unit_in world.now.units unit) (expressions_of (debug_lists world.now.image Locations) list.now.raw) slots.old.items slots.new.items) }
 {
     // A law, which costs nothing: an expression has few bytes that are no slot's.
     slots_are_few();
     let section = world.section(b".debug_loclists");
-    for entry in &list.raw {
+    for entry in list.entries() {
         if !is_item(entry) {
             continue;
         }
@@ -130,7 +131,8 @@ pub fn list_slots(
     let mut ops: Vec<Op> = Vec::new(alloc);
     let all = world.lists(ListKind::Locations);
     for number in lists {
-        push_list(alloc, &mut slots, world, unit, &all[*number], &mut ops)?;
+        let list = all.list(alloc, *number)?;
+        push_list(alloc, &mut slots, world, unit, &list, &mut ops)?;
     }
     Ok(slots)
 }

@@ -1,10 +1,11 @@
 // The lists of a file written anew.
-ghost use Rattle.std.specs.Prelude.{◌≡◌, ◌≢◌, ◌<◌, [], length, IfOk};
+ghost use Rattle.std.specs.Prelude.{◌≡◌, ◌≢◌, ◌≤◌, ◌<◌, [], length, slice_index_or, slice_range, IfOk};
 ghost use Rattle.std.specs.List.{Contains};
 ghost use Rattle.dw_base.specs.declared.fault.Reach.TheVariants.{Narrow};
 ghost use Rattle.spelled.specs.Spelled.{Appends};
 ghost use Rattle.leb_codec.specs.Records.{OfList, SpellsRecord};
 ghost use Rattle.fixed_width.specs.InitialLengths.{least_reserved};
+ghost use Rattle.list_arena.specs.Held.{HeldViews};
 ghost use Rattle.list_model.specs.declared.item.Meaning.TheVariants.{Live, Dead};
 ghost use Rattle.value_links.specs.Sections.{debug_addr, debug_lists};
 ghost use Rattle.value_links.specs.Reading.{Reading};
@@ -18,6 +19,7 @@ ghost use Rattle.rewriter.specs.inside.Lists.{AreListsWritten, AreListsRecorded}
 use crate::list_expressions::new_expressions;
 use certificates::{Proof, put_record};
 use dw_base::NoMemory;
+use list_arena::{ListRead, Views};
 use list_least::{Plan, least_in, shortest_lists};
 use list_lookup::TableMaps;
 use list_model::{Item, ListKind, Meaning, entries_say};
@@ -25,7 +27,7 @@ use list_write::{ListImage, NamedList, ViewRun, WrittenPieces, assemble, kept_pl
 use loc_lists::ViewPair;
 use std::alloc::Global;
 use unit_write::{Places, bytes_are_small};
-use value_links::{ListRead, ViewRead, World};
+use value_links::World;
 
 // The plan of a list that isn't frozen: the shortest entries that give its items in the context of its owner.
 fn live_plan(
@@ -49,7 +51,7 @@ fn live_plan(
     shortest_lists();
     entries_say();
     bytes_are_small(addr);
-    let Some(owner) = list.owner else {
+    let Some(owner) = list.owner() else {
         // A list that only slots name is frozen.
         unreachable!()
     };
@@ -67,7 +69,7 @@ fn frozen_plan(alloc: Global, kind: ListKind, list: &ListRead) -> Result<Plan, N
     // Laws: the shortest bytes of entries are least in their class, and what was read says one list of entries.
     shortest_lists();
     entries_say();
-    kept_plan(alloc, kind, &list.raw)
+    kept_plan(alloc, kind, list.entries())
 }
 
 // How a list is written: the shortest entries that give its items in the context of its owner or, where it is frozen, its own.
@@ -86,41 +88,55 @@ fn plan_of(
     ensures plan { IfOk result (IsPlanOf world.now kind list.now) }
     ensures potentials { IfOk result (λ plan. list.now.meaning ≢ Dead → ArePotentialsOf world.now kind list.now plan.potentials.items) }
 {
-    match &list.meaning {
+    match list.meaning() {
         Meaning::Live(items) => live_plan(alloc, world, maps, addr, kind, list, items.as_slice()),
         Meaning::Dead => frozen_plan(alloc, kind, list),
     }
 }
 
-// The view pairs that go with lists of a kind. Ranges have none.
-fn views_for<'a>(world: &'a World<'_>, kind: ListKind) -> &'a [ViewRead]
-    ensures { result.now ≡ views_held world.now kind }
+// How many runs of view pairs go with lists of a kind. Ranges have none.
+fn run_count(world: &World<'_>, kind: ListKind) -> usize
+    ensures { result ≡ length (views_held world.now kind) }
 {
     match kind {
-        ListKind::Ranges => &[],
-        ListKind::Locations => world.views(),
+        ListKind::Ranges => 0,
+        ListKind::Locations => world.views().len(),
     }
 }
 
-// A run of view pairs as it is to be written: as it was.
-fn same_run(alloc: Global, run: &ViewRead) -> Result<ViewRun, NoMemory>
-    ensures { IfOk result (λ new. (new.at ≡ run.now.at) × (new.pairs.items ≡ run.now.pairs.items)) }
+// The run of view pairs with a number as it is to be written: as it was.
+fn same_run(alloc: Global, views: &Views, number: usize) -> Result<ViewRun, NoMemory>
+    requires { number < length views.now }
+    ensures { IfOk result (λ new. (d : HeldViews) → (new.at ≡ (slice_index_or views.now number d).at) × (new.pairs.items ≡ (slice_index_or views.now number d).pairs)) }
 {
     let mut pairs: Vec<ViewPair> = Vec::new(alloc);
-    pairs.extend_from_slice(&run.pairs)?;
-    Ok(ViewRun { at: run.at, pairs })
+    for index in 0..views.pair_count(number) {
+        pairs.push(views.pair(number, index))?;
+    }
+    Ok(ViewRun {
+        at: views.at(number),
+        pairs,
+    })
 }
 
-// The first of these runs that go with the list at a place.
-fn runs_with(alloc: Global, views: &[ViewRead], list: u64) -> Result<Vec<ViewRun>, NoMemory>
-    ensures { IfOk result (λ runs. AreRunsWith views.now list runs.items) }
+// The first of the runs from one number up to another that go with the list at a place.
+fn runs_with(
+    alloc: Global,
+    views: &Views,
+    from: usize,
+    to: usize,
+    list: u64,
+) -> Result<Vec<ViewRun>, NoMemory>
+    requires from { from ≤ to }
+    requires to { to ≤ length views.now }
+    ensures { IfOk result (λ runs. AreRunsWith (slice_range views.now from to) list runs.items) }
 {
     let mut runs: Vec<ViewRun> = Vec::new(alloc);
-    for run in views {
-        if run.list != list {
+    for number in from..to {
+        if views.list(number) != list {
             return Ok(runs);
         }
-        runs.push(same_run(alloc, run)?)?;
+        runs.push(same_run(alloc, views, number)?)?;
     }
     Ok(runs)
 }
@@ -141,7 +157,7 @@ fn record_plan(
         potentials,
         size,
     } = plan;
-    if let Meaning::Live(_) = &list.meaning {
+    if let Meaning::Live(_) = list.meaning() {
         put_record(records, &Proof::List(potentials))?;
     }
     Ok(Plan {
@@ -171,18 +187,20 @@ fn write_pieces(
 {
     let addr = world.section(b".debug_addr");
     let section = section_of(world, kind);
-    let views = views_for(world, kind);
+    let lists = world.lists(kind);
+    let count = run_count(world, kind);
     let mut next = 0;
     let mut pieces = WrittenPieces::new(alloc);
-    for list in world.lists(kind) {
-        let planned = plan_of(alloc, world, maps, addr, kind, list)?;
-        let plan = record_plan(alloc, records, list, planned)?;
-        let expressions = new_expressions(alloc, world, places, kind, list, section)?;
-        let runs = runs_with(alloc, &views[next..], list.at)?;
+    for number in 0..lists.len() {
+        let list = lists.list(alloc, number)?;
+        let planned = plan_of(alloc, world, maps, addr, kind, &list)?;
+        let plan = record_plan(alloc, records, &list, planned)?;
+        let expressions = new_expressions(alloc, world, places, kind, &list, section)?;
+        let runs = runs_with(alloc, world.views(), next, count, list.at())?;
         next += runs.len();
         let named = NamedList {
-            part: list.part,
-            at: list.at,
+            part: list.part(),
+            at: list.at(),
             plan,
             expressions,
             views: runs,

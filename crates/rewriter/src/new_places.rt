@@ -4,10 +4,10 @@ ghost use Rattle.list_write.specs.declared.image.Moved.{Moved as AnyMoved};
 ghost use Rattle.rewriter.specs.inside.NewPlaces.{AreMovedViews};
 
 use dw_base::NoMemory;
+use list_arena::Views;
 use list_model::Contribution;
 use list_write::Moved;
 use std::alloc::Global;
-use value_links::ViewRead;
 
 /// A section of lists that is written anew.
 #[derive(Drop)]
@@ -45,17 +45,17 @@ pub struct NewPlaces {
 /// Where view pairs began, of which the ones with a number begin now where `moved` says of this number.
 pub fn moved_views(
     alloc: Global,
-    views: &Vec<ViewRead>,
+    views: &Views,
     moved: &Vec<Moved>,
 ) -> Result<Vec<MovedViews>, NoMemory>
-    requires { length moved.now.items ≡ length views.now.items }
-    ensures { IfOk result (λ places. AreMovedViews views.now.items moved.now.items places.items) }
+    requires { length moved.now.items ≡ length views.now }
+    ensures { IfOk result (λ places. AreMovedViews views.now moved.now.items places.items) }
 {
     let mut places: Vec<MovedViews> = Vec::with_capacity(alloc, views.len())?;
-    for (number, run) in views.iter().enumerate() {
+    for number in 0..views.len() {
         places.push(MovedViews {
-            list: run.list,
-            old: run.at,
+            list: views.list(number),
+            old: views.at(number),
             new: moved[number].new,
         })?;
     }

@@ -15,10 +15,10 @@ use Rattle.value_links.specs.Resolved.Resolved.{Itself, Operates, Refers, Progra
 use Rattle.value_links.specs.Whole.{IsReading}
 use Rattle.value_links.specs.declared.link.Link.{Link}
 use Rattle.value_links.specs.declared.link.Link.TheVariants.{Plain, Place, Lines, List as AtList, Slot, Base, Views, Kept as KeptPlace}
-use Rattle.value_links.specs.declared.views.ViewRead.{ViewRead as HeldViews}
+use Rattle.list_arena.specs.Held.{HeldViews, ViewsRise}
 use Rattle.value_links.specs.World.{World, Holds}
 use Rattle.same_meaning.specs.inside.Compared.{IsSomeWorld, OfBoth, MeanOne, HasListAt}
-use Rattle.same_meaning.specs.inside.Values.{MeansLink, TellSame, HoldsPairs, PairsRise}
+use Rattle.same_meaning.specs.inside.Values.{MeansLink, TellSame, HoldsPairs}
 use Rattle.same_meaning.proofs.ReadUnits.{some_reading}
 use Rattle.same_meaning.proofs.LinkMeanings.{list_there}
 
@@ -202,7 +202,7 @@ slot_named file r kind p i at read slot = (read.lists kind).all at (inr (p, i, s
 -- VIEW PAIRS
 
 abbrev read_of : HeldViews → ViewRead
-read_of run = record { list = run.list; at = run.at; pairs = run.pairs.items }
+read_of run = record { list = run.list; at = run.at; pairs = run.pairs }
 
 module _ (world : World) (r : Reading) (holds : Holds world.image world r) where
   runs_count : length r.views ≡ length world.views
@@ -212,7 +212,7 @@ module _ (world : World) (r : Reading) (holds : Holds world.image world r) where
   run_is k d e inside = ap (λ (z : List ViewRead). get_or z k e) holds.views ∙ get_or-map read_of world.views k d e inside
 
   -- runs that are held rise
-  pub runs_rise : IsReading world.image r → PairsRise world.views
+  pub runs_rise : IsReading world.image r → ViewsRise world.views
   runs_rise read = λ j k d before inside.
       let size : length r.views ≡ length world.views = runs_count in
       let none : ViewRead = record { list = 0; at = 0; pairs = [] } in
@@ -227,8 +227,8 @@ module _ (world : World) (r : Reading) (holds : Holds world.image world r) where
       let run : HeldViews = is.run in
       let whole : ViewRead = record { list = list; at = at; pairs = pairs } in
       let same : read_of run ≡ whole =
-      ap (λ (n : ℕ). record { list = n; at = run.at; pairs = run.pairs.items }) is.with
-      ∙ ap (λ (n : ℕ). record { list = list; at = n; pairs = run.pairs.items }) is.here
+      ap (λ (n : ℕ). record { list = n; at = run.at; pairs = run.pairs }) is.with
+      ∙ ap (λ (n : ℕ). record { list = list; at = n; pairs = run.pairs }) is.here
       ∙ ap (λ (ps : List ViewPair). record { list = list; at = at; pairs = ps }) (sym is.pairs_are) in
       (k, omega (arith, inside), run_is k run whole inside ∙ ap read_of e ∙ same)
 
@@ -300,5 +300,5 @@ pub views_told : (a b : World) (list at other place : ℕ) (link : Link) (ps qs 
 views_told a b list at other place link ps qs same is first second equal = λ r s read holds also held m n.
     subst (λ (z : Link). IsTrue same ↔ BothTell r m (Views list at) s n z) (sym is) (both_ways equal (same_views a b r s m n list at other place ps qs read holds also held first second))
 
-pub held_rise : (world : World) → IsSomeWorld world → PairsRise world.views
+pub held_rise : (world : World) → IsSomeWorld world → ViewsRise world.views
 held_rise world some = let (r, read, holds) = some_reading world some in runs_rise world r holds read

@@ -24,8 +24,7 @@ use Rattle.value_links.specs.Resolved.{Resolved, ResolvesLink, Resolves}
 use Rattle.value_links.specs.Resolved.Resolved.{Itself as MeantItself}
 use Rattle.value_links.specs.Whole.{IsReading}
 use Rattle.value_links.specs.declared.link.Link.{Link}
-use Rattle.value_links.specs.declared.lists.ListRead.{ListRead as HeldList}
-use Rattle.value_links.specs.declared.views.ViewRead.{ViewRead as HeldViews}
+use Rattle.list_arena.specs.Held.{HeldList, HeldViews}
 use Rattle.value_links.specs.inside.Checks.{IsNoExpr}
 use Rattle.value_links.specs.World.{World, Holds, lists_held, contributions_held, contribution_at}
 use Rattle.same_meaning.specs.inside.Compared.{HasListAt, StandsIn}
@@ -108,12 +107,12 @@ list_there world r kind k at holds inside here =
 -- so are view pairs
 pub views_there : (world : World) (r : Reading) (k list at : ℕ) → Holds world.image world r → k < length r.views → (view_at r.views k).list ≡ list → (view_at r.views k).at ≡ at → (pairs : List ViewPair) × HoldsPairs world.views list at pairs
 views_there world r k list at holds inside with here =
-    let read : HeldViews → ViewRead = λ (run : HeldViews). record { list = run.list; at = run.at; pairs = run.pairs.items } in
+    let read : HeldViews → ViewRead = λ (run : HeldViews). record { list = run.list; at = run.at; pairs = run.pairs } in
     let size : length r.views ≡ length world.views = ap length holds.views ∙ length-map world.views read in
     let within : k < length world.views = omega arith in
     let one : HeldViews = some_of world.views k within in
     let same : view_at r.views k ≡ read (get_or world.views k one) = ap (λ (z : List ViewRead). view_at z k) holds.views ∙ get_or-map read world.views k one (record { list = 0; at = 0; pairs = [] }) within in (
-      (get_or world.views k one).pairs.items,
+      (get_or world.views k one).pairs,
       record {
         run = get_or world.views k one;
         one = Contains-get_or world.views k one within;

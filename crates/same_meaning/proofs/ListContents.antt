@@ -1,5 +1,5 @@
 -- What lists that are held mean, but for their expressions.
-use Rattle.std.proofs.Common.{◌≡◌, ◌<◌, ◌∙◌, ℕ, List, [], ◌∷◌, length, get_or, map, sym, ap, subst, refl, inl, inr, arith}
+use Rattle.std.proofs.Common.{◌≡◌, ◌<◌, ◌∙◌, ℕ, List, [], ◌∷◌, length, map, sym, ap, subst, refl, inl, inr, arith}
 use Rattle.std.specs.Prelude.{Option, Some, None}
 use Rattle.std.specs.List.{All, AllZip, Contains}
 use Rattle.std.proofs.lemmas.Bool.{cases_lt}
@@ -17,7 +17,7 @@ use Rattle.list_model.specs.Items.{Bounds, Give, Fits, item_of}
 use Rattle.list_model.specs.Items.Bounds.{between, elsewhere}
 use Rattle.list_model.proofs.WalkLaws.{one_saying, one_walk}
 use Rattle.loc_lists.specs.Locations.{AreItems, items_among}
-use Rattle.value_links.specs.declared.lists.ListRead.{ListRead as HeldList}
+use Rattle.list_arena.specs.Held.{HeldList}
 use Rattle.value_links.specs.Reading.{ListRead, Linkable, Reading, of_kind, lists_of, list_at, context_at}
 use Rattle.value_links.specs.Lists.{IsOwner, owner_unit, expressions_in, expressions_at}
 use Rattle.value_links.specs.Operations.{LinkedOperation, LinksExpression}
@@ -25,7 +25,7 @@ use Rattle.value_links.specs.Resolved.{Content, ListMeaning, MeansItems, MeansCo
 use Rattle.value_links.specs.Resolved.Content.{Items, Entries}
 use Rattle.value_links.specs.Whole.{IsReading}
 use Rattle.value_links.specs.World.{World, lists_held, IsMeaningOf, HoldsMeaning, HoldsList, Holds}
-use Rattle.same_meaning.specs.inside.Compared.{IsSomeWorld, MeanOne}
+use Rattle.same_meaning.specs.inside.Compared.{MeanOne}
 use Rattle.same_meaning.specs.inside.Lists.{AreItemsOf, HasContent}
 
 -- ---- items
@@ -114,7 +114,7 @@ module _ (r : Linkable) (kind : ListKind) (list : ListRead) (held : HeldList) (h
   content_of (Live items) is (thawed, says) entries said (Entries kept) (frozen, same) = absurd (thawed frozen)
   content_of Dead is frozen entries said (Items bounds) (thawed, means) = absurd (thawed frozen)
   content_of Dead is frozen entries said (Entries kept) (other, same) =
-      (is, subst (λ (z : List Entry). AreSaid kind held.raw.items z) (sym same) (subst (λ (z : List RawEntry). AreSaid kind z entries) (sym holds.raws) said))
+      (is, subst (λ (z : List Entry). AreSaid kind held.raw z) (sym same) (subst (λ (z : List RawEntry). AreSaid kind z entries) (sym holds.raws) said))
 
   -- what the list means is what is held
   pub content_held : (entries : List Entry) → AreSaid kind list.raws entries → (content : Content) → MeansContent r kind list held.owner entries content → HasContent kind held content
@@ -148,21 +148,6 @@ list_read file world r holds kind held (k, inside, same) =
     let known : k < length (lists_of r kind) = omega (arith, inside, count) in
     record { k = k; inside = known; holds = subst (λ (z : HeldList). HoldsList r.links kind (list_at (lists_of r kind) k) z) same ((holds.lists kind).each k held known) }
 
--- lists are held by rising place
-lists_rise : (world : World) (some : IsSomeWorld world) (kind : ListKind) (i j : ℕ) (d : HeldList) → i < j → j < length (lists_held world kind) → (get_or (lists_held world kind) i d).at < (get_or (lists_held world kind) j d).at
-lists_rise world (reach, is) kind i j d less inside =
-    let count : length (lists_held world kind) ≡ length (lists_of is.r kind) = (is.holds.lists kind).count in
-    let lower : (get_or (lists_held world kind) i d).at ≡ (list_at (lists_of is.r kind) i).at = ((is.holds.lists kind).each i d (omega (arith, less, inside, count))).at in
-    let higher : (get_or (lists_held world kind) j d).at ≡ (list_at (lists_of is.r kind) j).at = ((is.holds.lists kind).each j d (omega (arith, inside, count))).at in
-    let rising : (list_at (lists_of is.r kind) i).at < (list_at (lists_of is.r kind) j).at = (is.read.lists kind).rising i j less (omega (arith, inside, count)) in
-    omega (arith, lower, higher, rising)
-
-abbrev AreApart : List HeldList → Type 0
-AreApart lists = (d : HeldList) (i j : ℕ) → i < j → j < length lists → (get_or lists i d).at < (get_or lists j d).at
-
-pub rising : (world : World) (some : IsSomeWorld world) (kind : ListKind) (lists : List HeldList) → lists ≡ lists_held world kind → AreApart lists
-rising world some kind lists is = subst AreApart (sym is) (λ d i j less inside. lists_rise world some kind i j d less inside)
-
 -- one list begins at a place, where their places rise
 one_list : (lists : List ListRead) → ((j k : ℕ) → j < k → k < length lists → (list_at lists j).at < (list_at lists k).at) → (k : ℕ) → k < length lists → (a : ListRead) → Contains lists a → a.at ≡ (list_at lists k).at → a ≡ list_at lists k
 one_list lists rising k k_in a (i, i_in, i_is) same =
@@ -179,7 +164,7 @@ one_list lists rising k k_in a (i, i_in, i_is) same =
 
 -- the expressions of a list that is held, in a section, are these operations in the unit that owns it
 abbrev pub LinkExpressions : Linkable → ListKind → HeldList → List (List LinkedOperation) → Type 0
-LinkExpressions r kind held all = AllZip (LinksExpression r (owner_unit r held.owner)) (expressions_in kind (of_kind r kind).section held.raw.items) all
+LinkExpressions r kind held all = AllZip (LinksExpression r (owner_unit r held.owner)) (expressions_in kind (of_kind r kind).section held.raw) all
 
 -- what a list means, in terms of what is held
 pub record MeansHeld (r : Linkable) (kind : ListKind) (held : HeldList) (meaning : ListMeaning) : Type 0 where
@@ -198,7 +183,7 @@ module _ (file : List ℕ) (r : Reading) (read : IsReading file r) (kind : ListK
       let owner : m.owner ≡ held.owner = owner_same r.links kind held.at m.owner held.owner m.owned owned in
       let said : AreSaid kind the_list.raws m.entries = subst (λ (z : ListRead). AreSaid kind z.raws m.entries) same m.said in
       let means : MeansContent r.links kind the_list held.owner m.entries meaning.content = subst (λ (z : Option ℕ). MeansContent r.links kind the_list z m.entries meaning.content) owner (subst (λ (z : ListRead). MeansContent r.links kind z m.owner m.entries meaning.content) same m.content) in
-      let raws : m.list.raws ≡ held.raw.items = ap (λ (z : ListRead). z.raws) same ∙ sym is.holds.raws in
+      let raws : m.list.raws ≡ held.raw = ap (λ (z : ListRead). z.raws) same ∙ sym is.holds.raws in
       record {
         kind_is = m.same;
         content = content_held r.links kind the_list held is.holds m.entries said meaning.content means;

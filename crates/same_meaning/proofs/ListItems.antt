@@ -12,7 +12,7 @@ use Rattle.list_model.specs.Entries.{Entry, Says, AreSaid, code_of}
 use Rattle.list_model.specs.Items.{Bounds, item_of}
 use Rattle.list_model.specs.Items.Bounds.{between, elsewhere}
 use Rattle.list_model.proofs.EntryLaws.{one_kind, same_entry}
-use Rattle.value_links.specs.declared.lists.ListRead.{ListRead as HeldList}
+use Rattle.list_arena.specs.Held.{HeldList}
 use Rattle.value_links.specs.Resolved.{Content}
 use Rattle.value_links.specs.Resolved.Content.{Items, Entries}
 use Rattle.same_meaning.specs.inside.Lists.{IsSameEntry, AreSameEntries, CoversSame, CoverSame, AreItemsOf, HasContent}
@@ -121,10 +121,10 @@ module _ (kind : ListKind) (old new : HeldList) where
   items_decide result items others first second decides a (Entries ys) has (dead, said) = absurd (live_dead others (sym second ∙ dead))
 
   -- two lists that are held as dead
-  pub entries_decide : (result : Bool) → old.meaning ≡ Dead → new.meaning ≡ Dead → IsTrue result ↔ AreSameEntries old.raw.items new.raw.items → (a b : Content) → HasContent kind old a → HasContent kind new b → IsTrue result ↔ (b ≡ a)
+  pub entries_decide : (result : Bool) → old.meaning ≡ Dead → new.meaning ≡ Dead → IsTrue result ↔ AreSameEntries old.raw new.raw → (a b : Content) → HasContent kind old a → HasContent kind new b → IsTrue result ↔ (b ≡ a)
   entries_decide result first second decides (Entries xs) (Entries ys) (dead, said) (died, again) = (
-    λ yes. (let all = decides.0 yes in ap (λ (z : List Entry). Entries z) (entries_same kind old.raw.items new.raw.items xs ys said again all.0 all.1)),
-    λ same. (let is : ys ≡ xs = entries_back ys xs same in decides.1 (entries_count kind old.raw.items new.raw.items xs ys said again is, λ k d inside. entries_each kind old.raw.items new.raw.items xs ys said again k d is inside)),
+    λ yes. (let all = decides.0 yes in ap (λ (z : List Entry). Entries z) (entries_same kind old.raw new.raw xs ys said again all.0 all.1)),
+    λ same. (let is : ys ≡ xs = entries_back ys xs same in decides.1 (entries_count kind old.raw new.raw xs ys said again is, λ k d inside. entries_each kind old.raw new.raw xs ys said again k d is inside)),
   )
   entries_decide result first second decides (Items xs) b (its, live, are) has = absurd (live_dead its (sym live ∙ first))
   entries_decide result first second decides a (Items ys) has (its, live, are) = absurd (live_dead its (sym live ∙ second))

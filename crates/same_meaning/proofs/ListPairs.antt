@@ -4,7 +4,7 @@ use Rattle.std.specs.Prelude.{◌↔◌, IsTrue, IfOk}
 use Rattle.std.specs.List.{Contains}
 use Rattle.list_model.specs.declared.entry.ListKind.{ListKind}
 use Rattle.list_model.specs.declared.entry.ListKind.TheVariants.{Ranges, Locations}
-use Rattle.value_links.specs.declared.lists.ListRead.{ListRead as HeldList}
+use Rattle.list_arena.specs.Held.{HeldList}
 use Rattle.value_links.specs.Reading.{Reading}
 use Rattle.value_links.specs.Lists.{owner_unit}
 use Rattle.value_links.specs.Resolved.{Content, MeansList}

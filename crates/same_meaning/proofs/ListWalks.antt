@@ -6,7 +6,7 @@ use Rattle.std.proofs.lemmas.Bool.{cases_eq}
 use Rattle.list_model.specs.declared.entry.ListKind.TheVariants.{Locations}
 use Rattle.list_model.specs.declared.entry.RawEntry.{RawEntry}
 use Rattle.loc_lists.specs.Locations.{is_item, bytes_in, expressions_of}
-use Rattle.value_links.specs.declared.lists.ListRead.{ListRead as HeldList}
+use Rattle.list_arena.specs.Held.{HeldList}
 use Rattle.value_links.specs.Reading.{Linkable, Reading, list_at, part_at}
 use Rattle.value_links.specs.Sections.{debug_lists}
 use Rattle.value_links.specs.Lists.{IsOwner, owner_unit}
@@ -38,7 +38,7 @@ module _ (world : World) (some : IsSomeWorld world) (list : HeldList) (one : Con
       section_read = section_is ∙ sym (holds.sections Locations)
 
     -- its expressions lie in the section
-    pub lie_inside : All (LiesIn (length section)) list.raw.items
+    pub lie_inside : All (LiesIn (length section)) list.raw
     lie_inside =
         let (reach, is) = some in
         let read = list_read world.image world is.r is.holds Locations list one in
@@ -49,14 +49,14 @@ module _ (world : World) (some : IsSomeWorld world) (list : HeldList) (one : Con
 
     -- and name what they may
     module _ (r : Reading) (reading : IsReading world.image r) (holds : Holds world.image world r) where
-      pub are_linked : All (IsLinkedSomehow r.links (owner_unit r.links list.owner)) (expressions_of section list.raw.items)
+      pub are_linked : All (IsLinkedSomehow r.links (owner_unit r.links list.owner)) (expressions_of section list.raw)
       are_linked =
           let read = list_read world.image world r holds Locations list one in
           let old = list_at r.location_lists read.k in
           let own = (reading.lists Locations).expressions read.k read.inside in
           let owner : own.owner ≡ list.owner = owner_same r.links Locations old.at own.owner list.owner own.owned read.holds.owner in
-          let there : expressions_of r.links.locations.section old.raws ≡ expressions_of section list.raw.items =
-          ap (expressions_of r.links.locations.section) (sym read.holds.raws) ∙ ap (λ (z : List ℕ). expressions_of z list.raw.items) (sym (section_read r holds)) in
+          let there : expressions_of r.links.locations.section old.raws ≡ expressions_of section list.raw =
+          ap (expressions_of r.links.locations.section) (sym read.holds.raws) ∙ ap (λ (z : List ℕ). expressions_of z list.raw) (sym (section_read r holds)) in
           subst (λ (z : List (List ℕ)). All (IsLinkedSomehow r.links (owner_unit r.links list.owner)) z) there
           (subst (λ (z : Option ℕ). All (IsLinkedSomehow r.links (owner_unit r.links z)) (expressions_of r.links.locations.section old.raws)) owner own.linked)
 
@@ -184,17 +184,19 @@ not_past same i n is fails most = elim (cases_eq i n) [
 -- ---- by what is read
 
 module _ (a b : World) (old new : HeldList) (first second : List ℕ) (first_is : first ≡ debug_lists a.image Locations) (second_is : second ≡ debug_lists b.image Locations) where
-  -- a test of two expressions, by their bytes
-  pub test_bytes : (x y left right : List ℕ) → x ≡ left → y ≡ right → (same : Bool) → OfBoth a b (λ r s. IsTrue same ↔ MeansSame r.links (owner_unit r.links old.owner) s.links (owner_unit s.links new.owner) x y) → OfBoth a b (λ r s. IsTrue same ↔ MeansSame r.links (owner_unit r.links old.owner) s.links (owner_unit s.links new.owner) left right)
-  test_bytes x y left right one two same test =
+  -- a test of two expressions, by their owners and bytes
+  pub test_bytes : (p q : Option ℕ) → p ≡ old.owner → q ≡ new.owner → (x y left right : List ℕ) → x ≡ left → y ≡ right → (same : Bool) → OfBoth a b (λ r s. IsTrue same ↔ MeansSame r.links (owner_unit r.links p) s.links (owner_unit s.links q) x y) → OfBoth a b (λ r s. IsTrue same ↔ MeansSame r.links (owner_unit r.links old.owner) s.links (owner_unit s.links new.owner) left right)
+  test_bytes p q owner other x y left right one two same test =
+      let owned = subst (λ (z : Option ℕ). OfBoth a b (λ r s. IsTrue same ↔ MeansSame r.links (owner_unit r.links z) s.links (owner_unit s.links new.owner) x y)) owner
+      (subst (λ (z : Option ℕ). OfBoth a b (λ r s. IsTrue same ↔ MeansSame r.links (owner_unit r.links p) s.links (owner_unit s.links z) x y)) other test) in
       subst (λ (z : List ℕ). OfBoth a b (λ r s. IsTrue same ↔ MeansSame r.links (owner_unit r.links old.owner) s.links (owner_unit s.links new.owner) z right)) one
-      (subst (λ (z : List ℕ). OfBoth a b (λ r s. IsTrue same ↔ MeansSame r.links (owner_unit r.links old.owner) s.links (owner_unit s.links new.owner) x z)) two test)
+      (subst (λ (z : List ℕ). OfBoth a b (λ r s. IsTrue same ↔ MeansSame r.links (owner_unit r.links old.owner) s.links (owner_unit s.links new.owner) x z)) two owned)
 
   -- and of all
-  pub test_read : (same : Bool) → OfBoth a b (λ r s. IsTrue same ↔ SameFrom r.links old.owner first old.raw.items 0 s.links new.owner second new.raw.items 0) → OfBoth a b (λ r s. IsTrue same ↔ MeanSameExpressions r.links (owner_unit r.links old.owner) (held_expressions r.links.locations.section old) s.links (owner_unit s.links new.owner) (held_expressions s.links.locations.section new))
+  pub test_read : (same : Bool) → OfBoth a b (λ r s. IsTrue same ↔ SameFrom r.links old.owner first old.raw 0 s.links new.owner second new.raw 0) → OfBoth a b (λ r s. IsTrue same ↔ MeanSameExpressions r.links (owner_unit r.links old.owner) (held_expressions r.links.locations.section old) s.links (owner_unit s.links new.owner) (held_expressions s.links.locations.section new))
   test_read same test = λ r s read holds again held.
       let both = test r s read holds again held in
-      let one : expressions_from first old.raw.items 0 ≡ held_expressions r.links.locations.section old = ap (λ (z : List ℕ). expressions_of z old.raw.items) (first_is ∙ sym (holds.sections Locations)) in
-      let two : expressions_from second new.raw.items 0 ≡ held_expressions s.links.locations.section new = ap (λ (z : List ℕ). expressions_of z new.raw.items) (second_is ∙ sym (held.sections Locations)) in
-      let there = same_as r.links (owner_unit r.links old.owner) s.links (owner_unit s.links new.owner) (expressions_from first old.raw.items 0) (held_expressions r.links.locations.section old) (expressions_from second new.raw.items 0) (held_expressions s.links.locations.section new) one two in
+      let one : expressions_from first old.raw 0 ≡ held_expressions r.links.locations.section old = ap (λ (z : List ℕ). expressions_of z old.raw) (first_is ∙ sym (holds.sections Locations)) in
+      let two : expressions_from second new.raw 0 ≡ held_expressions s.links.locations.section new = ap (λ (z : List ℕ). expressions_of z new.raw) (second_is ∙ sym (held.sections Locations)) in
+      let there = same_as r.links (owner_unit r.links old.owner) s.links (owner_unit s.links new.owner) (expressions_from first old.raw 0) (held_expressions r.links.locations.section old) (expressions_from second new.raw 0) (held_expressions s.links.locations.section new) one two in
       (λ passes. there.0 (both.0 passes), λ all. both.1 (there.1 all))

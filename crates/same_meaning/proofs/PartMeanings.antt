@@ -8,7 +8,7 @@ use Rattle.dw_base.specs.declared.fault.Reach.{Reach}
 use Rattle.list_model.specs.declared.contribution.Contribution.{Contribution}
 use Rattle.list_model.specs.declared.entry.ListKind.{ListKind}
 use Rattle.list_model.specs.declared.entry.ListKind.TheVariants.{Ranges, Locations}
-use Rattle.value_links.specs.declared.lists.ListRead.{ListRead as HeldList}
+use Rattle.list_arena.specs.Held.{HeldList}
 use Rattle.value_links.specs.Reading.{ListSection, Reading, of_kind, lists_of, part_at, list_at}
 use Rattle.value_links.specs.ListPlaces.{IsSlot, SlotNames}
 use Rattle.value_links.specs.Resolved.{ListMeaning, MeansList}

@@ -12,23 +12,24 @@ ghost use Rattle.same_meaning.specs.inside.Lists.{IsSameEntry, AreSameEntries, C
 
 use crate::expressions::{ReadAgain, mean_same_bytes};
 use dw_base::NoMemory;
+use list_arena::ListRead;
 use list_model::{Item, ListKind, Meaning, RawEntry};
 use loc_lists::{bytes_of, is_item};
 use std::alloc::Global;
-use value_links::{ListRead, World};
+use value_links::World;
 
 // The list of a kind that begins at a place and that something names.
-fn list_at<'a>(world: &'a World<'_>, kind: ListKind, at: u64) -> &'a ListRead
+fn list_at(alloc: Global, world: &World<'_>, kind: ListKind, at: u64) -> Result<ListRead, NoMemory>
     requires world { IsSomeWorld world.now }
     requires named { HasListAt world.now kind at }
-    ensures list { Contains (lists_held world.now kind) result.now }
-    ensures at { result.now.at ≡ at }
+    ensures list { IfOk result (λ list. Contains (lists_held world.now kind) list) }
+    ensures at { IfOk result (λ list. list.at ≡ at) }
 {
     let lists = world.lists(kind);
-    match lists.binary_search_by_key(&at, |list| list.at) {
-        Ok(number) => &lists[number],
+    match lists.find(at) {
+        Some(number) => lists.list(alloc, number),
         // A list begins there.
-        Err(_) => unreachable!(),
+        None => unreachable!(),
     }
 }
 
@@ -80,11 +81,11 @@ fn have_same_bounds(before: &[Item], after: &[Item]) -> bool
 fn have_same_content(before: &ListRead, after: &ListRead) -> bool
     ensures { (kind : AnyKind) (content other : Content) → HasContent kind before.now content → HasContent kind after.now other → IsTrue result ↔ (other ≡ content) }
 {
-    match (&before.meaning, &after.meaning) {
+    match (before.meaning(), after.meaning()) {
         (Meaning::Live(old), Meaning::Live(new)) => {
             have_same_bounds(old.as_slice(), new.as_slice())
         }
-        (Meaning::Dead, Meaning::Dead) => have_same_entries(&before.raw, &after.raw),
+        (Meaning::Dead, Meaning::Dead) => have_same_entries(before.entries(), after.entries()),
         _ => false,
     }
 }
@@ -124,27 +125,28 @@ fn have_same_expressions(
 {
     let first = location_section(before);
     let second = location_section(after);
+    let (old_entries, new_entries) = (old.entries(), new.entries());
     let mut memory = ReadAgain::new(alloc);
-    let (mut i, mut j) = (next_item(&old.raw, 0), next_item(&new.raw, 0));
-    while i < old.raw.len() && j < new.raw.len() {
-        let a = bytes_of(first, old.raw[i].expr);
-        let b = bytes_of(second, new.raw[j].expr);
+    let (mut i, mut j) = (next_item(old_entries, 0), next_item(new_entries, 0));
+    while i < old_entries.len() && j < new_entries.len() {
+        let a = bytes_of(first, old_entries[i].expr);
+        let b = bytes_of(second, new_entries[j].expr);
         if !mean_same_bytes(
             alloc,
             before,
-            old.owner,
+            old.owner(),
             a,
             after,
-            new.owner,
+            new.owner(),
             b,
             &mut memory,
         )? {
             return Ok(false);
         }
-        i = next_item(&old.raw, i + 1);
-        j = next_item(&new.raw, j + 1);
+        i = next_item(old_entries, i + 1);
+        j = next_item(new_entries, j + 1);
     }
-    Ok(i == old.raw.len() && j == new.raw.len())
+    Ok(i == old_entries.len() && j == new_entries.len())
 }
 
 /// Whether the lists of a kind that begin at two places mean the same.
@@ -162,13 +164,13 @@ pub(crate) fn mean_same_list(
     requires second { HasListAt after.now kind second }
     ensures { IfOk result (λ same. OfBoth before.now after.now (λ r s. IsTrue same ↔ MeanOne (MeansList r kind first) (MeansList s kind second))) }
 {
-    let old = list_at(before, kind, first);
-    let new = list_at(after, kind, second);
-    if !have_same_content(old, new) {
+    let old = list_at(alloc, before, kind, first)?;
+    let new = list_at(alloc, after, kind, second)?;
+    if !have_same_content(&old, &new) {
         return Ok(false);
     }
     match kind {
         ListKind::Ranges => Ok(true),
-        ListKind::Locations => have_same_expressions(alloc, before, after, old, new),
+        ListKind::Locations => have_same_expressions(alloc, before, after, &old, &new),
     }
 }

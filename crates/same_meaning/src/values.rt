@@ -1,24 +1,26 @@
 // The values of attributes (DWARF 5 sections 2.2 and 7.5).
-ghost use Rattle.std.specs.Prelude.{◌≡◌, ◌≤◌, ◌<◌, ◌+◌, ◌↔◌, ℕ, List, length, IsTrue, IfOk};
+ghost use Rattle.std.specs.Prelude.{◌≡◌, ◌≤◌, ◌<◌, ◌+◌, ◌↔◌, ℕ, List, length, slice_index_or, IsTrue, IfOk};
 ghost use Rattle.form_codec.specs.Forms.{Meaning};
 ghost use Rattle.form_codec.specs.Values.{LiesIn, bytes_in, meant_in};
 ghost use Rattle.list_model.specs.declared.entry.ListKind.{ListKind as AnyKind};
 ghost use Rattle.loc_lists.specs.declared.views.ViewPair.{ViewPair as AnyPair};
-ghost use Rattle.value_links.specs.declared.link.Link.TheVariants.{List as AtList, Slot, Views};
+ghost use Rattle.list_arena.specs.Held.{HeldViews, ViewsRise};
+ghost use Rattle.value_links.specs.declared.link.Link.TheVariants.{List as AtList, Slot, Views as AtViews};
 ghost use Rattle.value_links.specs.Links.{held_at};
 ghost use Rattle.value_links.specs.Reading.{unit_at};
 ghost use Rattle.value_links.specs.inside.Checks.{IsNoExpr};
 ghost use Rattle.same_meaning.specs.inside.Compared.{IsSomeWorld, OfBoth, MeanOne, HasListAt, StandsIn, MeansValue};
-ghost use Rattle.same_meaning.specs.inside.Values.{OfReading, IsTold, TellSame, HoldsPairs, PairsRise, IsThere, section_at, IsValueOf, MeansHeld};
+ghost use Rattle.same_meaning.specs.inside.Values.{OfReading, IsTold, TellSame, HoldsPairs, IsThere, section_at, IsValueOf, MeansHeld};
 
 use crate::expressions::mean_same_expression;
 use crate::lists::mean_same_list;
 use dw_base::{NoMemory, Span};
 use form_codec::Value;
+use list_arena::Views;
 use list_model::ListKind;
 use loc_lists::ViewPair;
 use std::alloc::Global;
-use value_links::{Link, ViewRead, World, one_meaning, one_reading};
+use value_links::{Link, World, one_meaning, one_reading};
 
 // The place of a value among those of both files: its unit, its entry, and the name of its attribute.
 #[derive(Clone, Copy)]
@@ -70,28 +72,32 @@ fn are_same_plain(
     }
 }
 
-// The view pairs that go with the location list at a place, and stand at another.
-fn pairs_among(views: &[ViewRead], list: u64, at: u64) -> &[ViewPair]
-    requires rising { PairsRise views.now }
+// The number of the run of view pairs that goes with the location list at a place, and stands at another.
+fn run_among(views: &Views, list: u64, at: u64) -> usize
+    requires rising { ViewsRise views.now }
     requires there { (pairs : List AnyPair) × HoldsPairs views.now list at pairs }
-    ensures { HoldsPairs views.now list at result.now }
+    ensures inside { result < length views.now }
+    ensures run { (d : HeldViews) → HoldsPairs views.now list at (slice_index_or views.now result d).pairs }
 {
-    match views.binary_search_by_key(&(list, at), |run| (run.list, run.at)) {
-        Ok(number) => &views[number].pairs,
+    match views.find(list, at) {
+        Some(number) => number,
         // Some begin there.
-        Err(_) => unreachable!(),
+        None => unreachable!(),
     }
 }
 
-// Whether view pairs are the same, one by one.
-fn have_same_pairs(before: &[ViewPair], after: &[ViewPair]) -> bool
-    ensures { IsTrue result ↔ (before.now ≡ after.now) }
+// Whether the view pairs of two runs are the same, one by one.
+fn have_same_pairs(before: &Views, first: usize, after: &Views, second: usize) -> bool
+    requires first { first < length before.now }
+    requires second { second < length after.now }
+    ensures { (d : HeldViews) → IsTrue result ↔ ((slice_index_or before.now first d).pairs ≡ (slice_index_or after.now second d).pairs) }
 {
-    if before.len() != after.len() {
+    let count = before.pair_count(first);
+    if count != after.pair_count(second) {
         return false;
     }
-    for i in 0..before.len() {
-        if before[i].first != after[i].first || before[i].last != after[i].last {
+    for i in 0..count {
+        if before.pair(first, i) != after.pair(second, i) {
             return false;
         }
     }
@@ -102,15 +108,16 @@ fn have_same_pairs(before: &[ViewPair], after: &[ViewPair]) -> bool
 fn name_same_pairs(before: &World<'_>, after: &World<'_>, list: u64, at: u64, other: Link) -> bool
     requires before { IsSomeWorld before.now }
     requires after { IsSomeWorld after.now }
-    requires first { IsThere before.now (Views list at) }
+    requires first { IsThere before.now (AtViews list at) }
     requires second { IsThere after.now other }
-    ensures { TellSame before.now after.now (Views list at) other result }
+    ensures { TellSame before.now after.now (AtViews list at) other result }
 {
     match other {
         Link::Views(other_list, place) => {
-            let first = pairs_among(before.views(), list, at);
-            let second = pairs_among(after.views(), other_list, place);
-            have_same_pairs(first, second)
+            let (old, new) = (before.views(), after.views());
+            let first = run_among(old, list, at);
+            let second = run_among(new, other_list, place);
+            have_same_pairs(old, first, new, second)
         }
         _ => false,
     }

@@ -79,23 +79,48 @@ fn read_world<'a>(alloc: Global, file: &'a [u8], reach: Reach) -> Result<World<'
     World::read(alloc, file, reach)
 }
 
+// The answer to two files that are in order, and a certificate.
+fn answer_for(
+    alloc: Global,
+    before: &World<'_>,
+    after: &World<'_>,
+    certificate: &[u8],
+) -> Result<Answer, NoMemory>
+    requires before { IsWorldOf before.now.image Narrow before.now }
+    requires after { IsWorldOf after.now.image Wide after.now }
+    ensures { IfOk result (IsAnswer before.now.image after.now.image certificate.now) }
+{
+    match verdict(alloc, before, after, certificate)? {
+        None => Ok(Answer::Accepted),
+        Some(reason) => Ok(Answer::Rejected(rejection(alloc, before.image(), reason)?)),
+    }
+}
+
+// The answer to the bytes of a file that may have been written for one that is in order.
+fn judge_written(
+    alloc: Global,
+    before: &World<'_>,
+    written: &[u8],
+    certificate: &[u8],
+) -> Result<Answer, NoMemory>
+    requires { IsWorldOf before.now.image Narrow before.now }
+    ensures { IfOk result (IsAnswer before.now.image written.now certificate.now) }
+{
+    match read_world(alloc, written, Reach::Wide) {
+        Ok(after) => answer_for(alloc, before, &after, certificate),
+        Err(Refusal::Refused(fault)) => Ok(Answer::Refused(output_refusal(alloc, fault)?)),
+        Err(Refusal::NoMemory) => Err(NoMemory),
+    }
+}
+
 // The answer to the bytes of three files. Faults of the first are looked for before those of the second.
 fn judge(alloc: Global, file: &[u8], written: &[u8], certificate: &[u8]) -> Result<Answer, NoMemory>
     ensures { IfOk result (IsAnswer file.now written.now certificate.now) }
 {
-    let before = match read_world(alloc, file, Reach::Narrow) {
-        Ok(world) => world,
-        Err(Refusal::Refused(fault)) => return Ok(Answer::Refused(input_refusal(alloc, fault)?)),
-        Err(Refusal::NoMemory) => return Err(NoMemory),
-    };
-    let after = match read_world(alloc, written, Reach::Wide) {
-        Ok(world) => world,
-        Err(Refusal::Refused(fault)) => return Ok(Answer::Refused(output_refusal(alloc, fault)?)),
-        Err(Refusal::NoMemory) => return Err(NoMemory),
-    };
-    match verdict(alloc, &before, &after, certificate)? {
-        None => Ok(Answer::Accepted),
-        Some(reason) => Ok(Answer::Rejected(rejection(alloc, before.image(), reason)?)),
+    match read_world(alloc, file, Reach::Narrow) {
+        Ok(before) => judge_written(alloc, &before, written, certificate),
+        Err(Refusal::Refused(fault)) => Ok(Answer::Refused(input_refusal(alloc, fault)?)),
+        Err(Refusal::NoMemory) => Err(NoMemory),
     }
 }
 

@@ -12,7 +12,7 @@ use Rattle.entry_read.specs.Units.{HeadAndForest}
 use Rattle.list_model.specs.declared.entry.ListKind.TheVariants.{Locations}
 use Rattle.list_model.specs.declared.entry.RawEntry.{RawEntry}
 use Rattle.loc_lists.specs.Locations.{is_item, items_among, bytes_in, expressions_of}
-use Rattle.value_links.specs.declared.lists.ListRead.{ListRead as HeldList}
+use Rattle.list_arena.specs.Held.{HeldList}
 use Rattle.value_links.specs.Layouts.{list_expressions}
 use Rattle.value_links.specs.Lists.{expressions_at}
 use Rattle.value_links.specs.Reading.{Reading, list_at}
@@ -100,34 +100,34 @@ module _ (world : World) (unit : HeadAndForest) (held : ℕ → List Operation) 
 
     -- the list as it is read
     module _ (s : Reading) (holds : Holds world.image world s) where
-      raws_read : list.raw.items ≡ (list_at s.location_lists k).raws
+      raws_read : list.raw ≡ (list_at s.location_lists k).raws
       raws_read =
           let count : length world.locations ≡ length s.location_lists = (holds.lists Locations).count in
-          ap (λ (z : HeldList). z.raw.items) list_is ∙ ((holds.lists Locations).each k list (omega (arith, known, count))).raws
+          ap (λ (z : HeldList). z.raw) list_is ∙ ((holds.lists Locations).each k list (omega (arith, known, count))).raws
 
       section_read : debug_lists world.image Locations ≡ s.links.locations.section
       section_read = sym (holds.sections Locations)
 
-      expressions_read : expressions_of (debug_lists world.image Locations) list.raw.items ≡ expressions_at s.links Locations (list_at s.location_lists k)
-      expressions_read = ap (λ (z : List ℕ). expressions_of z list.raw.items) section_read ∙ ap (expressions_of s.links.locations.section) raws_read
+      expressions_read : expressions_of (debug_lists world.image Locations) list.raw ≡ expressions_at s.links Locations (list_at s.location_lists k)
+      expressions_read = ap (λ (z : List ℕ). expressions_of z list.raw) section_read ∙ ap (expressions_of s.links.locations.section) raws_read
 
       next_expressions : list_expressions s (take (i + 1) numbers) ≡ list_expressions s (take i numbers) ++ expressions_at s.links Locations (list_at s.location_lists k)
       next_expressions =
           ap (list_expressions s) next_number ∙ flat_map-append (λ (n : ℕ). expressions_at s.links Locations (list_at s.location_lists n)) (take i numbers) (k ∷ [])
           ∙ ap (λ (z : List (List ℕ)). list_expressions s (take i numbers) ++ z) (append-nil (expressions_at s.links Locations (list_at s.location_lists k)))
 
-    pub lists_more : (slots mid_slots new_slots : List Slot) (sizes mid_sizes new_sizes : List ℕ) → AddsLists world unit held own (take i numbers) slots sizes mid_slots mid_sizes → AddsItems unit held own (debug_lists world.image Locations) list.raw.items mid_slots mid_sizes new_slots new_sizes → AddsLists world unit held own (take (i + 1) numbers) slots sizes new_slots new_sizes
+    pub lists_more : (slots mid_slots new_slots : List Slot) (sizes mid_sizes new_sizes : List ℕ) → AddsLists world unit held own (take i numbers) slots sizes mid_slots mid_sizes → AddsItems unit held own (debug_lists world.image Locations) list.raw mid_slots mid_sizes new_slots new_sizes → AddsLists world unit held own (take (i + 1) numbers) slots sizes new_slots new_sizes
     lists_more slots mid_slots new_slots sizes mid_sizes new_sizes before adds = record {
       operations = before.operations ++ adds.operations;
       spelled = λ s holds.
-          let mapped : AllZip (IsExpression Wide) adds.operations (expressions_of (debug_lists world.image Locations) list.raw.items) = zip_mapped (debug_lists world.image Locations) adds.operations (items_among list.raw.items) adds.spelled in
+          let mapped : AllZip (IsExpression Wide) adds.operations (expressions_of (debug_lists world.image Locations) list.raw) = zip_mapped (debug_lists world.image Locations) adds.operations (items_among list.raw) adds.spelled in
           let here : AllZip (IsExpression Wide) adds.operations (expressions_at s.links Locations (list_at s.location_lists k)) = subst (AllZip (IsExpression Wide) adds.operations) (expressions_read s holds) mapped in
           subst (AllZip (IsExpression Wide) (before.operations ++ adds.operations)) (sym (next_expressions s holds)) (zip_join (IsExpression Wide) before.operations (list_expressions s (take i numbers)) adds.operations (expressions_at s.links Locations (list_at s.location_lists k)) (before.spelled s holds) here);
       added = before.added ++ all_sizes adds.added;
       are = λ s holds.
           let (each, zip, whole) = before.are s holds in
           let Are : ℕ → List ℕ → Type 0 = λ n. AreListSizes s.links.locations.section (list_at s.location_lists n) in
-          let own_are : AllZip (AreItemSizes s.links.locations.section) (items_among (list_at s.location_lists k).raws) adds.added = subst (λ (z : List RawEntry). AllZip (AreItemSizes s.links.locations.section) (items_among z) adds.added) (raws_read s holds) (subst (λ (z : List ℕ). AllZip (AreItemSizes z) (items_among list.raw.items) adds.added) (section_read s holds) adds.are) in (
+          let own_are : AllZip (AreItemSizes s.links.locations.section) (items_among (list_at s.location_lists k).raws) adds.added = subst (λ (z : List RawEntry). AllZip (AreItemSizes s.links.locations.section) (items_among z) adds.added) (raws_read s holds) (subst (λ (z : List ℕ). AllZip (AreItemSizes z) (items_among list.raw) adds.added) (section_read s holds) adds.are) in (
             each ++ all_sizes adds.added ∷ [],
             subst (λ (z : List ℕ). AllZip (λ (n : ℕ). AreListSizes s.links.locations.section (list_at s.location_lists n)) z (each ++ all_sizes adds.added ∷ [])) (sym next_number)
                 (zip_join (λ (n : ℕ). AreListSizes s.links.locations.section (list_at s.location_lists n)) (take i numbers) each (k ∷ []) (all_sizes adds.added ∷ []) zip ((adds.added, own_are, refl), tt)),

@@ -187,7 +187,7 @@ module _ (world : World) (some : (reach : Reach) × IsWorldOf world.image reach 
         omega (arith, known, count),
         λ d.
             let raws = ((some.1.holds.lists Locations).each k d known).raws in
-            subst (λ (h : HeadAndForest). ItemsStand h (debug_lists world.image Locations) (get_or world.locations k d).raw.items) (sym same)
-            (subst (λ (z : List ℕ). ItemsStand (head_and_forest (unit_at r.links u)) z (get_or world.locations k d).raw.items) (some.1.holds.sections Locations)
+            subst (λ (h : HeadAndForest). ItemsStand h (debug_lists world.image Locations) (get_or world.locations k d).raw) (sym same)
+            (subst (λ (z : List ℕ). ItemsStand (head_and_forest (unit_at r.links u)) z (get_or world.locations k d).raw) (some.1.holds.sections Locations)
             (subst (ItemsStand (head_and_forest (unit_at r.links u)) r.links.locations.section) (sym raws) (owned_items k known those.1))),
       )

@@ -113,15 +113,8 @@ pub(crate) fn push_lists(
     let all = world.lists(ListKind::Locations);
     let mut ops: Vec<Op> = Vec::new(alloc);
     for number in lists {
-        push_items(
-            alloc,
-            made,
-            unit,
-            spots,
-            section,
-            &all[*number].raw,
-            &mut ops,
-        )?;
+        let list = all.list(alloc, *number)?;
+        push_items(alloc, made, unit, spots, section, list.entries(), &mut ops)?;
     }
     Ok(())
 }

@@ -1,17 +1,16 @@
 -- Slots that links tell and the lists that they name, and lists that are found by their places, in what is held.
-use Rattle.std.proofs.Common.{◌≡◌, ◌<◌, ◌∙◌, inl, inr, ℕ, List, [], length, get_or, true≢false, sym, ap, subst, refl, arith}
-use Rattle.std.specs.Prelude.{Some, ◌↔◌, true, false, IsTrue}
+use Rattle.std.proofs.Common.{◌≡◌, ◌<◌, ◌∙◌, inl, inr, ℕ, List, [], length, get_or, sym, ap, subst, refl, arith}
+use Rattle.std.specs.Prelude.{Some, ◌↔◌}
 use Rattle.std.specs.List.{Contains}
 use Rattle.std.proofs.lemmas.Bool.{cases_lt, cases_eq}
 use Rattle.std.proofs.lemmas.List.{get_or_default}
 use Rattle.form_codec.specs.Forms.{Meaning}
 use Rattle.list_model.specs.declared.entry.ListKind.{ListKind}
-use Rattle.list_model.specs.declared.item.Item.{Item}
 use Rattle.list_model.specs.declared.item.Meaning.{Meaning as HeldMeaning}
 use Rattle.list_model.specs.declared.item.Meaning.TheVariants.{Live, Dead}
 use Rattle.value_links.specs.declared.link.Link.{Link}
 use Rattle.value_links.specs.declared.link.Link.TheVariants.{Plain, Place, Lines, List as AtList, Slot, Base, Views, Kept as KeptPlace}
-use Rattle.value_links.specs.declared.lists.ListRead.{ListRead as HeldList}
+use Rattle.list_arena.specs.Held.{HeldList, AreListsApart}
 use Rattle.value_links.specs.declared.parts.Parts.{Parts}
 use Rattle.value_links.specs.Reading.{ListSection, ListRead, Linkable, Reading, lists_of, of_kind, list_at, part_at}
 use Rattle.value_links.specs.ListPlaces.{IsSlot, SlotNames}
@@ -20,7 +19,7 @@ use Rattle.value_links.specs.Lists.{IsFrozen, AreListsOf}
 use Rattle.value_links.specs.Links.{IsFollowed, IsLinkFound}
 use Rattle.value_links.specs.Parts.{section_held, lists_in}
 use Rattle.value_links.specs.World.{World, lists_held, HoldsMeaning, HoldsList, HoldLists, Holds}
-use Rattle.value_links.specs.inside.World.{AreListsApart, IsHeldIn}
+use Rattle.value_links.specs.inside.World.{IsHeldIn}
 use Rattle.value_links.proofs.ValidLists.{slot_linked}
 use Rattle.value_links.proofs.HeldLinks.{world_alike}
 
@@ -100,10 +99,9 @@ module _ (file : List ℕ) (world : World) (r : Reading) (holds : Holds file wor
   means = held_means r.links kind (lists_of r kind) held (subst (λ (z : List HeldList). HoldLists r.links kind (lists_of r kind) z) (sym is) (holds.lists kind)) apart list one i d inside here
 
   -- one that is held as dead is frozen, and no other
-  pub dead_frozen : (get_or held i d).meaning ≡ Dead → IsTrue true ↔ IsFrozen r.links kind list
-  dead_frozen dead = (λ yes. subst (λ (z : HeldMeaning). HoldsMeaning r.links kind list (get_or held i d).owner z) dead means, λ frozen. refl)
-
-  pub live_thawed : (items : List Item) → (get_or held i d).meaning ≡ Live items → IsTrue false ↔ IsFrozen r.links kind list
-  live_thawed items live =
-      let both : HoldsMeaning r.links kind list (get_or held i d).owner (Live items) = subst (λ (z : HeldMeaning). HoldsMeaning r.links kind list (get_or held i d).owner z) live means in
-      (λ (yes : IsTrue false). absurd (true≢false (sym yes)), λ frozen. absurd (both.0 frozen))
+  pub dead_frozen : ((get_or held i d).meaning ≡ Dead) ↔ IsFrozen r.links kind list
+  dead_frozen = (λ dead. subst (λ (z : HeldMeaning). HoldsMeaning r.links kind list (get_or held i d).owner z) dead means, frozen_dead (get_or held i d).meaning means)
+    where
+      frozen_dead : (meaning : HeldMeaning) → HoldsMeaning r.links kind list (get_or held i d).owner meaning → IsFrozen r.links kind list → meaning ≡ Dead
+      frozen_dead Dead dead frozen = refl
+      frozen_dead (Live items) live frozen = absurd (live.0 frozen)

@@ -15,7 +15,7 @@ use Rattle.list_model.specs.Items.{HasTable}
 use Rattle.list_model.proofs.Tiling.{part_inside}
 use Rattle.list_model.specs.declared.item.Meaning.{Meaning as HeldMeaning}
 use Rattle.list_model.specs.declared.item.Meaning.TheVariants.{Live, Dead}
-use Rattle.value_links.specs.declared.lists.ListRead.{ListRead as HeldList}
+use Rattle.list_arena.specs.Held.{HeldList}
 use Rattle.value_links.specs.declared.parts.Parts.{Parts}
 use Rattle.value_links.specs.declared.units.Units.{Units}
 use Rattle.value_links.specs.Reading.{UnitRead, ListSection, ListRead, Linkable, unit_at, unit_among, of_kind, part_at, list_at}

@@ -10,7 +10,7 @@ use Rattle.dw_base.specs.declared.fault.Reach.{Reach}
 use Rattle.list_model.specs.declared.context.Context.{Context}
 use Rattle.list_model.specs.declared.entry.ListKind.{ListKind}
 use Rattle.list_model.specs.declared.entry.RawEntry.{RawEntry}
-use Rattle.value_links.specs.declared.lists.ListRead.{ListRead as HeldList}
+use Rattle.list_arena.specs.Held.{HeldList}
 use Rattle.value_links.specs.declared.lists.ListTotals.{ListTotals}
 use Rattle.value_links.specs.Reading.{ListSection, ListRead}
 use Rattle.value_links.specs.ListFaults.{list_total, expression_bytes}
@@ -61,17 +61,17 @@ in_order_back n xs order i j d less inside =
 -- WHAT LISTS HAVE TOGETHER
 
 -- one list more
-total_more : (measure : List RawEntry → ℕ) (lists : List HeldList) (list : HeldList) → list_total measure (map as_read (lists ++ list ∷ [])) ≡ list_total measure (map as_read lists) + measure list.raw.items
+total_more : (measure : List RawEntry → ℕ) (lists : List HeldList) (list : HeldList) → list_total measure (map as_read (lists ++ list ∷ [])) ≡ list_total measure (map as_read lists) + measure list.raw
 total_more measure lists list = ap (list_total measure) (map-append as_read lists (list ∷ [])) ∙ sum_by_push (λ (l : ListRead). measure l.raws) (map as_read lists) (as_read list)
 
-counted_more : (before : ListTotals) (lists : List HeldList) (list : HeldList) (now next_now : ListTotals) → AreCounted before (map as_read lists) now → (reach : Reach) → IsNextTotal reach now list.raw.items next_now → AreCounted before (map as_read (lists ++ list ∷ [])) next_now
+counted_more : (before : ListTotals) (lists : List HeldList) (list : HeldList) (now next_now : ListTotals) → AreCounted before (map as_read lists) now → (reach : Reach) → IsNextTotal reach now list.raw next_now → AreCounted before (map as_read (lists ++ list ∷ [])) next_now
 counted_more before lists list now next_now counted reach total =
-    let more : list_total length (map as_read (lists ++ list ∷ [])) ≡ list_total length (map as_read lists) + length list.raw.items = total_more length lists list in
-    let longer : list_total expression_bytes (map as_read (lists ++ list ∷ [])) ≡ list_total expression_bytes (map as_read lists) + expression_bytes list.raw.items = total_more expression_bytes lists list in
+    let more : list_total length (map as_read (lists ++ list ∷ [])) ≡ list_total length (map as_read lists) + length list.raw = total_more length lists list in
+    let longer : list_total expression_bytes (map as_read (lists ++ list ∷ [])) ≡ list_total expression_bytes (map as_read lists) + expression_bytes list.raw = total_more expression_bytes lists list in
     let entries : now.entries ≡ before.entries + list_total length (map as_read lists) = counted.entries in
     let bytes : now.bytes ≡ before.bytes + list_total expression_bytes (map as_read lists) = counted.bytes in
-    let up : next_now.entries ≡ now.entries + length list.raw.items = total.entries in
-    let over : next_now.bytes ≡ now.bytes + expression_bytes list.raw.items = total.bytes in
+    let up : next_now.entries ≡ now.entries + length list.raw = total.entries in
+    let over : next_now.bytes ≡ now.bytes + expression_bytes list.raw = total.bytes in
     record { entries = omega arith; bytes = omega arith }
 
 -- ONE LIST'S NAMINGS
@@ -190,7 +190,7 @@ module _ (namings : List (ℕ × ℕ)) (order : AreInOrder namings) (from : ℕ)
         let (list, has_list, same) = up.done y has in
         subst (λ (z : ℕ). z < (first_naming named).0) same (lists_before list has_list)
 
-    module _ (list : HeldList) (read : IsReadBy of section addr contexts named list) (next_now : ListTotals) (total : IsNextTotal reach now list.raw.items next_now) where
+    module _ (list : HeldList) (read : IsReadBy of section addr contexts named list) (next_now : ListTotals) (total : IsNextTotal reach now list.raw next_now) where
       done_more : (y : ℕ × ℕ) → Contains (take (from + count) namings) y → (l : HeldList) × Contains (lists ++ list ∷ []) l × (l.at ≡ y.0)
       done_more y has =
           let f = fits in

@@ -23,7 +23,7 @@ use Rattle.list_model.specs.Reading.{AreReadFrom, list_entry_limit}
 use Rattle.list_model.proofs.WalkLaws.{one_saying, one_walk}
 use Rattle.range_lists.proofs.RangeLaws.{said}
 use Rattle.loc_lists.specs.Locations.{IsRead, AreItems, items_among, entries_of}
-use Rattle.value_links.specs.declared.lists.ListRead.{ListRead as HeldList}
+use Rattle.list_arena.specs.Held.{HeldList}
 use Rattle.value_links.specs.declared.lists.ListTotals.{ListTotals}
 use Rattle.value_links.specs.declared.parts.Parts.{Parts}
 use Rattle.value_links.specs.Parts.{HoldsParts, lists_in, section_held}
@@ -147,7 +147,7 @@ bytes_of Locations section part at reach cause place apart f = f
 
 -- those of a list that some of all namings name are read
 abbrev HasExprsRead : Linkable → ListKind → List (ℕ × ℕ) → Reach → HeldList → Type 0
-HasExprsRead r kind namings reach list = (named : List (ℕ × ℕ)) × AreNamingsAt namings list.at named × AreExprsReadBy r kind named reach list.raw.items
+HasExprsRead r kind namings reach list = (named : List (ℕ × ℕ)) × AreNamingsAt namings list.at named × AreExprsReadBy r kind named reach list.raw
 
 module _ (r : Linkable) (kind : ListKind) (namings : List (ℕ × ℕ)) (are : AreNamings r kind namings) (few : length r.units < 2 ^ 32) where
   -- ONE LIST
@@ -214,7 +214,7 @@ module _ (r : Linkable) (kind : ListKind) (namings : List (ℕ × ℕ)) (are : A
 
     pub list_held : HoldsList r kind (as_read held) held
     list_held =
-        let says = entries_said kind (of_kind r kind).section (part_at (of_kind r kind) held.part) held.at held.raw.items among.2.read in
+        let says = entries_said kind (of_kind r kind).section (part_at (of_kind r kind) held.part) held.at held.raw among.2.read in
         record {
           at = refl;
           part = refl;
@@ -367,7 +367,7 @@ module _ (r : Linkable) (kind : ListKind) (namings : List (ℕ × ℕ)) (are : A
         fault_is cause place (p, begins, f) = fault_by cause place p begins f
 
   -- a fault of an expression of a list that is read
-  pub expression_is : (reach : Reach) (held : HeldList) (named : List (ℕ × ℕ)) (here : AreNamingsAt namings held.at named) → IsReadBy kind (of_kind r kind) r.addresses r.contexts named held → (cause : Kind) (place : ℕ) → FaultExpressionsBy kind (of_kind r kind).section named reach held.raw.items r cause place → FaultOfKind r reach kind cause place
+  pub expression_is : (reach : Reach) (held : HeldList) (named : List (ℕ × ℕ)) (here : AreNamingsAt namings held.at named) → IsReadBy kind (of_kind r kind) r.addresses r.contexts named held → (cause : Kind) (place : ℕ) → FaultExpressionsBy kind (of_kind r kind).section named reach held.raw r cause place → FaultOfKind r reach kind cause place
   expression_is reach held named here read cause place f = inr (inr (inr (expressions_fault r kind namings are few (as_read held) named here reach (list_in held (named, here, read)) cause place f)))
 
 -- a slot astray is a fault of the sixth pass
@@ -379,7 +379,7 @@ slot_is r reach kind cause place f = absurd f
 
 -- the expressions of a list are read, by the section that is held
 exprs_there : (file : List ℕ) (r : Linkable) (parts : Parts) → HoldsParts file r parts → (kind : ListKind) (namings : List (ℕ × ℕ)) (reach : Reach) (list : HeldList) → AreExprsReadAmong parts kind namings reach list → HasExprsRead r kind namings reach list
-exprs_there file r parts holds kind namings reach list (named, here, read) = (named, here, λ owner torn owned is. subst (λ (z : ListSection). AreExprsRead kind z.section r owner torn reach list.raw.items) (holds.lists kind) (read file r holds owner torn owned is))
+exprs_there file r parts holds kind namings reach list (named, here, read) = (named, here, λ owner torn owned is. subst (λ (z : ListSection). AreExprsRead kind z.section r owner torn reach list.raw) (holds.lists kind) (read file r holds owner torn owned is))
 
 -- the next namings are all of their list
 module _ (parts : Parts) (kind : ListKind) (namings : List (ℕ × ℕ)) (reach : Reach) (before : ListTotals) (from : ℕ) (lists : List HeldList) (now : ListTotals) (up : AreReadUpTo kind (section_held (lists_in parts kind)) parts.addr.now parts.contexts.items namings reach before from lists now) (order : AreInOrder namings) (inside : from < length namings) (named : List (ℕ × ℕ)) (next : IsNext namings from named) where
@@ -387,7 +387,7 @@ module _ (parts : Parts) (kind : ListKind) (namings : List (ℕ × ℕ)) (reach 
   next_here = namings_at namings order from inside named next (namings_before namings order from inside named next kind (section_held (lists_in parts kind)) parts.addr.now parts.contexts.items reach before lists now up)
 
   -- and with its expressions those of all lists up to it are read
-  pub exprs_more : (list : HeldList) → list.at ≡ (first_naming named).0 → AreExprsReadIn parts kind named reach list.raw.items → AreExprsReadUpTo parts kind namings reach lists → AreExprsReadUpTo parts kind namings reach (lists ++ list ∷ [])
+  pub exprs_more : (list : HeldList) → list.at ≡ (first_naming named).0 → AreExprsReadIn parts kind named reach list.raw → AreExprsReadUpTo parts kind namings reach lists → AreExprsReadUpTo parts kind namings reach (lists ++ list ∷ [])
   exprs_more list at read exprs = All-push (AreExprsReadAmong parts kind namings reach) lists list exprs (named, subst (λ (z : ℕ). AreNamingsAt namings z named) (sym at) next_here, read)
 
 module _ (file : List ℕ) (r : Linkable) (parts : Parts) (holds : HoldsParts file r parts) (kind : ListKind) (namings : List (ℕ × ℕ)) (are : AreNamings r kind namings) (few : length parts.units.units.items < 2 ^ 32) (reach : Reach) (before : ListTotals) (from : ℕ) (lists : List HeldList) (now : ListTotals) (up : AreReadUpTo kind (section_held (lists_in parts kind)) parts.addr.now parts.contexts.items namings reach before from lists now) where
@@ -422,11 +422,11 @@ module _ (file : List ℕ) (r : Linkable) (parts : Parts) (holds : HoldsParts fi
         fault_is r kind namings are few_there reach before from lists now up_there named named_here (namings_behind namings order from inside named next) (lists_before namings order from inside named next kind (of_kind r kind) r.addresses r.contexts reach before lists now up_there) earlier other counted cause place there
 
     -- so is one of its expressions
-    pub expression_fault : (list : HeldList) → IsReadBy kind (section_held (lists_in parts kind)) parts.addr.now parts.contexts.items named list → (cause : Kind) (place : ℕ) → FaultExpressionsBy kind (lists_in parts kind).section.now named reach list.raw.items r cause place → FaultOfKind r reach kind cause place
+    pub expression_fault : (list : HeldList) → IsReadBy kind (section_held (lists_in parts kind)) parts.addr.now parts.contexts.items named list → (cause : Kind) (place : ℕ) → FaultExpressionsBy kind (lists_in parts kind).section.now named reach list.raw r cause place → FaultOfKind r reach kind cause place
     expression_fault list read cause place fault =
         let there : IsReadBy kind (of_kind r kind) r.addresses r.contexts named list =
         subst (λ (z : List Context). IsReadBy kind (of_kind r kind) r.addresses z named list) holds.contexts
         (subst (λ (z : List ℕ). IsReadBy kind (of_kind r kind) z parts.contexts.items named list) holds.addresses
         (subst (λ (z : ListSection). IsReadBy kind z parts.addr.now parts.contexts.items named list) (holds.lists kind) read)) in
         let here : AreNamingsAt namings list.at named = subst (λ (z : ℕ). AreNamingsAt namings z named) (sym read.at) named_here in
-        expression_is r kind namings are few_there reach list named here there cause place (subst (λ (z : ListSection). FaultExpressionsBy kind z.section named reach list.raw.items r cause place) (holds.lists kind) fault)
+        expression_is r kind namings are few_there reach list named here there cause place (subst (λ (z : ListSection). FaultExpressionsBy kind z.section named reach list.raw r cause place) (holds.lists kind) fault)

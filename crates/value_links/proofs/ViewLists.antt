@@ -16,7 +16,7 @@ use Rattle.entry_read.specs.Places.{HaveOwners}
 use Rattle.list_model.specs.declared.entry.ListKind.TheVariants.{Locations}
 use Rattle.list_model.specs.declared.entry.RawEntry.{RawEntry}
 use Rattle.list_model.specs.Contributions.{ContributionsTile}
-use Rattle.value_links.specs.declared.lists.ListRead.{ListRead as HeldList}
+use Rattle.list_arena.specs.Held.{HeldList, AreListsApart}
 use Rattle.value_links.specs.declared.parts.Parts.{Parts}
 use Rattle.value_links.specs.Sections.{debug_info, debug_abbrev}
 use Rattle.value_links.specs.Attributes.{offset_class, location}
@@ -31,7 +31,6 @@ use Rattle.value_links.specs.World.{HoldsList}
 use Rattle.value_links.specs.Parts.{section_held}
 use Rattle.value_links.specs.inside.Namings.{ValueNames, ColumnNames}
 use Rattle.value_links.specs.inside.Views.{AreViewings, AreLocationsHeld, IsListFrom, HasListFrom, HaveLists}
-use Rattle.value_links.specs.inside.World.{AreListsApart}
 use Rattle.value_links.proofs.HeldUnits.{unit_owners}
 use Rattle.value_links.proofs.Causes.{own_value, own_count}
 use Rattle.value_links.proofs.Followed.{lists_apart}
@@ -143,13 +142,13 @@ module _ (parts : Parts) (held : List HeldList) (located : AreLocationsHeld part
     own_in : IsListIn own Locations (list_at located.2 has.0)
     own_in = let count : length held ≡ length located.2 = located.5.count in let (k, inside, is) = has in located.4.each k (omega arith)
 
-    pub list_read : IsReadAt section list.part list.at list.raw.items
+    pub list_read : IsReadAt section list.part list.at list.raw
     list_read =
         let h = own_list in
         let there : IsReadAt own.locations (list_at located.2 has.0).part (list_at located.2 has.0).at (list_at located.2 has.0).raws = (own_in.begins, own_in.read) in
-        subst (λ (z : ListSection). IsReadAt z list.part list.at list.raw.items) (sym own_same)
-        (subst (λ (z : ℕ). IsReadAt own.locations z list.at list.raw.items) (sym h.part)
-        (subst (λ (z : ℕ). IsReadAt own.locations (list_at located.2 has.0).part z list.raw.items) (sym h.at)
+        subst (λ (z : ListSection). IsReadAt z list.part list.at list.raw) (sym own_same)
+        (subst (λ (z : ℕ). IsReadAt own.locations z list.at list.raw) (sym h.part)
+        (subst (λ (z : ℕ). IsReadAt own.locations (list_at located.2 has.0).part z list.raw) (sym h.at)
         (subst (λ (z : List RawEntry). IsReadAt own.locations (list_at located.2 has.0).part (list_at located.2 has.0).at z) (sym h.raws) there)))
 
   -- view pairs go with one of the lists

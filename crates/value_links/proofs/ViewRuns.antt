@@ -1,5 +1,6 @@
 -- View pairs that are read by the places of their lists, or have a fault.
 use Rattle.std.proofs.Common.{◌≡◌, ◌≤◌, ◌<◌, ◌+◌, ◌++◌, ◌∙◌, inl, inr, ℕ, suc, List, [], ◌∷◌, length, get_or, map, take, true, false, true≢false, sym, ap, subst, refl, arith}
+use Rattle.std.specs.Prelude.{Result, Ok, Err, IfOk}
 use Rattle.std.specs.List.{All, AllPairs, Contains, IsDistinct, sum_by}
 use Rattle.std.proofs.lemmas.Bool.{cases_lt, cases_eq, cases_Bool, eq-eqb}
 use Rattle.std.proofs.lemmas.Bool.Decides.{nat_tests}
@@ -16,10 +17,10 @@ use Rattle.dw_base.specs.Refusals.{IsFaultOf}
 use Rattle.list_model.specs.declared.contribution.Contribution.{Contribution}
 use Rattle.list_model.specs.declared.entry.ListKind.TheVariants.{Locations}
 use Rattle.list_model.specs.Contributions.{ContributionsTile}
+use Rattle.loc_lists.specs.declared.views.ViewPair.{ViewPair}
 use Rattle.loc_lists.specs.Views.{IsRunAt, FaultRun, FaultViews, view_limit}
-use Rattle.value_links.specs.declared.lists.ListRead.{ListRead as HeldList}
+use Rattle.list_arena.specs.Held.{HeldList, AreListsApart, HeldViews}
 use Rattle.value_links.specs.declared.parts.Parts.{Parts}
-use Rattle.value_links.specs.declared.views.ViewRead.{ViewRead as HeldViews}
 use Rattle.value_links.specs.Reading.{ListSection, ListRead, ViewRead, Linkable, part_at, list_at, view_at}
 use Rattle.value_links.specs.Lists.{IsNamed, AreViewsNamed, AreViewsOf, AreViewsApart, AreViewsRead, AreListsOf, pair_total}
 use Rattle.value_links.specs.ListFaults.{AreViewsWanted, FaultPairs, CountedPairs, ArePairs, PairsComeBefore, pairs_at, PassesPairs, FaultOfViews}
@@ -27,7 +28,6 @@ use Rattle.value_links.specs.World.{HoldsList, HoldLists, HoldViews}
 use Rattle.value_links.specs.Parts.{HoldsParts, section_held}
 use Rattle.value_links.specs.inside.NamedLists.{as_read}
 use Rattle.value_links.specs.inside.Views.{IsBefore, AreViewings, AreLocationsHeld, IsListFrom, raw_pairs, pairs_from, pairs_for, total_for, PassesWith, turn, AreTurned, IsRunRead, IsRunOf, run_place, AreRunsRead, IsWanted, FaultWanted}
-use Rattle.value_links.specs.inside.World.{AreListsApart}
 use Rattle.value_links.proofs.ListLaws.{entries_said}
 use Rattle.value_links.proofs.NamingLists.{pair_is}
 use Rattle.value_links.proofs.Viewings.{same_pair, same_pair_is}
@@ -37,13 +37,33 @@ use Rattle.value_links.proofs.ViewLists.{AreFollowed, IsReadAt, nth, views_list,
 -- ONE RUN
 
 -- a run that is short enough has no fault but those of its pairs
-pub run_fault : (section : List ℕ) (part : Contribution) (at count : ℕ) (kind : Kind) (place : ℕ) → count ≤ view_limit → FaultViews section part at count kind place → FaultRun section part at count kind place
+run_fault : (section : List ℕ) (part : Contribution) (at count : ℕ) (kind : Kind) (place : ℕ) → count ≤ view_limit → FaultViews section part at count kind place → FaultRun section part at count kind place
 run_fault section part at count Limit place few (here, many) = absurd (omega (arith, few, many))
 run_fault section part at count kind place few f = f
 
 pairs_fault : (r : Linkable) (kind : Kind) (place : ℕ) → FaultPairs r kind place → FaultOfViews r kind place
 pairs_fault r Limit place (list, at, p, count, wanted, f) = absurd f.fault
 pairs_fault r kind place f = f
+
+-- what holds of a value each, together
+pub both_ok : {X Y : Type 0} (r : Result X Y) (P Q R : X → Type 0) → ((x : X) → P x → Q x → R x) → IfOk r P → IfOk r Q → IfOk r R
+both_ok (Ok x) P Q R f p q = f x p q
+both_ok (Err y) P Q R f p q = tt
+
+-- the pairs of a list, where its contribution and their count are found by its number
+module _ (section : ListSection) (list : HeldList) (number place count : ℕ) (part : Contribution) (same : number ≡ list.part) (is : part ≡ part_at section number) (counted : count ≡ raw_pairs list.raw) where
+  pub pairs_read : (pairs : List ViewPair) → IsRunAt section.section part place pairs → length pairs ≡ count → IsRunRead section list place (record { list = list.at; at = place; pairs = pairs })
+  pairs_read pairs read size = record {
+    list_is = refl;
+    at_is = refl;
+    counted = size ∙ counted;
+    read = subst (λ (z : Contribution). IsRunAt section.section z place pairs) (is ∙ ap (part_at section) same) read;
+  }
+
+  pub pairs_refused : (kind : Kind) (at : ℕ) → raw_pairs list.raw ≤ view_limit → FaultViews section.section part place count kind at → FaultRun section.section (part_at section list.part) place (raw_pairs list.raw) kind at
+  pairs_refused kind at few f =
+      subst (λ (z : Contribution). FaultRun section.section z place (raw_pairs list.raw) kind at) (is ∙ ap (part_at section) same)
+      (subst (λ (n : ℕ). FaultRun section.section part place n kind at) counted (run_fault section.section part place count kind at (omega arith) f))
 
 -- one more is read
 pub runs_push : (section : ListSection) (lists : List HeldList) (turned : List (ℕ × ℕ)) (k place : ℕ) (d : ℕ × ℕ) (runs more : List HeldViews) (run : HeldViews) (list : HeldList) → k < length turned → more ≡ runs ++ run ∷ [] → AreRunsRead section lists (take k turned) runs → IsListFrom lists (get_or turned k d).0 list → IsRunRead section list place run → place ≡ (get_or turned k d).1 → AreRunsRead section lists (take (k + 1) turned) more
@@ -122,11 +142,11 @@ module _ (parts : Parts) (held : List HeldList) (located : AreLocationsHeld part
   apart : AreListsApart held
   apart = held_apart parts held located
 
-  few_pairs : total_for held viewings ≤ view_limit → (y : ℕ × ℕ) → Contains viewings y → (list : HeldList) → IsListFrom held y.1 list → raw_pairs list.raw.items ≤ view_limit
+  few_pairs : total_for held viewings ≤ view_limit → (y : ℕ × ℕ) → Contains viewings y → (list : HeldList) → IsListFrom held y.1 list → raw_pairs list.raw ≤ view_limit
   few_pairs within y (k, inside, is) list from =
       let one : pairs_for held (get_or viewings k y) ≤ total_for held viewings = get_or-le-sum_by (pairs_for held) viewings k y inside in
       let here : pairs_for held (get_or viewings k y) ≡ pairs_for held y = ap (pairs_for held) is in
-      let count : pairs_from held y.1 ≡ raw_pairs list.raw.items = pairs_of_list held apart y.1 list from in
+      let count : pairs_from held y.1 ≡ raw_pairs list.raw = pairs_of_list held apart y.1 list from in
       omega arith
 
   -- all pairs can be read that are named
@@ -148,10 +168,10 @@ module _ (parts : Parts) (held : List HeldList) (located : AreLocationsHeld part
     followed : AreFollowed r.locations
     followed = subst AreFollowed same (held_followed parts held located)
 
-    wanted : (y : ℕ × ℕ) → Contains viewings y → (list : HeldList) → IsListFrom held y.1 list → AreViewsWanted r y.1 y.0 list.part (raw_pairs list.raw.items)
+    wanted : (y : ℕ × ℕ) → Contains viewings y → (list : HeldList) → IsListFrom held y.1 list → AreViewsWanted r y.1 y.0 list.part (raw_pairs list.raw)
     wanted y has list (one, here) =
-        let there : IsReadAt r.locations list.part list.at list.raw.items = subst (λ (z : ListSection). IsReadAt z list.part list.at list.raw.items) same (list_read parts held located list one) in
-        let (entries, said) = entries_said Locations r.locations.section (part_at r.locations list.part) list.at list.raw.items there.1 in
+        let there : IsReadAt r.locations list.part list.at list.raw = subst (λ (z : ListSection). IsReadAt z list.part list.at list.raw) same (list_read parts held located list one) in
+        let (entries, said) = entries_said Locations r.locations.section (part_at r.locations list.part) list.at list.raw there.1 in
         record {
           named = those.named y has;
           read = as_read list;
@@ -160,13 +180,13 @@ module _ (parts : Parts) (held : List HeldList) (located : AreLocationsHeld part
           holder = refl;
           entries = entries;
           said = said;
-          counted = pairs_said list.raw.items entries said;
+          counted = pairs_said list.raw entries said;
         }
 
     -- one that isn't whole
     pub wanted_fault : (turned : List (ℕ × ℕ)) → AreTurned viewings turned → (kind : Kind) (place : ℕ) → FaultWanted section held turned kind place → FaultOfViews r kind place
     wanted_fault turned turns kind place (y, has, list, from, fault) =
-        pairs_fault r kind place (y.0, y.1, list.part, raw_pairs list.raw.items, wanted (turn y) (turned_among viewings turned turns y has) list from, subst (λ (z : ListSection). FaultRun z.section (part_at z list.part) y.1 (raw_pairs list.raw.items) kind place) same fault)
+        pairs_fault r kind place (y.0, y.1, list.part, raw_pairs list.raw, wanted (turn y) (turned_among viewings turned turns y has) list from, subst (λ (z : ListSection). FaultRun z.section (part_at z list.part) y.1 (raw_pairs list.raw) kind place) same fault)
 
     -- those with which the limit is passed
     abbrev counted : ℕ × ℕ → CountedPairs
@@ -259,7 +279,7 @@ module _ (parts : Parts) (held : List HeldList) (located : AreLocationsHeld part
     -- those that are read, by the places of their lists
     module _ (rising : AllPairs IsBefore viewings) (turned : List (ℕ × ℕ)) (turns : AreTurned viewings turned) (runs : List HeldViews) (all : AreRunsRead section held turned runs) where
       abbrev as_views : HeldViews → ViewRead
-      as_views run = record { list = run.list; at = run.at; pairs = run.pairs.items }
+      as_views run = record { list = run.list; at = run.at; pairs = run.pairs }
 
       run_count : length runs ≡ length turned
       run_count = sym (length-map runs run_place) ∙ ap length all.places
@@ -308,7 +328,7 @@ module _ (parts : Parts) (held : List HeldList) (located : AreLocationsHeld part
             let j_known : j < length lists = omega arith in
             let h : HoldsList r Locations (list_at lists j) list = subst (HoldsList r Locations (list_at lists j)) j_is (hold.each j list j_known) in
             let (entries, said) = entries_said Locations r.locations.section (part_at r.locations (list_at lists j).part) (list_at lists j).at (list_at lists j).raws (lists_are.each j j_known).read in
-            let there : IsRunAt r.locations.section (part_at r.locations list.part) x.at x.pairs.items = subst (λ (z : ListSection). IsRunAt z.section (part_at z list.part) x.at x.pairs.items) same read.read in
+            let there : IsRunAt r.locations.section (part_at r.locations list.part) x.at x.pairs = subst (λ (z : ListSection). IsRunAt z.section (part_at z list.part) x.at x.pairs) same read.read in
             record {
               named = those.named (turn (run_place x)) (turned_among viewings turned turns (run_place x) among);
               k = j;
@@ -317,7 +337,7 @@ module _ (parts : Parts) (held : List HeldList) (located : AreLocationsHeld part
               entries = entries;
               said = said;
               counted = read.counted ∙ ap raw_pairs h.raws ∙ pairs_said (list_at lists j).raws entries said;
-              read = subst (λ (z : ℕ). IsRunAt r.locations.section (part_at r.locations z) x.at x.pairs.items) h.part there;
+              read = subst (λ (z : ℕ). IsRunAt r.locations.section (part_at r.locations z) x.at x.pairs) h.part there;
             }
 
         pub views_read : AreViewsRead r lists (map as_views runs)
@@ -333,7 +353,7 @@ module _ (parts : Parts) (held : List HeldList) (located : AreLocationsHeld part
       pub views_total : total_for held viewings ≤ view_limit → pair_total (map as_views runs) ≤ view_limit
       views_total within = subst (λ (n : ℕ). n ≤ view_limit) (sym total) within
         where
-          counts : All (λ (run : HeldViews). length run.pairs.items ≡ pairs_from held run.list) runs
+          counts : All (λ (run : HeldViews). length run.pairs ≡ pairs_from held run.list) runs
           counts k d inside =
               let (list, has, read) = all.each k d inside in
               read.counted ∙ sym (pairs_of_list held apart (get_or runs k d).list list (has, sym read.list_is))
@@ -341,7 +361,7 @@ module _ (parts : Parts) (held : List HeldList) (located : AreLocationsHeld part
           total : pair_total (map as_views runs) ≡ total_for held viewings
           total =
               sum_map (λ (view : ViewRead). length view.pairs) as_views runs
-              ∙ sum_same (λ (run : HeldViews). length run.pairs.items) (λ (run : HeldViews). pairs_from held run.list) runs counts
+              ∙ sum_same (λ (run : HeldViews). length run.pairs) (λ (run : HeldViews). pairs_from held run.list) runs counts
               ∙ sym (sum_map (pairs_behind held) run_place runs)
               ∙ ap (λ (z : List (ℕ × ℕ)). sum_by (pairs_behind held) z) all.places
               ∙ sum_by-IsPermutation (pairs_behind held) (map turn viewings) turned turns.moved

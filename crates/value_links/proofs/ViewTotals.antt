@@ -1,19 +1,20 @@
 -- View pairs counted by the entries of the lists with which they go.
-use Rattle.std.proofs.Common.{◌≡◌, ◌<◌, ◌+◌, ◌∙◌, ℕ, zero, suc, List, [], ◌∷◌, length, get_or, map, Bool, true, false, true≢false, sym, ap, refl, arith}
-use Rattle.std.specs.Prelude.{Some, if◌then◌else◌, nat_eq}
+use Rattle.std.proofs.Common.{◌≡◌, ◌<◌, ◌+◌, ◌∙◌, ℕ, zero, suc, List, [], ◌∷◌, length, get_or, map, take, Bool, cond, true, false, true≢false, sym, ap, refl, arith}
+use Rattle.std.specs.Prelude.{Some, None, if◌then◌else◌, nat_eq}
 use Rattle.std.specs.List.{All, sum_by}
 use Rattle.std.proofs.lemmas.List.Elements.{All-head, All-tail}
 use Rattle.std.proofs.lemmas.Bool.{eq-eqb, ne_eqb}
 use Rattle.std.proofs.lemmas.Option.{same_Some}
 use Rattle.std.proofs.lemmas.List.Sums.{sum_by-cons}
+use Rattle.std.proofs.lemmas.List.Filters.{length-filter_more}
 use Rattle.list_model.specs.declared.entry.EntryKind.{EntryKind}
 use Rattle.list_model.specs.declared.entry.EntryKind.TheVariants.{BaseAddressx, StartxEndx, StartxLength, OffsetPair, DefaultLocation, BaseAddress, StartEnd, StartLength}
 use Rattle.list_model.specs.declared.entry.ListKind.TheVariants.{Locations}
 use Rattle.list_model.specs.declared.entry.RawEntry.{RawEntry}
+use Rattle.list_model.specs.declared.item.Meaning.TheVariants.{Dead}
 use Rattle.list_model.specs.Entries.{Entry, AreSaid, code_of}
-use Rattle.value_links.specs.declared.lists.ListRead.{ListRead as HeldList}
+use Rattle.list_arena.specs.Held.{HeldList, AreListsApart}
 use Rattle.value_links.specs.Lists.{is_bounded, pair_count}
-use Rattle.value_links.specs.inside.World.{AreListsApart}
 use Rattle.value_links.specs.inside.Views.{IsListFrom, is_bounded_code, raw_pairs, pairs_from}
 
 -- ENTRIES
@@ -42,19 +43,30 @@ pairs_said (raw ∷ raws) (entry ∷ entries) (first, rest) = same_kept (is_boun
 pairs_said [] (entry ∷ entries) said = absurd said
 pairs_said (raw ∷ raws) [] said = absurd said
 
+-- one entry more
+pub one_more_pair : (raws : List RawEntry) (i : ℕ) (raw : RawEntry) (bounded : Bool) → i < length raws → raw ≡ get_or raws i raw → bounded ≡ is_bounded_code raw.code → raw_pairs (take (i + 1) raws) ≡ raw_pairs (take i raws) + cond bounded 1 0
+one_more_pair raws i raw bounded inside is same =
+    length-filter_more (λ (z : RawEntry). is_bounded_code z.code) raws i raw inside
+    ∙ ap (λ (z : RawEntry). raw_pairs (take i raws) + cond (is_bounded_code z.code) 1 0) (sym is)
+    ∙ ap (λ (z : Bool). raw_pairs (take i raws) + cond z 1 0) (sym same)
+
 -- LISTS
 
+-- what stands for a list past the last one
+abbrev pub no_list : HeldList
+no_list = record { at = 0; part = 0; owner = None; raw = []; meaning = Dead }
+
 -- the first list that begins at a place is the one that does
-pub pairs_of_list : (lists : List HeldList) → AreListsApart lists → (place : ℕ) (list : HeldList) → IsListFrom lists place list → pairs_from lists place ≡ raw_pairs list.raw.items
+pub pairs_of_list : (lists : List HeldList) → AreListsApart lists → (place : ℕ) (list : HeldList) → IsListFrom lists place list → pairs_from lists place ≡ raw_pairs list.raw
 pairs_of_list [] apart place list ((k, inside, is), here) = absurd (omega arith)
 pairs_of_list (x ∷ xs) apart place list ((zero, inside, is), here) =
     let same : x.at ≡ place = ap (λ (z : HeldList). z.at) is ∙ here in
-    ap (λ (z : Bool). if z then raw_pairs x.raw.items else pairs_from xs place) (eq-eqb x.at place same) ∙ ap (λ (z : HeldList). raw_pairs z.raw.items) is
+    ap (λ (z : Bool). if z then raw_pairs x.raw else pairs_from xs place) (eq-eqb x.at place same) ∙ ap (λ (z : HeldList). raw_pairs z.raw) is
 pairs_of_list (x ∷ xs) apart place list ((suc k, inside, is), here) =
     let first : x.at < (get_or xs k list).at = apart 0 (suc k) list (omega arith) inside in
     let there : (get_or xs k list).at ≡ place = ap (λ (z : HeldList). z.at) is ∙ here in
     let other : nat_eq x.at place ≡ false = ne_eqb x.at place (λ (e : x.at ≡ place). absurd (omega arith)) in
-    ap (λ (z : Bool). if z then raw_pairs x.raw.items else pairs_from xs place) other
+    ap (λ (z : Bool). if z then raw_pairs x.raw else pairs_from xs place) other
     ∙ pairs_of_list xs (λ i j d less below. apart (suc i) (suc j) d (omega arith) (omega arith)) place list ((k, omega arith, is), here)
 
 -- SUMS

@@ -17,7 +17,7 @@ use Rattle.entry_arena.specs.Arena.{Arena}
 use Rattle.entry_read.specs.Expressions.{IsExprAt}
 use Rattle.entry_read.specs.Slots.{aims_of, aim_at, IsRowOf}
 use Rattle.list_model.specs.declared.entry.ListKind.TheVariants.{Locations}
-use Rattle.value_links.specs.Reading.{UnitRead, Reading, unit_at, list_at}
+use Rattle.value_links.specs.Reading.{Reading, unit_at, list_at}
 use Rattle.value_links.specs.Lists.{IsOwner, expressions_at}
 use Rattle.value_links.specs.Classes.{OfReadings}
 

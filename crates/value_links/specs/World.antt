@@ -17,8 +17,7 @@ use Rattle.loc_lists.specs.Locations.{IsMeaning as SayLocations}
 use Rattle.companions.specs.declared.set.ArangeSet.{ArangeSet}
 use Rattle.value_links.specs.declared.units.NamedTable.{NamedTable}
 use Rattle.loc_lists.specs.Views.{view_limit}
-use Rattle.value_links.specs.declared.lists.ListRead.{ListRead as HeldList}
-use Rattle.value_links.specs.declared.views.ViewRead.{ViewRead as HeldViews}
+use Rattle.list_arena.specs.Held.{HeldList, HeldViews}
 use Rattle.value_links.specs.Reading.{UnitRead, ListRead, ViewRead, Linkable, Reading, of_kind, lists_of, line_heads, unit_among, list_at, context_at}
 use Rattle.value_links.specs.Lists.{IsOwner, IsFrozen, AreWithinReach, pair_total}
 use Rattle.value_links.specs.Sections.{debug_addr, debug_lists}
@@ -100,7 +99,7 @@ pub record HoldsList (r : Linkable) (kind : ListKind) (list : ListRead) (held : 
   pub at : held.at ≡ list.at
   pub part : held.part ≡ list.part
   pub owner : IsOwner r kind list.at held.owner
-  pub raws : held.raw.items ≡ list.raws
+  pub raws : held.raw ≡ list.raws
   pub meaning : HoldsMeaning r kind list held.owner held.meaning
 
 -- each of the lists is held
@@ -110,7 +109,7 @@ pub record HoldLists (r : Linkable) (kind : ListKind) (lists : List ListRead) (h
 
 -- each run of view pairs is held
 abbrev pub HoldViews : List ViewRead → List HeldViews → Type 0
-HoldViews views held = views ≡ map (λ (run : HeldViews). record { list = run.list; at = run.at; pairs = run.pairs.items }) held
+HoldViews views held = views ≡ map (λ (run : HeldViews). record { list = run.list; at = run.at; pairs = run.pairs }) held
 
 -- what is held is the file, and what is read of it. The rows of programs aren't held.
 pub record Holds (file : List ℕ) (world : World) (r : Reading) : Type 0 where

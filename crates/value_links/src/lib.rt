@@ -37,9 +37,7 @@ pub use laws::{
 };
 pub use link::{Link, resolve};
 pub use list_places::Contributions;
-pub use lists::ListRead;
 pub use operations::{OpLink, resolve_op};
 pub use parts::Parts;
 pub use units::{NamedTable, Units, read_units};
-pub use views::ViewRead;
 pub use world::World;

@@ -25,26 +25,11 @@ use crate::list_places::holder_of;
 use crate::namings::{Naming, SLOT, namings_of};
 use crate::parts::Parts;
 use dw_base::{Fault, Kind, Reach, Refusal};
+use list_arena::{ListRead, Lists};
 use list_model::{Context, Contribution, ListKind, Meaning, RawEntry, list_entry_limit};
 use loc_lists::{location_items, read_locations};
 use range_lists::{range_items, read_ranges};
 use std::alloc::Global;
-
-/// A list that something names. Places count from the first byte of its section.
-#[derive(Drop)]
-pub struct ListRead {
-    /// Where it begins.
-    pub at: u64,
-    /// The number of the contribution in which it begins, counted from 0.
-    pub part: u32,
-    /// The number of the first unit of which an entry names it, counted from 0, or None where a slot alone does.
-    pub owner: Option<u32>,
-    /// Its entries before the end.
-    pub raw: Vec<RawEntry>,
-    /// Its items in the context of its owner, or Dead where it is frozen: where a start or an end is a sum of 2^64 or more, units
-    /// with different contexts name it, no unit does, or it has more than 16,384 items. Then its entries say what it means.
-    pub meaning: Meaning,
-}
 
 // How many entries lists have together, and how many bytes their expressions.
 #[derive(Clone, Copy)]
@@ -56,7 +41,7 @@ pub(crate) struct ListTotals {
 // Lists of a kind, each once, by rising place, and what they have together with those before them.
 #[derive(Drop)]
 pub(crate) struct NamedLists {
-    pub(crate) lists: Vec<ListRead>,
+    pub(crate) lists: Lists,
     pub(crate) totals: ListTotals,
 }
 
@@ -281,8 +266,8 @@ fn read_named(
     requires room { origin + length (lists_in parts.now kind).section.now < 2 ^ 64 }
     requires before { AreFew reach before.now }
     ensures read { IfOk result (λ counted. IsReadBy kind (section_held (lists_in parts.now kind)) parts.now.addr.now parts.now.contexts.items named.now counted.list) }
-    ensures spans { IfOk result (λ counted. kind ≡ Locations → All (λ raw. raw.expr.at + raw.expr.len ≤ length (lists_in parts.now kind).section.now) counted.list.raw.items) }
-    ensures totals { IfOk result (λ counted. IsNextTotal reach before.now counted.list.raw.items counted.totals) }
+    ensures spans { IfOk result (λ counted. kind ≡ Locations → All (λ raw. raw.expr.at + raw.expr.len ≤ length (lists_in parts.now kind).section.now) counted.list.raw) }
+    ensures totals { IfOk result (λ counted. IsNextTotal reach before.now counted.list.raw counted.totals) }
     ensures fault { IfErr result (IsRefusedFor (IsFaultOf (FaultNamed kind (section_held (lists_in parts.now kind)) parts.now.contexts.items named.now reach before.now) origin)) }
 {
     let contributions = parts.lists(kind);
@@ -307,13 +292,7 @@ fn read_named(
         }));
     };
     let meaning = meaning_of(alloc, parts, kind, named, &raw, origin)?;
-    let list = ListRead {
-        at,
-        part,
-        owner: owner_of(named),
-        raw,
-        meaning,
-    };
+    let list = ListRead::new(at, part, owner_of(named), raw, meaning);
     Ok(Counted { list, totals })
 }
 
@@ -396,21 +375,22 @@ pub(crate) fn read_lists(
     requires lists { HoldsLists parts.now }
     requires room { origin + length (lists_in parts.now kind).section.now < 2 ^ 64 }
     requires before { AreFew reach before.now }
-    ensures lists { IfOk result (λ named. (file : List ℕ) (r : Linkable) → HoldsParts file r parts.now → (read : List AnyRead) × AreListsOf r kind read × HoldLists r kind read named.lists.items × AreCounted before.now read named.totals × AreWithinReach r kind reach read) }
+    ensures lists { IfOk result (λ named. (file : List ℕ) (r : Linkable) → HoldsParts file r parts.now → (read : List AnyRead) × AreListsOf r kind read × HoldLists r kind read named.lists × AreCounted before.now read named.totals × AreWithinReach r kind reach read) }
     ensures few { IfOk result (λ named. AreFew reach named.totals) }
     ensures fault { IfErr result (λ refusal. (file : List ℕ) (r : Linkable) (earlier : List AnyRead) → HoldsParts file r parts.now → AreEarlier r kind earlier → AreCounted no_totals earlier before.now → IsRefusedFor (IsFaultOf (FaultOfKind r reach kind) origin) refusal) }
 {
     let namings = namings_of(alloc, parts, kind, origin)?;
-    let mut lists: Vec<ListRead> = Vec::new(alloc);
+    let mut lists = Lists::new(alloc);
     let mut totals = *before;
     let mut from = 0;
     while from < namings.len() {
         let named = next_named(&namings, from);
         let counted = read_named(alloc, parts, kind, named, origin, &totals, reach)?;
-        check_kind(alloc, parts, kind, named, &counted.list.raw, origin, reach)?;
+        let entries = counted.list.entries();
+        check_kind(alloc, parts, kind, named, entries, origin, reach)?;
         totals = counted.totals;
         from += named.len();
-        lists.push(counted.list)?;
+        lists.push(&counted.list)?;
     }
     lists.shrink_to_fit();
     Ok(NamedLists { lists, totals })

@@ -1,8 +1,9 @@
 // The view pairs that go with location lists, which are an extension of GNU's.
-ghost use Rattle.std.specs.Prelude.{◌≡◌, ◌≤◌, ◌<◌, ◌+◌, ◌++◌, ◌∷◌, ◌^◌, ℕ, List, [], length, map, IfOk, IfErr, OnOk};
+ghost use Rattle.std.specs.Prelude.{◌≡◌, ◌≤◌, ◌<◌, ◌+◌, ◌++◌, ◌∷◌, ◌^◌, ℕ, List, [], length, map, slice_index_or, IfOk, IfErr, OnOk};
 ghost use Rattle.std.specs.List.{All, AllPairs};
 ghost use Rattle.dw_base.specs.Refusals.{IsFaultOf, IsRefusedFor};
 ghost use Rattle.form_codec.specs.Values.{meant_in};
+ghost use Rattle.list_arena.specs.Held.{HeldList, AreListsApart};
 ghost use Rattle.list_model.specs.declared.entry.ListKind.TheVariants.{Locations};
 ghost use Rattle.loc_lists.specs.Views.{view_limit, FaultRun};
 ghost use Rattle.value_links.specs.Reading.{Linkable, ListRead as AnyRead, ViewRead as AnyViews, unit_at, part_at};
@@ -17,12 +18,10 @@ ghost use Rattle.value_links.specs.inside.Checks.{AreSomeUnits, InEach};
 ghost use Rattle.value_links.specs.inside.ListPlaces.{AreContributions};
 ghost use Rattle.value_links.specs.inside.Namings.{AreJoined};
 ghost use Rattle.value_links.specs.inside.Views.{IsViewing, IsViewingFound, IsEntryViewing, IsUnitViewing, IsSomeViewing, IsBefore, AreViewings, AreLocationsHeld, IsListFrom, HasListFrom, HaveLists, is_bounded_code, raw_pairs, pairs_from, total_for, PassesWith, turn, AreTurned, IsRunRead, IsWanted, FaultWanted, AreRunsRead};
-ghost use Rattle.value_links.specs.inside.World.{AreListsApart};
 
 use crate::check::{attribute_of, table_of};
 use crate::link::unit_of;
 use crate::list_places::Contributions;
-use crate::lists::ListRead;
 use crate::located::viewed_list;
 use crate::parts::Parts;
 use dw_base::constants::{
@@ -31,20 +30,10 @@ use dw_base::constants::{
 };
 use dw_base::{Fault, Kind, NoMemory, Refusal};
 use form_codec::Value;
+use list_arena::{Lists, Views};
 use list_model::RawEntry;
 use loc_lists::{ViewPair, read_views};
 use std::alloc::Global;
-
-/// A run of view pairs. Places count from the first byte of .debug_loclists.
-#[derive(Drop)]
-pub struct ViewRead {
-    /// Where the location list begins with which they go.
-    pub list: u64,
-    /// Where the first of them stands.
-    pub at: u64,
-    /// The pairs, one for each bounded entry of the list.
-    pub pairs: Vec<ViewPair>,
-}
 
 /// The place at which view pairs stand, and that of the list with which they go.
 type Viewing = (u64, u64);
@@ -174,43 +163,45 @@ fn is_bounded(entry: &RawEntry) -> bool
     )
 }
 
-// How many view pairs go with a list of these entries.
-fn pair_count(raw: &[RawEntry]) -> u64
-    ensures { result ≡ raw_pairs raw.now }
+// How many view pairs go with the list with a number.
+fn pair_count(lists: &Lists, number: usize) -> u64
+    requires { number < length lists.now }
+    ensures { (d : HeldList) → result ≡ raw_pairs (slice_index_or lists.now number d).raw }
 {
     let mut count = 0;
-    for entry in raw {
-        if is_bounded(entry) {
+    for index in 0..lists.entry_count(number) {
+        if is_bounded(&lists.entry(number, index)) {
             count += 1;
         }
     }
     count
 }
 
-// The list that begins at a place.
-fn list_from(lists: &[ListRead], place: u64) -> &ListRead
+// The number of the list that begins at a place.
+fn list_from(lists: &Lists, place: u64) -> usize
     requires apart { AreListsApart lists.now }
     requires known { HasListFrom lists.now place }
-    ensures { IsListFrom lists.now place result.now }
+    ensures inside { result < length lists.now }
+    ensures from { (d : HeldList) → IsListFrom lists.now place (slice_index_or lists.now result d) }
 {
-    match lists.binary_search_by_key(&place, |list| list.at) {
-        Ok(number) => &lists[number],
+    match lists.find(place) {
+        Some(number) => number,
         // A list begins there.
-        Err(_) => unreachable!(),
+        None => unreachable!(),
     }
 }
 
 // How many view pairs go with the list that begins at a place.
-fn pairs_with(lists: &[ListRead], place: u64) -> u64
+fn pairs_with(lists: &Lists, place: u64) -> u64
     requires apart { AreListsApart lists.now }
     requires known { HasListFrom lists.now place }
     ensures { result ≡ pairs_from lists.now place }
 {
-    pair_count(&list_from(lists, place).raw)
+    pair_count(lists, list_from(lists, place))
 }
 
 // Whether all view pairs together keep the limit. A fault is that of the run with which they pass it.
-fn check_total(viewings: &[Viewing], lists: &[ListRead], origin: u64) -> Result<(), Fault>
+fn check_total(viewings: &[Viewing], lists: &Lists, origin: u64) -> Result<(), Fault>
     requires apart { AreListsApart lists.now }
     requires lists { HaveLists viewings.now lists.now }
     requires room { All (λ viewing. origin + viewing.0 < 2 ^ 64) viewings.now }
@@ -251,64 +242,48 @@ fn by_list(alloc: Global, viewings: &[Viewing]) -> Result<Vec<Viewing>, NoMemory
     Ok(turned)
 }
 
-// Reads the view pairs at a place that go with a list.
+// Reads the view pairs at a place that go with the list with a number.
 fn read_run(
     alloc: Global,
     contributions: &Contributions<'_>,
-    list: &ListRead,
+    lists: &Lists,
+    number: usize,
     place: u64,
     origin: u64,
-) -> Result<ViewRead, Refusal>
+) -> Result<Vec<ViewPair>, Refusal>
     requires tiled { AreContributions contributions.now }
-    requires stands { IsListPlace (section_held contributions.now) list.now.part place }
-    requires few { raw_pairs list.now.raw.items ≤ view_limit }
+    requires inside { number < length lists.now }
+    requires stands { (d : HeldList) → IsListPlace (section_held contributions.now) (slice_index_or lists.now number d).part place }
+    requires few { (d : HeldList) → raw_pairs (slice_index_or lists.now number d).raw ≤ view_limit }
     requires room { origin + length contributions.now.section.now < 2 ^ 64 }
-    ensures read { IfOk result (IsRunRead (section_held contributions.now) list.now place) }
-    ensures fault { IfErr result (IsRefusedFor (IsFaultOf (FaultRun contributions.now.section.now (part_at (section_held contributions.now) list.now.part) place (raw_pairs list.now.raw.items)) origin)) }
+    ensures read { IfOk result (λ pairs. (d : HeldList) → IsRunRead (section_held contributions.now) (slice_index_or lists.now number d) place (record { list = (slice_index_or lists.now number d).at; at = place; pairs = pairs.items })) }
+    ensures fault { IfErr result (λ refusal. (d : HeldList) → IsRefusedFor (IsFaultOf (FaultRun contributions.now.section.now (part_at (section_held contributions.now) (slice_index_or lists.now number d).part) place (raw_pairs (slice_index_or lists.now number d).raw)) origin) refusal) }
 {
-    let part = &contributions.parts[list.part as usize];
-    let count = pair_count(&list.raw);
-    let pairs = read_views(alloc, contributions.section, part, place, count, origin)?;
-    Ok(ViewRead {
-        list: list.at,
-        at: place,
-        pairs,
-    })
-}
-
-// Appends a run.
-fn push_run(views: &mut Vec<ViewRead>, run: ViewRead) -> Result<(), NoMemory>
-    ensures { OnOk result (views.new.items ≡ views.old.items ++ run ∷ []) }
-{
-    views.push(run)?;
-    Ok(())
+    let part = &contributions.parts[lists.part(number) as usize];
+    let count = pair_count(lists, number);
+    read_views(alloc, contributions.section, part, place, count, origin)
 }
 
 // Reads the view pairs at places, each behind that of the list with which they go.
 fn read_runs(
     alloc: Global,
     contributions: &Contributions<'_>,
-    lists: &[ListRead],
+    lists: &Lists,
     turned: &[Viewing],
     origin: u64,
-) -> Result<Vec<ViewRead>, Refusal>
+) -> Result<Views, Refusal>
     requires tiled { AreContributions contributions.now }
     requires apart { AreListsApart lists.now }
     requires lists { All (IsWanted (section_held contributions.now) lists.now) turned.now }
     requires room { origin + length contributions.now.section.now < 2 ^ 64 }
-    ensures read { IfOk result (λ views. AreRunsRead (section_held contributions.now) lists.now turned.now views.items) }
+    ensures read { IfOk result (λ views. AreRunsRead (section_held contributions.now) lists.now turned.now views) }
     ensures fault { IfErr result (IsRefusedFor (IsFaultOf (FaultWanted (section_held contributions.now) lists.now turned.now) origin)) }
 {
-    let mut views: Vec<ViewRead> = Vec::new(alloc);
+    let mut views = Views::new(alloc);
     for (list, place) in turned {
-        let run = read_run(
-            alloc,
-            contributions,
-            list_from(lists, *list),
-            *place,
-            origin,
-        )?;
-        push_run(&mut views, run)?;
+        let number = list_from(lists, *list);
+        let pairs = read_run(alloc, contributions, lists, number, *place, origin)?;
+        views.push(*list, *place, &pairs)?;
     }
     views.shrink_to_fit();
     Ok(views)
@@ -323,14 +298,14 @@ fn read_runs(
 pub(crate) fn read_view_runs(
     alloc: Global,
     parts: &Parts<'_>,
-    lists: &[ListRead],
+    lists: &Lists,
     origin: u64,
-) -> Result<Vec<ViewRead>, Refusal>
+) -> Result<Views, Refusal>
     requires held { AreSomeUnits parts.now.units }
     requires parts { HoldsLists parts.now }
     requires lists { AreLocationsHeld parts.now lists.now }
     requires room { origin + length parts.now.locations.section.now < 2 ^ 64 }
-    ensures views { IfOk result (λ views. (file : List ℕ) (r : Linkable) (read : List AnyRead) → HoldsParts file r parts.now → AreListsOf r Locations read → HoldLists r Locations read lists.now → (runs : List AnyViews) × AreViewsRead r read runs × HoldViews runs views.items × (pair_total runs ≤ view_limit)) }
+    ensures views { IfOk result (λ views. (file : List ℕ) (r : Linkable) (read : List AnyRead) → HoldsParts file r parts.now → AreListsOf r Locations read → HoldLists r Locations read lists.now → (runs : List AnyViews) × AreViewsRead r read runs × HoldViews runs views × (pair_total runs ≤ view_limit)) }
     ensures fault { IfErr result (λ refusal. (file : List ℕ) (r : Linkable) → HoldsParts file r parts.now → IsRefusedFor (IsFaultOf (FaultOfViews r) origin) refusal) }
 {
     let viewings = viewings_of(alloc, parts)?;

@@ -23,7 +23,7 @@ ghost use Rattle.value_links.specs.Lists.{IsFrozen, AreListsOf, AreViewsRead, pa
 ghost use Rattle.value_links.specs.Faults.{NamesFault};
 ghost use Rattle.value_links.specs.Laws.{IsImageInOrder};
 ghost use Rattle.value_links.specs.declared.link.Link.{Link as AnyLink};
-ghost use Rattle.value_links.specs.declared.lists.ListRead.{ListRead as AnyList};
+ghost use Rattle.list_arena.specs.Held.{HeldList as AnyList};
 ghost use Rattle.value_links.specs.Links.{held_at, HasLink, IsLinkFound, IsFollowed, IsOpLinkFound, IsNamedThing};
 ghost use Rattle.value_links.specs.Parts.{HoldsParts};
 ghost use Rattle.value_links.specs.inside.ListPlaces.{AreContributions};
@@ -33,21 +33,22 @@ ghost use Rattle.value_links.specs.ListPlaces.{IsSlot};
 ghost use Rattle.value_links.specs.World.{World, Holds, HoldLists, HoldViews, contributions_held, contribution_at, lists_held, table_at, IsWorldOf, HaveOperations};
 ghost use Rattle.value_links.specs.Operations.{NamesSectionEntry};
 ghost use Rattle.value_links.specs.inside.Checks.{IsNoExpr};
-ghost use Rattle.value_links.specs.inside.World.{own_table, AreListsApart};
+ghost use Rattle.list_arena.specs.Held.{AreListsApart};
+ghost use Rattle.value_links.specs.inside.World.{own_table};
 
 use crate::check::check_links;
 use crate::contexts::contexts_of;
 use crate::link::{Link, resolve};
 use crate::list_bases::bases_of;
 use crate::list_places::{Contributions, told_by};
-use crate::lists::{ListRead, ListTotals, read_lists};
+use crate::lists::{ListTotals, read_lists};
 use crate::operations::{OpLink, read_operations, resolve_op, section_entry};
 use crate::owners::{attribute_name, owner_of};
 use crate::parts::Parts;
 use crate::roots::names_addresses;
 use crate::sections::{DebugSection, debug_section};
 use crate::units::{NamedTable, read_units};
-use crate::views::{ViewRead, read_view_runs};
+use crate::views::read_view_runs;
 use abbrev_tables::Table;
 use companions::{ArangeSet, read_aranges};
 use dw_base::{Fault, Kind, NoMemory, Reach, Refusal};
@@ -58,8 +59,9 @@ use expr_ops::{Op, narrow_is_wide};
 use form_codec::Value;
 use line_machine::Head;
 use line_write::read_lines;
+use list_arena::{Lists, Views};
 use list_model::{
-    AddrTable, AddrTables, Context, Contribution, ListKind, Meaning, addr_tables, contributions,
+    AddrTable, AddrTables, Context, Contribution, ListKind, addr_tables, contributions,
 };
 use std::alloc::Global;
 use std::marker::Model;
@@ -262,13 +264,13 @@ fn read_named_lists<'a>(
     parts: &Parts<'a>,
     sets: &Vec<ArangeSet>,
     reach: Reach,
-) -> Result<(Vec<ListRead>, Vec<ListRead>), Refusal>
+) -> Result<(Lists, Lists), Refusal>
     requires image { image.now ≡ file.now }
     requires read { IsRead file.now Wide }
     requires parts { (reach : Reach) × IsImageInOrder file.now reach × ArePartsInOrder file.now parts.now }
     requires operations { HaveOperations reach parts.now.units.units.items parts.now.operations.items }
     requires sets { SetsTile (debug_aranges file.now) (starts_of parts.now.units.units.items) sets.now.items }
-    ensures lists { IfOk result (λ lists. (r : Linkable) → HoldsParts file.now r parts.now → HoldAllLists r reach lists.0.items lists.1.items) }
+    ensures lists { IfOk result (λ lists. (r : Linkable) → HoldsParts file.now r parts.now → HoldAllLists r reach lists.0 lists.1) }
     ensures refused { IfErr result (λ refusal. NamesLaterFault file.now reach refusal) }
 {
     // The sets are of the pass before.
@@ -299,16 +301,16 @@ fn read_file_views<'a>(
     file: &'a [u8],
     image: &Image<'a>,
     parts: &Parts<'a>,
-    locations: &Vec<ListRead>,
+    locations: &Lists,
     reach: Reach,
-) -> Result<Vec<ViewRead>, Refusal>
+) -> Result<Views, Refusal>
     requires image { image.now ≡ file.now }
     requires read { IsRead file.now Wide }
     requires parts { (reach : Reach) × IsImageInOrder file.now reach × ArePartsInOrder file.now parts.now }
     requires operations { HaveOperations reach parts.now.units.units.items parts.now.operations.items }
     requires sets { (sets : List AnySet) × SetsTile (debug_aranges file.now) (starts_of parts.now.units.units.items) sets }
-    requires lists { (r : Linkable) → HoldsParts file.now r parts.now → (ranges : List AnyList) × HoldAllLists r reach ranges locations.now.items }
-    ensures views { IfOk result (λ views. (r : Linkable) (read : List AnyRead) → HoldsParts file.now r parts.now → AreListsOf r Locations read → HoldLists r Locations read locations.now.items → (runs : List AnyViews) × AreViewsRead r read runs × HoldViews runs views.items × (pair_total runs ≤ view_limit)) }
+    requires lists { (r : Linkable) → HoldsParts file.now r parts.now → (ranges : List AnyList) × HoldAllLists r reach ranges locations.now }
+    ensures views { IfOk result (λ views. (r : Linkable) (read : List AnyRead) → HoldsParts file.now r parts.now → AreListsOf r Locations read → HoldLists r Locations read locations.now → (runs : List AnyViews) × AreViewsRead r read runs × HoldViews runs views × (pair_total runs ≤ view_limit)) }
     ensures refused { IfErr result (λ refusal. NamesLaterFault file.now reach refusal) }
 {
     let origin = lists_section(file, image, ListKind::Locations).origin;
@@ -322,9 +324,9 @@ fn read_file_views<'a>(
 pub struct World<'a> {
     image: Image<'a>,
     parts: Parts<'a>,
-    ranges: Vec<ListRead>,
-    locations: Vec<ListRead>,
-    views: Vec<ViewRead>,
+    ranges: Lists,
+    locations: Lists,
+    views: Views,
     sets: Vec<ArangeSet>,
 }
 
@@ -334,9 +336,9 @@ impl<'a> Model for World<'a> {
 
     ghost Value = { World };
 
-    ghost view = { λ w. record { image = w.image; programs = w.parts.programs.items; units = w.parts.units.units.items; operations = w.parts.operations.items; tables = w.parts.units.tables.items; table_of = w.parts.units.table_of.items; contexts = w.parts.contexts.items; range_parts = w.parts.ranges.parts.items; ranges = w.ranges.items; location_parts = w.parts.locations.parts.items; locations = w.locations.items; views = w.views.items; sets = w.sets.items } };
+    ghost view = { λ w. record { image = w.image; programs = w.parts.programs.items; units = w.parts.units.units.items; operations = w.parts.operations.items; tables = w.parts.units.tables.items; table_of = w.parts.units.table_of.items; contexts = w.parts.contexts.items; range_parts = w.parts.ranges.parts.items; ranges = w.ranges; location_parts = w.parts.locations.parts.items; locations = w.locations; views = w.views; sets = w.sets.items } };
 
-    ghost invariant = { λ w. IsHeldIn w.image w.parts (record { image = w.image; programs = w.parts.programs.items; units = w.parts.units.units.items; operations = w.parts.operations.items; tables = w.parts.units.tables.items; table_of = w.parts.units.table_of.items; contexts = w.parts.contexts.items; range_parts = w.parts.ranges.parts.items; ranges = w.ranges.items; location_parts = w.parts.locations.parts.items; locations = w.locations.items; views = w.views.items; sets = w.sets.items }) };
+    ghost invariant = { λ w. IsHeldIn w.image w.parts (record { image = w.image; programs = w.parts.programs.items; units = w.parts.units.units.items; operations = w.parts.operations.items; tables = w.parts.units.tables.items; table_of = w.parts.units.table_of.items; contexts = w.parts.contexts.items; range_parts = w.parts.ranges.parts.items; ranges = w.ranges; location_parts = w.parts.locations.parts.items; locations = w.locations; views = w.views; sets = w.sets.items }) };
 }
 
 impl<'a> World<'a> {
@@ -437,8 +439,8 @@ impl<'a> World<'a> {
         &self.parts.lists(kind).parts
     }
 
-    // The lists of a kind, by rising place.
-    fn lists_by_place(&self, kind: ListKind) -> &[ListRead]
+    /// The lists of a kind that something names, each once, by rising place.
+    pub fn lists(&self, kind: ListKind) -> &Lists
         ensures lists { result.now ≡ lists_held self.now kind }
         ensures rising { AreListsApart result.now }
     {
@@ -446,13 +448,6 @@ impl<'a> World<'a> {
             ListKind::Ranges => &self.ranges,
             ListKind::Locations => &self.locations,
         }
-    }
-
-    /// The lists of a kind that something names, each once, by rising place.
-    pub fn lists(&self, kind: ListKind) -> &[ListRead]
-        ensures { result.now ≡ lists_held self.now kind }
-    {
-        self.lists_by_place(kind)
     }
 
     /// The place that a slot of a contribution to the section of lists of a kind tells, where all three count from 0: the one of the
@@ -473,17 +468,17 @@ impl<'a> World<'a> {
         requires { (list : AnyList) × Contains (lists_held self.now kind) list × (list.at ≡ at) }
         ensures { (file : List ℕ) (r : Reading) (list : AnyRead) → Holds file self.now r → Contains (lists_of r kind) list → list.at ≡ at → IsTrue result ↔ IsFrozen r.links kind list }
     {
-        let lists = self.lists_by_place(kind);
-        match lists.binary_search_by_key(&at, |list| list.at) {
-            Ok(number) => matches!(lists[number].meaning, Meaning::Dead),
+        let lists = self.lists(kind);
+        match lists.find(at) {
+            Some(number) => lists.is_frozen(number),
             // A list begins there.
-            Err(_) => unreachable!(),
+            None => unreachable!(),
         }
     }
 
     /// The view pairs of location lists, once for each list with which they go, by rising place of the list and then by their own.
-    pub fn views(&self) -> &Vec<ViewRead>
-        ensures { result.now.items ≡ self.now.views }
+    pub fn views(&self) -> &Views
+        ensures { result.now ≡ self.now.views }
     {
         &self.views
     }

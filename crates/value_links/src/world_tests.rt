@@ -7,7 +7,7 @@ use crate::{Link, OpLink, World};
 use dw_base::{Fault, Kind, Reach, Refusal};
 use entry_arena::Target;
 use form_codec::Value;
-use list_model::{Contribution, ListKind, Meaning};
+use list_model::{Contribution, ListKind};
 use loc_lists::ViewPair;
 use std::alloc::{AllocError, Global};
 use std::process::Abort;
@@ -310,7 +310,7 @@ fn with_ranges(alloc: Global, changes: &[(usize, u8)]) -> Result<Vec<u8>, AllocE
 fn is_list_frozen(world: &World<'_>, number: usize) -> bool
     requires { number < length (lists_held world.now Ranges) }
 {
-    let at = world.lists(ListKind::Ranges)[number].at;
+    let at = world.lists(ListKind::Ranges).at(number);
     world.is_frozen(ListKind::Ranges, at)
 }
 
@@ -337,9 +337,19 @@ fn range_lists_are_held(rt: HostRuntime) -> Result<(), Fail> {
     ];
     let lists = world.lists(ListKind::Ranges);
     assert_eq!(rt; lists.len(), rows.len());
-    for (list, row) in lists.iter().zip(rows.iter()) {
-        let frozen = matches!(list.meaning, Meaning::Dead);
-        assert_eq!(rt; (list.at, list.owner, list.raw.len(), frozen), *row);
+    for (number, row) in rows.iter().enumerate() {
+        if number < lists.len() {
+            let list = (lists.at(number), lists.owner(number));
+            assert_eq!(rt;
+                (
+                    list.0,
+                    list.1,
+                    lists.entry_count(number),
+                    lists.is_frozen(number)
+                ),
+                *row
+            );
+        }
     }
     if lists.len() == 3 {
         assert!(rt; !is_list_frozen(&world, 0));
@@ -474,9 +484,13 @@ fn view_pairs_are_held(rt: HostRuntime) -> Result<(), Fail> {
         .ok_or("refused")?;
     let pair = ViewPair { first: 0, last: 1 };
     assert_eq!(rt; world.views().len(), 1);
-    for run in world.views().iter() {
-        assert_eq!(rt; (run.list, run.at), (14, 12));
-        assert_eq!(rt; run.pairs.as_slice(), &[pair][..]);
+    let views = world.views();
+    for run in 0..views.len() {
+        assert_eq!(rt; (views.list(run), views.at(run)), (14, 12));
+        assert_eq!(rt; views.pair_count(run), 1);
+        if views.pair_count(run) == 1 {
+            assert!(rt; views.pair(run, 0) == pair);
+        }
     }
     if world.units().len() == 1 && world.units()[0].forest().value_count() == 3 {
         assert!(rt; world.link(0, 1) == Link::List(ListKind::Locations, 14));

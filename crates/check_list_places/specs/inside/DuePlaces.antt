@@ -4,8 +4,7 @@ use Rattle.std.specs.List.{range_with_len}
 use Rattle.list_model.specs.declared.entry.ListKind.{ListKind}
 use Rattle.list_model.specs.declared.entry.ListKind.TheVariants.{Ranges, Locations}
 use Rattle.list_model.specs.Contributions.{lists_at}
-use Rattle.value_links.specs.declared.lists.ListRead.{ListRead as HeldList}
-use Rattle.value_links.specs.declared.views.ViewRead.{ViewRead as HeldViews}
+use Rattle.list_arena.specs.Held.{HeldList, HeldViews}
 use Rattle.value_links.specs.Reading.{ViewRead, Reading, of_kind, lists_of, part_at, list_at, view_at}
 use Rattle.value_links.specs.World.{World, lists_held}
 use Rattle.check_list_places.specs.declared.due.Place.{Place}

@@ -22,13 +22,10 @@ fn list_number(world: &World<'_>, kind: ListKind, place: u64) -> u32
     requires there { OfReading world.now (λ r. (k : ℕ) × IsListNumber r kind place k) }
     ensures { OfReading world.now (λ r. IsListNumber r kind place result) }
 {
-    match world
-        .lists(kind)
-        .binary_search_by_key(&place, |list| list.at)
-    {
-        Ok(number) => number as u32,
+    match world.lists(kind).find(place) {
+        Some(number) => number as u32,
         // One begins there.
-        Err(_) => unreachable!(),
+        None => unreachable!(),
     }
 }
 
@@ -38,13 +35,10 @@ fn run_number(world: &World<'_>, list: u64, place: u64) -> u32
     requires there { OfReading world.now (λ r. (k : ℕ) × IsRunNumber r list place k) }
     ensures { OfReading world.now (λ r. IsRunNumber r list place result) }
 {
-    match world
-        .views()
-        .binary_search_by_key(&(list, place), |run| (run.list, run.at))
-    {
-        Ok(number) => number as u32,
+    match world.views().find(list, place) {
+        Some(number) => number as u32,
         // One stands there.
-        Err(_) => unreachable!(),
+        None => unreachable!(),
     }
 }
 

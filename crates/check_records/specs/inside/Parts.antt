@@ -3,7 +3,7 @@
 use Rattle.std.specs.Prelude.{◌≡◌, ◌≤◌, ◌<◌, ℕ, List, length, map, slice_index_or, ⊤}
 use Rattle.std.specs.List.{All}
 use Rattle.list_model.specs.declared.item.Meaning.TheVariants.{Dead}
-use Rattle.value_links.specs.declared.lists.ListRead.{ListRead as HeldList}
+use Rattle.list_arena.specs.Held.{HeldList}
 use Rattle.value_links.specs.World.{World, lists_held}
 use Rattle.check_records.specs.declared.parts.Part.{Part as HeldPart}
 use Rattle.check_records.specs.declared.parts.Part.TheVariants as held

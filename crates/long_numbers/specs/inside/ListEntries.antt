@@ -12,7 +12,7 @@ use Rattle.list_model.specs.declared.item.Meaning.TheVariants.{Dead}
 use Rattle.list_model.specs.Entries.{code_of, SpellsOperands}
 use Rattle.list_model.specs.Items.{sets_base}
 use Rattle.loc_lists.specs.Locations.{is_item, bytes_in}
-use Rattle.value_links.specs.declared.lists.ListRead.{ListRead as HeldList}
+use Rattle.list_arena.specs.Held.{HeldList}
 use Rattle.value_links.specs.Operations.{IsSomeExpression}
 use Rattle.long_numbers.specs.LongLists.{AreLongOperandsOf, IsLongLength, HoldsBehindCode, is_owned}
 use Rattle.long_numbers.specs.inside.Expressions.{IsLongAt}
@@ -36,9 +36,9 @@ ExpressionStands section raw = is_item raw ≡ true → (raw.expr.at + raw.expr.
 
 -- the entries of a list that is held stand in its section, those of a location list with their expressions
 pub record ListStands (kind : ListKind) (section : List ℕ) (list : HeldList) : Type 0 where
-  pub entries : All (EntryStands kind section) list.raw.items
-  pub lengths : kind ≡ Locations → All (LengthStands section) list.raw.items
-  pub expressions : kind ≡ Locations → All (ExpressionStands section) list.raw.items
+  pub entries : All (EntryStands kind section) list.raw
+  pub lengths : kind ≡ Locations → All (LengthStands section) list.raw
+  pub expressions : kind ≡ Locations → All (ExpressionStands section) list.raw
 
 -- something holds of one of some entries at a place
 abbrev pub HoldsAmong : (RawEntry → ℕ → Type 0) → List RawEntry → ℕ → Type 0
@@ -50,15 +50,15 @@ IsLongInItem owned section raw p = (is_item raw ≡ true) × IsLongAt owned sect
 
 -- an operand of a list that is held as frozen
 abbrev pub IsLongInDead : ListKind → List ℕ → HeldList → ℕ → Type 0
-IsLongInDead kind section list p = (list.meaning ≡ Dead) × HoldsAmong (HoldsBehindCode AreLongOperandsOf kind section) list.raw.items p
+IsLongInDead kind section list p = (list.meaning ≡ Dead) × HoldsAmong (HoldsBehindCode AreLongOperandsOf kind section) list.raw p
 
 -- the length of an expression of a location list that is held as one that no entry names
 abbrev pub IsLongInUnnamed : List ℕ → HeldList → ℕ → Type 0
-IsLongInUnnamed section list p = (list.owner ≡ None) × HoldsAmong (HoldsBehindCode IsLongLength Locations section) list.raw.items p
+IsLongInUnnamed section list p = (list.owner ≡ None) × HoldsAmong (HoldsBehindCode IsLongLength Locations section) list.raw p
 
 -- such a length, or a number in an expression
 abbrev pub IsLongInLocations : List ℕ → HeldList → ℕ → Type 0
-IsLongInLocations section list p = IsLongInUnnamed section list p ⊎ HoldsAmong (IsLongInItem (is_owned list.owner) section) list.raw.items p
+IsLongInLocations section list p = IsLongInUnnamed section list p ⊎ HoldsAmong (IsLongInItem (is_owned list.owner) section) list.raw p
 
 -- a number of a list that is held
 abbrev pub IsLongInHeld : ListKind → List ℕ → HeldList → ℕ → Type 0

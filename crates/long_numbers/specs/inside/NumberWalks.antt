@@ -5,7 +5,7 @@ use Rattle.leb_codec.specs.Leb.{Uleb}
 use Rattle.check_places.specs.Firsts.{IsLeastFound}
 use Rattle.entry_arena.specs.Trees.{SpellsBetween}
 use Rattle.loc_lists.specs.Views.{SpellsPair}
-use Rattle.value_links.specs.declared.views.ViewRead.{ViewRead as HeldViews}
+use Rattle.list_arena.specs.Held.{HeldViews}
 use Rattle.value_links.specs.Reading.{ViewRead}
 use Rattle.long_numbers.specs.Fronts.{IsLong, Behind}
 
@@ -39,7 +39,7 @@ IsLongPair inner bytes = IsLong inner bytes ⊎ Behind Uleb (λ first. IsLong) i
 
 -- a run that is held, as it was read
 abbrev pub run_read : HeldViews → ViewRead
-run_read run = record { list = run.list; at = run.at; pairs = run.pairs.items }
+run_read run = record { list = run.list; at = run.at; pairs = run.pairs }
 
 -- the bytes from the place of a run on begin with its pairs
 abbrev pub IsRunIn : List ℕ → ViewRead → Type 0

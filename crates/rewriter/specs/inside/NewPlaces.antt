@@ -6,7 +6,7 @@ use Rattle.list_model.specs.declared.entry.ListKind.TheVariants.{Ranges, Locatio
 use Rattle.list_model.specs.Contributions.{offsets_at}
 use Rattle.list_write.specs.declared.image.Moved.{Moved}
 use Rattle.list_write.specs.Written.{part_at, moved_at}
-use Rattle.value_links.specs.declared.views.ViewRead.{ViewRead as HeldViews}
+use Rattle.list_arena.specs.Held.{HeldViews}
 use Rattle.value_links.specs.Reading.{Linkable}
 use Rattle.value_links.specs.Linked.{Linked, Links}
 use Rattle.value_links.specs.Linked.Linked.{Program, ListAt, BaseOf, ViewsAt, Kept}

@@ -10,8 +10,7 @@ use Rattle.list_write.specs.declared.named.NamedList.{NamedList}
 use Rattle.list_write.specs.declared.named.NewExpressions.{NewExpressions}
 use Rattle.list_write.specs.Written.{AreEnds, Piece, IsPieceOf, pieces, to_write, all_runs, runs_before, list_at}
 use Rattle.unit_write.specs.declared.places.Places.{Places}
-use Rattle.value_links.specs.declared.lists.ListRead.{ListRead as HeldList}
-use Rattle.value_links.specs.declared.views.ViewRead.{ViewRead as HeldViews}
+use Rattle.list_arena.specs.Held.{HeldList, HeldViews}
 use Rattle.value_links.specs.Reading.{ListRead, Reading}
 use Rattle.value_links.specs.Layouts.{AreNumbersOf}
 use Rattle.value_links.specs.ListFaults.{expression_bytes}
@@ -45,7 +44,7 @@ pub record AreRecordedTo (world : World) (kind : ListKind) (count : ℕ) (record
 -- Its items are to have these expressions, which stand one after the other and have at most three times the bytes of the old ones.
 pub record AreExpressionsFor (world : World) (places : List Places) (kind : ListKind) (list : HeldList) (new : NewExpressions) : Type 0 where
   pub ends : AreEnds new
-  pub few : length new.bytes.items ≤ 3 * expression_bytes list.raw.items
+  pub few : length new.bytes.items ≤ 3 * expression_bytes list.raw
   pub are : (r : Reading) (old : ListRead) → Holds world.image world r → HoldsList r.links kind old list → AreNewExpressions r.links places kind old (pieces 0 new.ends.items new.bytes.items)
 
 -- this is a list with such a plan and such expressions

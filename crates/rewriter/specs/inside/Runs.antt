@@ -6,7 +6,7 @@ use Rattle.list_model.specs.declared.entry.ListKind.{ListKind}
 use Rattle.list_model.specs.declared.entry.ListKind.TheVariants.{Ranges, Locations}
 use Rattle.list_write.specs.declared.named.ViewRun.{ViewRun}
 use Rattle.list_write.specs.Written.{Run, run_of}
-use Rattle.value_links.specs.declared.views.ViewRead.{ViewRead as HeldViews}
+use Rattle.list_arena.specs.Held.{HeldViews}
 use Rattle.value_links.specs.Reading.{ViewRead}
 use Rattle.value_links.specs.World.{World}
 
@@ -24,7 +24,7 @@ abbrev pub run_for : ViewRead → Run
 run_for view = record { at = view.at; pairs = view.pairs }
 
 abbrev pub run_held : HeldViews → Run
-run_held view = record { at = view.at; pairs = view.pairs.items }
+run_held view = record { at = view.at; pairs = view.pairs }
 
 -- these are the first of the view pairs, which go with the list at a place; the next ones don't
 pub record AreRunsWith (views : List HeldViews) (list : ℕ) (runs : List ViewRun) : Type 0 where

@@ -10,7 +10,7 @@ use Rattle.form_codec.specs.Values.{meant_in}
 use Rattle.loc_lists.specs.Locations.{expressions_of}
 use Rattle.entry_arena.specs.Arena.{value_at}
 use Rattle.entry_arena.specs.Forests.{Described}
-use Rattle.value_links.specs.declared.lists.ListRead.{ListRead as HeldList}
+use Rattle.list_arena.specs.Held.{HeldList}
 use Rattle.value_links.specs.World.{World, Holds, IsWorldOf, lists_held}
 use Rattle.value_links.specs.Reading.{Reading, Linkable, unit_at}
 use Rattle.value_links.specs.Values.{HasValueAt, described_at}
@@ -82,7 +82,7 @@ HasListAt world kind at = (list : HeldList) × Contains (lists_held world kind) 
 
 -- the expressions of the items of a held list, in the bytes of its section
 abbrev pub held_expressions : List ℕ → HeldList → List (List ℕ)
-held_expressions section list = expressions_of section list.raw.items
+held_expressions section list = expressions_of section list.raw
 
 -- two lists of expressions, each in the unit that owns its list, mean the same
 abbrev pub MeanSameExpressions : Linkable → ℕ → List (List ℕ) → Linkable → ℕ → List (List ℕ) → Type 0

@@ -8,7 +8,7 @@ use Rattle.list_model.specs.declared.item.Meaning.TheVariants.{Live, Dead}
 use Rattle.list_model.specs.Entries.{AreSaid}
 use Rattle.list_model.specs.Items.{Bounds, item_of}
 use Rattle.loc_lists.specs.Locations.{is_item, items_among}
-use Rattle.value_links.specs.declared.lists.ListRead.{ListRead as HeldList}
+use Rattle.list_arena.specs.Held.{HeldList}
 use Rattle.value_links.specs.Resolved.{Content}
 use Rattle.value_links.specs.Resolved.Content.{Items, Entries}
 
@@ -46,4 +46,4 @@ pub record IsNextItem (raws : List RawEntry) (from n : ℕ) : Type 0 where
 -- what a list that is held means, but for its expressions: a frozen one is held as dead
 abbrev pub HasContent : ListKind → HeldList → Content → Type 0
 HasContent kind list (Items bounds) = (items : List Item) × (list.meaning ≡ Live items) × AreItemsOf bounds items
-HasContent kind list (Entries entries) = (list.meaning ≡ Dead) × AreSaid kind list.raw.items entries
+HasContent kind list (Entries entries) = (list.meaning ≡ Dead) × AreSaid kind list.raw entries

@@ -1,5 +1,5 @@
 -- What values and entries are compared by: what their links mean, and where it is held.
-use Rattle.std.specs.Prelude.{◌≡◌, ◌<◌, ◌⊎◌, ◌↔◌, ℕ, List, length, slice_index_or, Bool, IsTrue}
+use Rattle.std.specs.Prelude.{◌≡◌, ◌<◌, ◌↔◌, ℕ, List, length, slice_index_or, Bool, IsTrue}
 use Rattle.std.specs.List.{Contains}
 use Rattle.form_codec.specs.declared.value.Value.{Value}
 use Rattle.form_codec.specs.Forms.{Meaning}
@@ -12,7 +12,7 @@ use Rattle.entry_arena.specs.Forests.{Described}
 use Rattle.loc_lists.specs.declared.views.ViewPair.{ViewPair}
 use Rattle.value_links.specs.declared.link.Link.{Link}
 use Rattle.value_links.specs.declared.link.Link.TheVariants.{Plain, Place, Lines, List as AtList, Slot, Base, Views, Kept as KeptPlace}
-use Rattle.value_links.specs.declared.views.ViewRead.{ViewRead as HeldViews}
+use Rattle.list_arena.specs.Held.{HeldViews}
 use Rattle.value_links.specs.Debug.{MeansSlot, MeansAttribute}
 use Rattle.value_links.specs.Values.{declaration_of, described_at}
 use Rattle.value_links.specs.Links.{held_at}
@@ -54,14 +54,7 @@ pub record HoldsPairs (views : List HeldViews) (list at : ℕ) (pairs : List Vie
   pub one : Contains views run
   pub with : run.list ≡ list
   pub here : run.at ≡ at
-  pub pairs_are : pairs ≡ run.pairs.items
-
--- runs of view pairs rise by their lists, and then by their own places
-abbrev pub PairsRise : List HeldViews → Type 0
-PairsRise views =
-    (j k : ℕ) (d : HeldViews) → j < k → k < length views →
-    ((slice_index_or views j d).list < (slice_index_or views k d).list)
-    ⊎ (((slice_index_or views j d).list ≡ (slice_index_or views k d).list) × ((slice_index_or views j d).at < (slice_index_or views k d).at))
+  pub pairs_are : pairs ≡ run.pairs
 
 -- what a link tells is held
 abbrev pub IsThere : World → Link → Type 0

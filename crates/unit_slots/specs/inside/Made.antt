@@ -11,7 +11,7 @@ use Rattle.list_model.specs.declared.entry.ListKind.TheVariants.{Locations}
 use Rattle.list_model.specs.declared.entry.RawEntry.{RawEntry}
 use Rattle.loc_lists.specs.Locations.{is_item, items_among, bytes_in}
 use Rattle.entry_read.specs.Units.{HeadAndForest}
-use Rattle.value_links.specs.declared.lists.ListRead.{ListRead as HeldList}
+use Rattle.list_arena.specs.Held.{HeldList}
 use Rattle.value_links.specs.Layouts.{all_aims, list_expressions}
 use Rattle.value_links.specs.Reading.{Reading}
 use Rattle.value_links.specs.World.{World, Holds}
@@ -79,4 +79,4 @@ pub record AddsLists (world : World) (unit : HeadAndForest) (ops : ℕ → List 
 
 -- the location lists with these numbers are held, and their items stand in a section
 abbrev pub ListsStand : World → HeadAndForest → List ℕ → List ℕ → Type 0
-ListsStand world unit section numbers = All (λ (k : ℕ). (k < length world.locations) × ((d : HeldList) → ItemsStand unit section (slice_index_or world.locations k d).raw.items)) numbers
+ListsStand world unit section numbers = All (λ (k : ℕ). (k < length world.locations) × ((d : HeldList) → ItemsStand unit section (slice_index_or world.locations k d).raw)) numbers

@@ -18,7 +18,7 @@ use Rattle.list_model.specs.Items.{Bounds, Give, FaultIndexes}
 use Rattle.list_model.specs.Reading.{list_entry_limit}
 use Rattle.range_lists.specs.Ranges.{FaultRangeList}
 use Rattle.loc_lists.specs.Locations.{FaultLocationList}
-use Rattle.value_links.specs.declared.lists.ListRead.{ListRead as HeldList}
+use Rattle.list_arena.specs.Held.{HeldList}
 use Rattle.value_links.specs.declared.parts.Parts.{Parts}
 use Rattle.value_links.specs.Parts.{lists_in}
 use Rattle.value_links.specs.Reading.{ListSection, ListRead, part_at, no_context}
@@ -92,9 +92,9 @@ pub record IsReadBy (of : ListKind) (section : ListSection) (addr : List ℕ) (c
   pub at : list.at ≡ (first_naming named).0
   pub begins : IsListPlace section list.part list.at
   pub owner : IsOwnerBy named list.owner
-  pub read : IsListOf of section.section (part_at section list.part) list.at list.raw.items
-  pub looked : AreLookedUpBy of addr contexts named list.raw.items
-  pub kept : IsKeptBy of addr contexts named list.raw.items list.meaning
+  pub read : IsListOf of section.section (part_at section list.part) list.at list.raw
+  pub looked : AreLookedUpBy of addr contexts named list.raw
+  pub kept : IsKeptBy of addr contexts named list.raw list.meaning
 
 -- what is read of some entries of lists of a kind
 abbrev pub AreEntriesOf : ListKind → List RawEntry → Type 0
@@ -124,7 +124,7 @@ FaultNamed of section contexts named reach before kind place = (p : ℕ) × IsLi
 
 -- a list as it is read
 abbrev pub as_read : HeldList → ListRead
-as_read list = record { at = list.at; part = list.part; raws = list.raw.items }
+as_read list = record { at = list.at; part = list.part; raws = list.raw }
 
 -- a list that some of all namings name is read
 abbrev pub IsReadAmong : ListKind → ListSection → List ℕ → List Context → List (ℕ × ℕ) → HeldList → Type 0
@@ -165,7 +165,7 @@ AreExprsReadIn parts of named reach raws = InEach parts (λ r. (owner : Option �
 
 -- so are those of a list that some of all namings name
 abbrev pub AreExprsReadAmong : Parts → ListKind → List (ℕ × ℕ) → Reach → HeldList → Type 0
-AreExprsReadAmong parts of namings reach list = (named : List (ℕ × ℕ)) × AreNamingsAt namings list.at named × AreExprsReadIn parts of named reach list.raw.items
+AreExprsReadAmong parts of namings reach list = (named : List (ℕ × ℕ)) × AreNamingsAt namings list.at named × AreExprsReadIn parts of named reach list.raw
 
 -- and those of all lists that are read
 abbrev pub AreExprsReadUpTo : Parts → ListKind → List (ℕ × ℕ) → Reach → List HeldList → Type 0

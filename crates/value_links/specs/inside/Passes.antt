@@ -6,7 +6,7 @@ use Rattle.entry_read.specs.Units.{HeadAndForest}
 use Rattle.value_links.specs.declared.parts.Parts.{Parts}
 use Rattle.list_model.specs.declared.entry.ListKind.TheVariants.{Ranges, Locations}
 use Rattle.list_model.specs.Reading.{list_entry_limit}
-use Rattle.value_links.specs.declared.lists.ListRead.{ListRead as HeldList}
+use Rattle.list_arena.specs.Held.{HeldList}
 use Rattle.value_links.specs.Reading.{ListRead, Linkable}
 use Rattle.value_links.specs.Lists.{AreListsOf, AreWithinReach}
 use Rattle.value_links.specs.ListFaults.{list_total, entry_total, expression_bytes, expression_limit}

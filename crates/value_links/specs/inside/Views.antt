@@ -13,9 +13,8 @@ use Rattle.entry_arena.specs.Arena.{value_at}
 use Rattle.list_model.specs.declared.entry.ListKind.TheVariants.{Locations}
 use Rattle.list_model.specs.declared.entry.RawEntry.{RawEntry}
 use Rattle.loc_lists.specs.Views.{IsRunAt, FaultRun, view_limit}
-use Rattle.value_links.specs.declared.lists.ListRead.{ListRead as HeldList}
+use Rattle.list_arena.specs.Held.{HeldList, HeldViews}
 use Rattle.value_links.specs.declared.parts.Parts.{Parts}
-use Rattle.value_links.specs.declared.views.ViewRead.{ViewRead as HeldViews}
 use Rattle.value_links.specs.Parts.{HoldsParts}
 use Rattle.value_links.specs.Reading.{ListSection, Linkable, ListRead, unit_at, part_at}
 use Rattle.value_links.specs.Values.{entry_of, declaration_of}
@@ -91,7 +90,7 @@ raw_pairs raws = length (filter (λ (raw : RawEntry). is_bounded_code raw.code) 
 -- how many go with the first list that begins at a place
 abbrev pub pairs_from : List HeldList → ℕ → ℕ
 pairs_from [] place = 0
-pairs_from (list ∷ lists) place = if nat_eq list.at place then raw_pairs list.raw.items else pairs_from lists place
+pairs_from (list ∷ lists) place = if nat_eq list.at place then raw_pairs list.raw else pairs_from lists place
 
 -- with the list of a viewing
 abbrev pub pairs_for : List HeldList → ℕ × ℕ → ℕ
@@ -127,18 +126,18 @@ pub record AreTurned (viewings turned : List (ℕ × ℕ)) : Type 0 where
 pub record IsWanted (section : ListSection) (lists : List HeldList) (turned : ℕ × ℕ) : Type 0 where
   pub known : HasListFrom lists turned.0
   pub stands : (list : HeldList) → IsListFrom lists turned.0 list → IsListPlace section list.part turned.1
-  pub few : (list : HeldList) → IsListFrom lists turned.0 list → raw_pairs list.raw.items ≤ view_limit
+  pub few : (list : HeldList) → IsListFrom lists turned.0 list → raw_pairs list.raw ≤ view_limit
 
 -- one of them isn't whole, or doesn't fit
 abbrev pub FaultWanted : ListSection → List HeldList → List (ℕ × ℕ) → Kind → ℕ → Type 0
-FaultWanted section lists turned kind place = (y : ℕ × ℕ) × Contains turned y × (list : HeldList) × IsListFrom lists y.0 list × FaultRun section.section (part_at section list.part) y.1 (raw_pairs list.raw.items) kind place
+FaultWanted section lists turned kind place = (y : ℕ × ℕ) × Contains turned y × (list : HeldList) × IsListFrom lists y.0 list × FaultRun section.section (part_at section list.part) y.1 (raw_pairs list.raw) kind place
 
 -- the pairs at a place that go with a list are read
 pub record IsRunRead (section : ListSection) (list : HeldList) (place : ℕ) (run : HeldViews) : Type 0 where
   pub list_is : run.list ≡ list.at
   pub at_is : run.at ≡ place
-  pub counted : length run.pairs.items ≡ raw_pairs list.raw.items
-  pub read : IsRunAt section.section (part_at section list.part) place run.pairs.items
+  pub counted : length run.pairs ≡ raw_pairs list.raw
+  pub read : IsRunAt section.section (part_at section list.part) place run.pairs
 
 -- they are those of one of the lists
 abbrev pub IsRunOf : ListSection → List HeldList → HeldViews → Type 0

@@ -9,4 +9,4 @@ invariant-loop-due l =
     OfBoth l.before l.after (λ r s. IsNextDue l.fn.kind r s l.number l.due.items l.next) × AreRunsSwept l.before l.fn.kind l.number (length l.fn.due.items) (length l.due.items)
 
 abbrev pub decreases-loop-due : goal.decreases-loop-due
-decreases-loop-due l = length l.views - length l.due.items
+decreases-loop-due l = l.count - length l.due.items

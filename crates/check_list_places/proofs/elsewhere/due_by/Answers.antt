@@ -1,6 +1,5 @@
-use Rattle.std.proofs.Common.{◌<◌, ℕ, List, length, sym, subst}
-use Rattle.value_links.specs.declared.lists.ListRead.{ListRead}
-use Rattle.value_links.specs.declared.views.ViewRead.{ViewRead}
+use Rattle.std.proofs.Common.{◌<◌, ◌∙◌, ℕ, List, length, sym, ap, subst}
+use Rattle.list_arena.specs.Held.{HeldList as ListRead}
 use Rattle.check_list_places.specs.inside.Compared.{OfBoth}
 use Rattle.check_list_places.specs.inside.DuePlaces.{AreFirstLists, AreFirstRuns}
 use Rattle.check_list_places.proofs.PairWorlds.{lists_inside, runs_inside, lists_first, runs_first}
@@ -8,11 +7,11 @@ use Rattle.check_list_places.proofs.elsewhere.due_by.Goals as goal
 
 pub first_followers-requires : goal.first_followers-requires
 first_followers-requires c = λ k m there.
-    subst (λ (z : List ListRead). k < length z) (sym c.lists.ensures) (lists_inside c.args.before.now c.args.after.now c.requires.before c.requires.after c.args.kind c.args.lists.now c.requires.lists k m there).0
+    subst (λ (n : ℕ). k < n) (sym (c.len.ensures ∙ ap (λ (z : List ListRead). length z) c.lists.ensures.lists)) (lists_inside c.args.before.now c.args.after.now c.requires.before c.requires.after c.args.kind c.args.lists.now c.requires.lists k m there).0
 
 pub first_followers-requires-2 : goal.first_followers-requires-2
 first_followers-requires-2 c = λ k m there.
-    subst (λ (z : List ViewRead). k < length z) (sym c.runs_of.ensures) (runs_inside c.args.before.now c.args.after.now c.requires.before c.requires.after c.args.kind c.args.runs.now c.requires.runs k m there).0
+    subst (λ (n : ℕ). k < n) (sym c.run_count.ensures) (runs_inside c.args.before.now c.args.after.now c.requires.before c.requires.after c.args.kind c.args.runs.now c.requires.runs k m there).0
 
 pub due_places-requires-clause-first_lists : goal.due_places-requires-clause-first_lists
 due_places-requires-clause-first_lists c =

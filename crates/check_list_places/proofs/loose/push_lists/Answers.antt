@@ -1,5 +1,5 @@
 use Rattle.std.proofs.Common.{◌≡◌, ◌<◌, ◌^◌, ◌∙◌, ℕ, List, length, ap, subst, arith}
-use Rattle.value_links.specs.declared.lists.ListRead.{ListRead}
+use Rattle.list_arena.specs.Held.{HeldList as ListRead}
 use Rattle.value_links.specs.Reading.{lists_of}
 use Rattle.check_list_places.specs.inside.LooseBytes.{section_end, HasListByteAt}
 use Rattle.check_list_places.proofs.FewNumbers.{few_lists}
@@ -10,7 +10,7 @@ pub overflow_cast-number : goal.overflow_cast-number
 overflow_cast-number c =
     let world = c.args.world.now in
     let (reach, is) = c.requires.world in
-    let count : length c.lists-number-end.result.now ≡ length (lists_of is.r c.args.kind) = ap (λ (z : List ListRead). length z) c.lists-number-end.ensures ∙ (is.holds.lists c.args.kind).count in
+    let count : c.len-number-end.result ≡ length (lists_of is.r c.args.kind) = c.len-number-end.ensures ∙ ap (λ (z : List ListRead). length z) c.lists.ensures.lists ∙ (is.holds.lists c.args.kind).count in
     let few : c.loop-number.number < 2 ^ 32 = few_lists world.image reach is.r is.valid is.read c.args.kind c.loop-number.number (subst (λ (n : ℕ). c.loop-number.number < n) count c.loop-number-test.true) in
     omega (arith, few)
 
@@ -23,5 +23,5 @@ loop-number-preserved c = λ s read holds.
 
 pub returns : goal.returns
 returns c = λ s read holds.
-    let count : length c.lists-number-end.result.now ≡ length (lists_of s c.args.kind) = ap (λ (z : List ListRead). length z) c.lists-number-end.ensures ∙ (holds.lists c.args.kind).count in
+    let count : c.len-number-end.result ≡ length (lists_of s c.args.kind) = c.len-number-end.ensures ∙ ap (λ (z : List ListRead). length z) c.lists.ensures.lists ∙ (holds.lists c.args.kind).count in
     bytes_below_all (section_end c.args.kind s) (HasListByteAt c.args.kind s) c.loop-number.number c.args.spans.now.items c.loop-number.spans.items (λ m x (len, known, has, byte). omega (arith, known, count, c.loop-number-test.false)) (c.loop-number.invariant s read holds)

@@ -18,12 +18,12 @@ overflow_cast-number c =
     let world = c.args.world.now in
     let (reach, is) = c.requires.world in
     let count : length world.views ≡ length is.r.views = runs_counted world is.r is.holds in
-    let held : length c.views.result.now.items ≡ length world.views = ap length c.views.ensures in
+    let held : length c.views.result.now ≡ length world.views = ap length c.views.ensures in
     let few : length is.r.views < 2 ^ 32 = few_runs world.image is.r is.read in
     omega (arith, c.loop-number-test.true, held, count, few)
 
 pub returns : goal.returns
 returns c = λ s read holds.
     let count : length c.args.world.now.views ≡ length s.views = runs_counted c.args.world.now s holds in
-    let held : length c.views.result.now.items ≡ length c.args.world.now.views = ap length c.views.ensures in
+    let held : length c.views.result.now ≡ length c.args.world.now.views = ap length c.views.ensures in
     bytes_below_all (section_end Locations s) (HasRunByteAt s) c.loop-number.number c.args.spans.now.items c.loop-number.spans.items (λ n x (len, known, has, byte). omega (arith, known, count, held, c.loop-number-test.false)) (c.loop-number.invariant s read holds)

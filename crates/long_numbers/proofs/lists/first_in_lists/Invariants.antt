@@ -6,5 +6,5 @@ use Rattle.long_numbers.proofs.ListPlaces.{IsLongNumbered}
 use Rattle.long_numbers.proofs.lists.first_in_lists.Given as goal
 
 -- the least place in the lists so far
-abbrev pub invariant-loop-list : goal.invariant-loop-list
-invariant-loop-list l = IsLeastFound (HoldsBelow (IsLongNumbered l.kind (debug_lists l.world.image l.kind) (lists_held l.world l.kind)) l.list-index) l.found
+abbrev pub invariant-loop-number : goal.invariant-loop-number
+invariant-loop-number l = IsLeastFound (HoldsBelow (IsLongNumbered l.kind (debug_lists l.world.image l.kind) (lists_held l.world l.kind)) l.number) l.found

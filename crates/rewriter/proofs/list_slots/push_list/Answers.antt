@@ -21,8 +21,8 @@ pub bytes_of-bytes-requires : goal.bytes_of-bytes-requires
 bytes_of-bytes-requires c =
     let list = c.args.list.now in
     let n : ℕ = c.loop-entry.entry-index in
-    let same = c.deref-entry-items.ensures.value in
-    let inside : n < length list.raw.items = subst (λ (z : List RawEntry). n < length z) same c.loop-entry-test.true in
+    let same = c.deref-entry-items.ensures.value ∙ c.entries.ensures in
+    let inside : n < length list.raw = subst (λ (z : List RawEntry). n < length z) same c.loop-entry-test.true in
     let section : c.section-section.result.now ≡ debug_lists c.args.world.now.image Locations = c.section-section.ensures in
     subst (λ (z : List RawEntry). (get_or z n no_raw).expr.at + (get_or z n no_raw).expr.len ≤ length c.section-section.result.now) (sym same) (lie_inside c.args.world.now c.requires.world list c.requires.list c.section-section.result.now section n no_raw inside)
 
@@ -31,23 +31,23 @@ read_again-requires c =
     let world = c.args.world.now in
     let list = c.args.list.now in
     let n : ℕ = c.loop-entry.entry-index in
-    let same = c.deref-entry-items.ensures.value in
-    let inside : n < length list.raw.items = subst (λ (z : List RawEntry). n < length z) same c.loop-entry-test.true in
-    let item : is_item (get_or list.raw.items n no_raw) ≡ true = ap (λ (z : List RawEntry). is_item (get_or z n no_raw)) (sym same) ∙ sym c.is_item.ensures ∙ c.if-not-is_item.false in
+    let same = c.deref-entry-items.ensures.value ∙ c.entries.ensures in
+    let inside : n < length list.raw = subst (λ (z : List RawEntry). n < length z) same c.loop-entry-test.true in
+    let item : is_item (get_or list.raw n no_raw) ≡ true = ap (λ (z : List RawEntry). is_item (get_or z n no_raw)) (sym same) ∙ sym c.is_item.ensures ∙ c.if-not-is_item.false in
     let section : c.section-section.result.now ≡ debug_lists world.image Locations = c.section-section.ensures in
-    let bytes : c.bytes_of-bytes.result.now ≡ bytes_in c.section-section.result.now (get_or list.raw.items n no_raw).expr = c.bytes_of-bytes.ensures ∙ ap (λ (z : List RawEntry). bytes_in c.section-section.result.now (get_or z n no_raw).expr) same in
-    record { valid = subst (λ (z : List ℕ). IsSomeExpression Narrow z) (sym bytes) (expression_among (IsSomeExpression Narrow) c.section-section.result.now list.raw.items n no_raw (are_expressions world c.requires.world list c.requires.list c.section-section.result.now section) inside item) }
+    let bytes : c.bytes_of-bytes.result.now ≡ bytes_in c.section-section.result.now (get_or list.raw n no_raw).expr = c.bytes_of-bytes.ensures ∙ ap (λ (z : List RawEntry). bytes_in c.section-section.result.now (get_or z n no_raw).expr) same in
+    record { valid = subst (λ (z : List ℕ). IsSomeExpression Narrow z) (sym bytes) (expression_among (IsSomeExpression Narrow) c.section-section.result.now list.raw n no_raw (are_expressions world c.requires.world list c.requires.list c.section-section.result.now section) inside item) }
 
 pub push_expression-requires-clause-names : goal.push_expression-requires-clause-names
 push_expression-requires-clause-names c =
     let world = c.args.world.now in
     let list = c.args.list.now in
     let n : ℕ = c.loop-entry.entry-index in
-    let same = c.deref-entry-items.ensures.value in
-    let inside : n < length list.raw.items = subst (λ (z : List RawEntry). n < length z) same c.loop-entry-test.true in
-    let item : is_item (get_or list.raw.items n no_raw) ≡ true = ap (λ (z : List RawEntry). is_item (get_or z n no_raw)) (sym same) ∙ sym c.is_item.ensures ∙ c.if-not-is_item.false in
+    let same = c.deref-entry-items.ensures.value ∙ c.entries.ensures in
+    let inside : n < length list.raw = subst (λ (z : List RawEntry). n < length z) same c.loop-entry-test.true in
+    let item : is_item (get_or list.raw n no_raw) ≡ true = ap (λ (z : List RawEntry). is_item (get_or z n no_raw)) (sym same) ∙ sym c.is_item.ensures ∙ c.if-not-is_item.false in
     let section : c.section-section.result.now ≡ debug_lists world.image Locations = c.section-section.ensures in
-    let bytes : c.bytes_of-bytes.result.now ≡ bytes_in (debug_lists world.image Locations) (get_or list.raw.items n no_raw).expr = c.bytes_of-bytes.ensures ∙ ap (λ (z : List RawEntry). bytes_in c.section-section.result.now (get_or z n no_raw).expr) same ∙ ap (λ (z : List ℕ). bytes_in z (get_or list.raw.items n no_raw).expr) section in
+    let bytes : c.bytes_of-bytes.result.now ≡ bytes_in (debug_lists world.image Locations) (get_or list.raw n no_raw).expr = c.bytes_of-bytes.ensures ∙ ap (λ (z : List RawEntry). bytes_in c.section-section.result.now (get_or z n no_raw).expr) same ∙ ap (λ (z : List ℕ). bytes_in z (get_or list.raw n no_raw).expr) section in
     let spelled : IsExpression Narrow (all_meant c.bytes_of-bytes.result.now c.deref.result.now) c.bytes_of-bytes.result.now = subst (λ (z : List Op). IsExpression Narrow (all_meant c.bytes_of-bytes.result.now z) c.bytes_of-bytes.result.now) (sym c.deref.ensures.value) c.in_ok-read_again.ensures.spelled in
     item_names world c.requires.world list c.requires.list n no_raw inside item c.bytes_of-bytes.result.now bytes c.args.unit c.deref.result.now c.requires.owned spelled
 
@@ -56,11 +56,11 @@ push_expression-requires-clause-fits c =
     let world = c.args.world.now in
     let list = c.args.list.now in
     let n : ℕ = c.loop-entry.entry-index in
-    let same = c.deref-entry-items.ensures.value in
-    let inside : n < length list.raw.items = subst (λ (z : List RawEntry). n < length z) same c.loop-entry-test.true in
-    let item : is_item (get_or list.raw.items n no_raw) ≡ true = ap (λ (z : List RawEntry). is_item (get_or z n no_raw)) (sym same) ∙ sym c.is_item.ensures ∙ c.if-not-is_item.false in
+    let same = c.deref-entry-items.ensures.value ∙ c.entries.ensures in
+    let inside : n < length list.raw = subst (λ (z : List RawEntry). n < length z) same c.loop-entry-test.true in
+    let item : is_item (get_or list.raw n no_raw) ≡ true = ap (λ (z : List RawEntry). is_item (get_or z n no_raw)) (sym same) ∙ sym c.is_item.ensures ∙ c.if-not-is_item.false in
     let section : c.section-section.result.now ≡ debug_lists world.image Locations = c.section-section.ensures in
-    let bytes : c.bytes_of-bytes.result.now ≡ bytes_in (debug_lists world.image Locations) (get_or list.raw.items n no_raw).expr = c.bytes_of-bytes.ensures ∙ ap (λ (z : List RawEntry). bytes_in c.section-section.result.now (get_or z n no_raw).expr) same ∙ ap (λ (z : List ℕ). bytes_in z (get_or list.raw.items n no_raw).expr) section in
+    let bytes : c.bytes_of-bytes.result.now ≡ bytes_in (debug_lists world.image Locations) (get_or list.raw n no_raw).expr = c.bytes_of-bytes.ensures ∙ ap (λ (z : List RawEntry). bytes_in c.section-section.result.now (get_or z n no_raw).expr) same ∙ ap (λ (z : List ℕ). bytes_in z (get_or list.raw n no_raw).expr) section in
     let spelled : IsExpression Narrow (all_meant c.bytes_of-bytes.result.now c.deref.result.now) c.bytes_of-bytes.result.now = subst (λ (z : List Op). IsExpression Narrow (all_meant c.bytes_of-bytes.result.now z) c.bytes_of-bytes.result.now) (sym c.deref.ensures.value) c.in_ok-read_again.ensures.spelled in
     item_fits world c.requires.world list c.requires.list n no_raw inside item c.bytes_of-bytes.result.now bytes c.deref.result.now c.slots_are_few.ensures.few spelled
 
@@ -69,10 +69,10 @@ loop-entry-preserved c =
     let world = c.args.world.now in
     let list = c.args.list.now in
     let n : ℕ = c.loop-entry.entry-index in
-    let same = c.deref-entry-items.ensures.value in
-    let inside : n < length list.raw.items = subst (λ (z : List RawEntry). n < length z) same c.loop-entry-test.true in
-    let item : is_item (get_or list.raw.items n no_raw) ≡ true = ap (λ (z : List RawEntry). is_item (get_or z n no_raw)) (sym same) ∙ sym c.is_item.ensures ∙ c.if-not-is_item.false in
+    let same = c.deref-entry-items.ensures.value ∙ c.entries.ensures in
+    let inside : n < length list.raw = subst (λ (z : List RawEntry). n < length z) same c.loop-entry-test.true in
+    let item : is_item (get_or list.raw n no_raw) ≡ true = ap (λ (z : List RawEntry). is_item (get_or z n no_raw)) (sym same) ∙ sym c.is_item.ensures ∙ c.if-not-is_item.false in
     let section : c.section-section.result.now ≡ debug_lists world.image Locations = c.section-section.ensures in
-    let bytes : c.bytes_of-bytes.result.now ≡ bytes_in (debug_lists world.image Locations) (get_or list.raw.items n no_raw).expr = c.bytes_of-bytes.ensures ∙ ap (λ (z : List RawEntry). bytes_in c.section-section.result.now (get_or z n no_raw).expr) same ∙ ap (λ (z : List ℕ). bytes_in z (get_or list.raw.items n no_raw).expr) section in
+    let bytes : c.bytes_of-bytes.result.now ≡ bytes_in (debug_lists world.image Locations) (get_or list.raw n no_raw).expr = c.bytes_of-bytes.ensures ∙ ap (λ (z : List RawEntry). bytes_in c.section-section.result.now (get_or z n no_raw).expr) same ∙ ap (λ (z : List ℕ). bytes_in z (get_or list.raw n no_raw).expr) section in
     let spelled : IsExpression Narrow (all_meant c.bytes_of-bytes.result.now c.deref.result.now) c.bytes_of-bytes.result.now = subst (λ (z : List Op). IsExpression Narrow (all_meant c.bytes_of-bytes.result.now z) c.bytes_of-bytes.result.now) (sym c.deref.ensures.value) c.in_ok-read_again.ensures.spelled in
-    item_more (unit_in world.units c.args.unit) (debug_lists world.image Locations) list.raw.items n no_raw inside c.args.slots.now.items c.loop-entry.slots.items c.loop-entry.invariant item c.push_expression.new.slots.items c.bytes_of-bytes.result.now (all_meant c.bytes_of-bytes.result.now c.deref.result.now) bytes spelled c.in_ok-push_expression.ensures
+    item_more (unit_in world.units c.args.unit) (debug_lists world.image Locations) list.raw n no_raw inside c.args.slots.now.items c.loop-entry.slots.items c.loop-entry.invariant item c.push_expression.new.slots.items c.bytes_of-bytes.result.now (all_meant c.bytes_of-bytes.result.now c.deref.result.now) bytes spelled c.in_ok-push_expression.ensures

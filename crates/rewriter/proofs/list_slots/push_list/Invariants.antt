@@ -8,4 +8,4 @@ use Rattle.rewriter.proofs.list_slots.push_list.Given as goal
 
 -- of the entries before
 abbrev pub invariant-loop-entry : goal.invariant-loop-entry
-invariant-loop-entry l = AddsListSlots (unit_in l.world.units l.unit) (expressions_of (debug_lists l.world.image Locations) (take l.entry-index l.list.raw.items)) l.fn.slots.items l.slots.items
+invariant-loop-entry l = AddsListSlots (unit_in l.world.units l.unit) (expressions_of (debug_lists l.world.image Locations) (take l.entry-index l.list.raw)) l.fn.slots.items l.slots.items

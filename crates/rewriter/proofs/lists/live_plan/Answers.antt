@@ -16,20 +16,20 @@ use Rattle.rewriter.proofs.lists.live_plan.Goals as goal
 pub unreachable-requires : goal.unreachable-requires
 unreachable-requires c =
     let held = held_list c.args.world.now.image c.args.world.now c.requires.world.r c.args.kind c.args.list.now c.requires.world.holds c.requires.list in
-    has_owner c.requires.world.r c.args.kind (list_at (lists_of c.requires.world.r c.args.kind) held.0) c.args.list.now held.2 c.args.items.now c.requires.items c.in_default.is
+    has_owner c.requires.world.r c.args.kind (list_at (lists_of c.requires.world.r c.args.kind) held.0) c.args.list.now held.2 c.args.items.now c.requires.items (sym c.owner.ensures ∙ c.in_default.is)
 
 pub of-indexes-requires : goal.of-indexes-requires
 of-indexes-requires c =
-    (c.args.world.now, c.args.addr.now, c.requires.maps, owner_context c.args.world.now Narrow c.requires.world c.args.kind c.args.list.now c.requires.list c.args.items.now c.requires.items c.in-Some.owner c.in-Some.is c.context-context.result c.context-context.ensures)
+    (c.args.world.now, c.args.addr.now, c.requires.maps, owner_context c.args.world.now Narrow c.requires.world c.args.kind c.args.list.now c.requires.list c.args.items.now c.requires.items c.in-Some.owner (sym c.owner.ensures ∙ c.in-Some.is) c.context-context.result c.context-context.ensures)
 
 pub least_in-requires-clause-table : goal.least_in-requires-clause-table
 least_in-requires-clause-table c =
-    let known = owner_context c.args.world.now Narrow c.requires.world c.args.kind c.args.list.now c.requires.list c.args.items.now c.requires.items c.in-Some.owner c.in-Some.is c.context-context.result c.context-context.ensures in
+    let known = owner_context c.args.world.now Narrow c.requires.world c.args.kind c.args.list.now c.requires.list c.args.items.now c.requires.items c.in-Some.owner (sym c.owner.ensures ∙ c.in-Some.is) c.context-context.result c.context-context.ensures in
     subst (λ (z : List ℕ). HasTable z c.context-context.result.table) (sym c.requires.addr) (context_table c.args.world.now Narrow c.requires.world c.context-context.result known)
 
 pub least_in-requires-clause-mapped : goal.least_in-requires-clause-mapped
 least_in-requires-clause-mapped c =
-    let known = owner_context c.args.world.now Narrow c.requires.world c.args.kind c.args.list.now c.requires.list c.args.items.now c.requires.items c.in-Some.owner c.in-Some.is c.context-context.result c.context-context.ensures in
+    let known = owner_context c.args.world.now Narrow c.requires.world c.args.kind c.args.list.now c.requires.list c.args.items.now c.requires.items c.in-Some.owner (sym c.owner.ensures ∙ c.in-Some.is) c.context-context.result c.context-context.ensures in
     c.of-indexes.ensures c.args.world.now c.args.addr.now c.requires.maps known
 
 pub least_in-requires-clause-few : goal.least_in-requires-clause-few
@@ -57,7 +57,7 @@ returns-clause-plan c =
     (λ plan is accepted few r old other holds held.
     let addr_is : addr ≡ r.links.addresses = c.requires.addr ∙ sym holds.addresses in
     let context_is : context ≡ context_at r.links c.in-Some.owner = c.context-context.ensures world.image r holds in
-    planned_by r kind old c.args.list.now held items c.requires.items c.entries_say.ensures.said c.entries_say.ensures.walk c.shortest_lists.ensures.shortest c.shortest_lists.ensures.planned addr c.bytes_are_small.ensures.small addr_is context c.in-Some.owner c.in-Some.is context_is plan is accepted few other)
+    planned_by r kind old c.args.list.now held items c.requires.items c.entries_say.ensures.said c.entries_say.ensures.walk c.shortest_lists.ensures.shortest c.shortest_lists.ensures.planned addr c.bytes_are_small.ensures.small addr_is context c.in-Some.owner (sym c.owner.ensures ∙ c.in-Some.is) context_is plan is accepted few other)
     c.least_in.ensures.planned c.least_in.ensures.accepted c.least_in.ensures.few
 
 pub returns-clause-potentials : goal.returns-clause-potentials
@@ -75,5 +75,5 @@ returns-clause-potentials c =
     (λ plan is accepted greatest r old holds held.
     let addr_is : addr ≡ r.links.addresses = c.requires.addr ∙ sym holds.addresses in
     let context_is : context ≡ context_at r.links c.in-Some.owner = c.context-context.ensures world.image r holds in
-    recorded_by r kind old c.args.list.now held items c.requires.items c.entries_say.ensures.said c.entries_say.ensures.walk c.shortest_lists.ensures.shortest c.shortest_lists.ensures.planned addr c.bytes_are_small.ensures.small addr_is context c.in-Some.owner c.in-Some.is context_is plan is accepted greatest)
+    recorded_by r kind old c.args.list.now held items c.requires.items c.entries_say.ensures.said c.entries_say.ensures.walk c.shortest_lists.ensures.shortest c.shortest_lists.ensures.planned addr c.bytes_are_small.ensures.small addr_is context c.in-Some.owner (sym c.owner.ensures ∙ c.in-Some.is) context_is plan is accepted greatest)
     c.least_in.ensures.planned c.least_in.ensures.accepted c.least_in.ensures.greatest

@@ -1,3 +1,4 @@
+use Rattle.std.proofs.Common.{◌∙◌, sym}
 use Rattle.std.specs.Prelude.{◌≢◌}
 use Rattle.std.proofs.lemmas.Result.{IfOk-weaker}
 use Rattle.list_model.specs.declared.item.Meaning.TheVariants.{Dead}
@@ -18,4 +19,4 @@ returns-in-Dead-clause-plan c =
 pub returns-in-Dead-clause-potentials : goal.returns-in-Dead-clause-potentials
 returns-in-Dead-clause-potentials c =
     let given : Plan → Type 0 = λ (plan : Plan). c.args.list.now.meaning ≢ Dead → ArePotentialsOf c.args.world.now c.args.kind c.args.list.now plan.potentials.items in
-    IfOk-weaker c.frozen_plan.result (λ (plan : Plan). (world : World) → IsPlanOf world c.args.kind c.args.list.now plan) given (λ plan each live. absurd (live c.in-Dead.is)) c.frozen_plan.ensures
+    IfOk-weaker c.frozen_plan.result (λ (plan : Plan). (world : World) → IsPlanOf world c.args.kind c.args.list.now plan) given (λ plan each live. absurd (live (sym c.meaning.ensures ∙ c.in-Dead.is))) c.frozen_plan.ensures

@@ -2,4 +2,4 @@ use Rattle.rewriter.specs.inside.NewPlaces.{AreMovedTo}
 use Rattle.rewriter.proofs.new_places.moved_views.Given as goal
 
 abbrev pub invariant-loop-number : goal.invariant-loop-number
-invariant-loop-number l = AreMovedTo l.views.items l.moved.items l.places.items l.number
+invariant-loop-number l = AreMovedTo l.views l.moved.items l.places.items l.number

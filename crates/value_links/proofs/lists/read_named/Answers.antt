@@ -9,7 +9,8 @@ use Rattle.value_links.specs.Reading.{ListSection, part_at}
 use Rattle.value_links.specs.Lists.{IsListOf}
 use Rattle.value_links.specs.Parts.{lists_in, section_held}
 use Rattle.value_links.specs.inside.Namings.{first_naming}
-use Rattle.value_links.specs.inside.NamedLists.{FaultLookingBy, FaultListOf, PassesBy, FaultNamed}
+use Rattle.value_links.specs.ListPlaces.{IsListPlace}
+use Rattle.value_links.specs.inside.NamedLists.{FaultLookingBy, FaultListOf, PassesBy, FaultNamed, IsReadBy}
 use Rattle.value_links.proofs.ListBytes.{refused_for, bytes_fault, total_fault}
 use Rattle.value_links.proofs.NamingPlaces.{part_is}
 use Rattle.value_links.proofs.PartPlaces.{part_stands}
@@ -65,3 +66,21 @@ returns-in_err-meaning-clause-fault c =
     rw (p.1, p.2) (refused_for (FaultLookingBy c.args.kind contexts named raws) (FaultNamed c.args.kind (section_held (lists_in c.args.parts.now c.args.kind)) contexts named c.args.reach before) (λ cause place f.
     subst (λ (z : Contributions). FaultNamed c.args.kind (section_held z) contexts named c.args.reach before cause place) c.lists-contributions.ensures
     (c.in-Some.part, c.in-Some.ensures, inr (inl (raws, read, f)))) c.args.origin c.in_err-meaning.field-0.0 c.in_err-meaning.ensures.fault)
+
+pub returns-clause-read : goal.returns-clause-read
+returns-clause-read c =
+    let named : List (ℕ × ℕ) = c.args.named.now in
+    let at : ℕ = (first_naming named).0 in
+    let raws : List RawEntry = c.in_ok-raw.raw.items in
+    let held : Contributions = c.lists-contributions.result.now in
+    let section : ListSection = section_held held in
+    let holder = part_is held.parts.items c.in-Some.part c.index-holder.result.now c.in-Some.ensures.0 c.index-holder.ensures in
+    let read : IsListOf c.args.kind section.section (part_at section c.in-Some.part) at raws = subst (λ (z : Contribution). IsListOf c.args.kind section.section z at raws) holder c.in_ok-raw.ensures.read in
+    subst (IsReadBy c.args.kind (section_held (lists_in c.args.parts.now c.args.kind)) c.args.parts.now.addr.now c.args.parts.now.contexts.items named) (sym c.new-list.ensures) (record {
+      at = refl;
+      begins = subst (λ (z : Contributions). IsListPlace (section_held z) c.in-Some.part at) c.lists-contributions.ensures c.in-Some.ensures;
+      owner = c.owner_of.ensures;
+      read = subst (λ (z : Contributions). IsListOf c.args.kind z.section.now (part_at (section_held z) c.in-Some.part) at raws) c.lists-contributions.ensures read;
+      looked = c.in_ok-meaning.ensures.looked;
+      kept = c.in_ok-meaning.ensures.kept;
+    })

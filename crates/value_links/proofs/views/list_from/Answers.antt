@@ -1,23 +1,12 @@
-use Rattle.std.proofs.Common.{rules, ◌∙◌, ℕ, sym, ap}
-use Rattle.std.proofs.lemmas.List.Sorted.{answers_always}
-use Rattle.list_model.proofs.Found.{found, not_found}
-use Rattle.value_links.specs.declared.lists.ListRead.{ListRead}
+use Rattle.std.proofs.Common.{◌∙◌, ap}
+use Rattle.std.proofs.lemmas.List.Elements.{Contains-get_or}
+use Rattle.list_arena.specs.Held.{HeldList}
 use Rattle.value_links.proofs.views.list_from.Goals as goal
 
-abbrev place_of : ListRead → ℕ
-place_of list = list.at
-
--- the closure gives where a list begins
 pub unreachable-requires : goal.unreachable-requires
 unreachable-requires c =
-    let (list, ((i, inside, same), here)) = c.requires.known in
-    let parted = c.in-Err.ensures.position place_of (answers_always _ _ _ (λ f a r g called. search rules)) in
-    not_found place_of c.args.lists.now list (λ i j. c.requires.apart i j list) c.args.place c.in-Err.field-0 parted i inside (ap place_of same ∙ here)
+    let (list, ((k, inside, is), here)) = c.requires.known in
+    c.in-None.ensures k list inside (ap (λ (z : HeldList). z.at) is ∙ here)
 
-pub returns : goal.returns
-returns c =
-    let lists = c.args.lists.now in
-    let list = c.index-lists-number.result in
-    let position = c.in-Ok.ensures.position place_of (answers_always _ _ _ (λ f a r g called. search rules)) in
-    let here = found place_of lists list (λ i j. c.requires.apart i j list) c.args.place c.in-Ok.number position in
-    ((c.in-Ok.number, c.in-Ok.ensures.bound, sym c.index-lists-number.is), ap place_of c.index-lists-number.is ∙ here)
+pub returns-clause-from : goal.returns-clause-from
+returns-clause-from c = λ d. (Contains-get_or c.args.lists.now c.in-Some.number d c.in-Some.ensures.0, c.in-Some.ensures.1 d)

@@ -61,8 +61,8 @@ returns-clause-views c =
     let within : total_for c.args.lists.now viewings ≤ view_limit = subst (λ (z : List (ℕ × ℕ)). total_for c.args.lists.now z ≤ view_limit) c.deref.ensures.value c.in_ok-check_total.ensures.few in
     let turns : AreTurned viewings turned = subst (λ (z : List (ℕ × ℕ)). AreTurned z turned) c.deref-2.ensures.value c.in_ok-turned.ensures in
     IfOk-weaker c.read_runs.result _ _ (λ views all. λ (file : List ℕ) (r : Linkable) (lists : List ListRead) (holds : HoldsParts file r c.args.parts.now) (are : AreListsOf r Locations lists) (hold : HoldLists r Locations lists c.args.lists.now).
-    views_are c.args.parts.now c.args.lists.now l viewings (c.in_ok-viewings.ensures.all l.0 l.1 l.3) (c.requires.parts.tiled Locations) file r holds (c.in_ok-viewings.ensures.all file r holds) c.in_ok-viewings.ensures.rising turned turns views.items
-    (subst (λ (z : List (ℕ × ℕ)). AreRunsRead (section_held c.args.parts.now.locations) c.args.lists.now z views.items) c.deref-3.ensures.value all) within lists are hold) c.read_runs.ensures.read
+    views_are c.args.parts.now c.args.lists.now l viewings (c.in_ok-viewings.ensures.all l.0 l.1 l.3) (c.requires.parts.tiled Locations) file r holds (c.in_ok-viewings.ensures.all file r holds) c.in_ok-viewings.ensures.rising turned turns views
+    (subst (λ (z : List (ℕ × ℕ)). AreRunsRead (section_held c.args.parts.now.locations) c.args.lists.now z views) c.deref-3.ensures.value all) within lists are hold) c.read_runs.ensures.read
 
 pub returns-clause-fault : goal.returns-clause-fault
 returns-clause-fault c =

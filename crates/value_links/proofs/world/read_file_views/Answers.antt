@@ -2,7 +2,7 @@ use Rattle.std.proofs.Common.{◌≡◌, ◌<◌, ◌+◌, ◌^◌, ◌∙◌, �
 use Rattle.std.proofs.lemmas.Result.{IfOk-weaker, IfErr-weaker}
 use Rattle.dw_base.specs.Refusals.{IsFaultOf, IsRefusedFor}
 use Rattle.list_model.specs.declared.entry.ListKind.TheVariants.{Locations}
-use Rattle.value_links.specs.declared.lists.ListRead.{ListRead as HeldList}
+use Rattle.list_arena.specs.Held.{HeldList}
 use Rattle.value_links.specs.Sections.{debug_info, debug_abbrev}
 use Rattle.value_links.specs.Reading.{ListRead, Linkable}
 use Rattle.value_links.specs.Lists.{AreListsOf}
@@ -24,7 +24,7 @@ pub read_view_runs-requires-clause-lists : goal.read_view_runs-requires-clause-l
 read_view_runs-requires-clause-lists c =
     let order = c.requires.parts.2 in
     let lists = (c.requires.lists order.r order.holds).1 in
-    (c.args.file.now, order.r, lists.location_lists, order.holds, lists.are_locations, subst (λ (z : List HeldList). HoldLists order.r Locations lists.location_lists z) (sym c.deref.ensures.value) lists.hold_locations)
+    (c.args.file.now, order.r, lists.location_lists, order.holds, lists.are_locations, lists.hold_locations)
 
 pub read_view_runs-requires-clause-room : goal.read_view_runs-requires-clause-room
 read_view_runs-requires-clause-room c =
@@ -36,8 +36,8 @@ pub returns-clause-views : goal.returns-clause-views
 returns-clause-views c =
     let file : List ℕ = c.args.file.now in
     let parts = c.args.parts.now in
-    let held : List HeldList = c.args.locations.now.items in
-    IfOk-weaker c.read_view_runs.result (λ views. (file : List ℕ) (r : Linkable) (read : List ListRead) → HoldsParts file r parts → AreListsOf r Locations read → HoldLists r Locations read c.deref.result.now → ViewsHeld r read views.items) (λ views. (r : Linkable) (read : List ListRead) → HoldsParts file r parts → AreListsOf r Locations read → HoldLists r Locations read held → ViewsHeld r read views.items) (λ views each r read holds are lists. each file r read holds are (subst (λ (z : List HeldList). HoldLists r Locations read z) (sym c.deref.ensures.value) lists)) c.read_view_runs.ensures.views
+    let held : List HeldList = c.args.locations.now in
+    IfOk-weaker c.read_view_runs.result (λ views. (file : List ℕ) (r : Linkable) (read : List ListRead) → HoldsParts file r parts → AreListsOf r Locations read → HoldLists r Locations read held → ViewsHeld r read views) (λ views. (r : Linkable) (read : List ListRead) → HoldsParts file r parts → AreListsOf r Locations read → HoldLists r Locations read held → ViewsHeld r read views) (λ views each r read holds are lists. each file r read holds are lists) c.read_view_runs.ensures.views
 
 pub returns-clause-refused : goal.returns-clause-refused
 returns-clause-refused c =

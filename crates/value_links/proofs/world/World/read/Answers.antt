@@ -36,13 +36,13 @@ pub read_file_views-requires-clause-sets : goal.read_file_views-requires-clause-
 read_file_views-requires-clause-sets c = (c.in_ok-sets.sets.items, c.in_ok-sets.ensures.sets)
 
 pub read_file_views-requires-clause-lists : goal.read_file_views-requires-clause-lists
-read_file_views-requires-clause-lists c = λ r holds. (c.in_ok-ranges.ranges.items, c.in_ok-ranges.ensures.lists r holds)
+read_file_views-requires-clause-lists c = λ r holds. (c.in_ok-ranges.ranges, c.in_ok-ranges.ensures.lists r holds)
 
 pub returns-in_err-views-clause-refused : goal.returns-in_err-views-clause-refused
 returns-in_err-views-clause-refused c = let refused = c.in_err-views.ensures.refused c.in_ok-image.ensures.order in let e = c.from_residual-in_err-views.ensures in grind (arith, refused, e)
 
 pub invariant_of-result : goal.invariant_of-result
-invariant_of-result c = world_held c.args.file.now c.in_ok-parts.parts (c.in_ok-check_parts.ensures.linked c.args.reach c.in_ok-image.ensures.order) c.in_ok-sets.sets.items c.in_ok-sets.ensures.sets c.args.reach c.in_ok-image.ensures.order c.in_ok-parts.ensures.operations c.in_ok-ranges.ranges.items c.in_ok-ranges.locations.items c.in_ok-ranges.ensures.lists c.in_ok-views.views.items c.in_ok-views.ensures.views c.in_ok-image.image c.in_ok-image.ensures.image
+invariant_of-result c = world_held c.args.file.now c.in_ok-parts.parts (c.in_ok-check_parts.ensures.linked c.args.reach c.in_ok-image.ensures.order) c.in_ok-sets.sets.items c.in_ok-sets.ensures.sets c.args.reach c.in_ok-image.ensures.order c.in_ok-parts.ensures.operations c.in_ok-ranges.ranges c.in_ok-ranges.locations c.in_ok-ranges.ensures.lists c.in_ok-views.views c.in_ok-views.ensures.views c.in_ok-image.image c.in_ok-image.ensures.image
 
 pub returns-clause-world : goal.returns-clause-world
-returns-clause-world c = world_read c.args.file.now c.in_ok-parts.parts (c.in_ok-check_parts.ensures.linked c.args.reach c.in_ok-image.ensures.order) c.in_ok-sets.sets.items c.in_ok-sets.ensures.sets c.args.reach c.in_ok-image.ensures.order c.in_ok-parts.ensures.operations c.in_ok-ranges.ranges.items c.in_ok-ranges.locations.items c.in_ok-ranges.ensures.lists c.in_ok-views.views.items c.in_ok-views.ensures.views c.in_ok-image.image c.in_ok-image.ensures.image
+returns-clause-world c = world_read c.args.file.now c.in_ok-parts.parts (c.in_ok-check_parts.ensures.linked c.args.reach c.in_ok-image.ensures.order) c.in_ok-sets.sets.items c.in_ok-sets.ensures.sets c.args.reach c.in_ok-image.ensures.order c.in_ok-parts.ensures.operations c.in_ok-ranges.ranges c.in_ok-ranges.locations c.in_ok-ranges.ensures.lists c.in_ok-views.views c.in_ok-views.ensures.views c.in_ok-image.image c.in_ok-image.ensures.image

@@ -1,0 +1,18 @@
+use Rattle.std.proofs.Common.{sym, arith}
+use Rattle.list_arena.proofs.ListLaws.{lists_count, raw_counted, row_at}
+use Rattle.list_arena.proofs.lists.Lists.entry_count.Goals as goal
+
+pub index-requires : goal.index-requires
+index-requires c = omega (arith, lists_count c.self.inside.long c.self.inside.rows.items c.self.inside.entries.items c.self.inside.items.items c.args.self.now c.self.view_is)
+
+pub begin-requires : goal.begin-requires
+begin-requires c = rw c.deref.ensures.value (omega (arith, lists_count c.self.inside.long c.self.inside.rows.items c.self.inside.entries.items c.self.inside.items.items c.args.self.now c.self.view_is))
+
+pub overflow_sub-result : goal.overflow_sub-result
+overflow_sub-result c =
+    let here = row_at c.self.inside.long c.self.inside.rows.items c.self.inside.entries.items c.self.inside.items.items c.args.self.now c.args.number c.index.result.now c.self.invariant c.self.view_is c.requires c.index.ensures in
+    rw (c.begin.ensures.entry, c.deref.ensures.value) here.entries
+
+pub returns : goal.returns
+returns c = λ d.
+    rw (c.begin.ensures.entry, c.deref.ensures.value) (sym (raw_counted c.self.inside.long c.self.inside.rows.items c.self.inside.entries.items c.self.inside.items.items c.args.self.now c.args.number c.index.result.now c.self.invariant c.self.view_is c.requires c.index.ensures d))
