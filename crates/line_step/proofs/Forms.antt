@@ -177,7 +177,7 @@ within_more : (range scale d n m : ℕ) → n ≤ m → AdvanceWithin range scal
 within_more range scale d n m h (inl many) = inl (omega arith)
 within_more range scale d n m h (inr a) = inr (form_more range scale d n m h a)
 
-within_none : (range scale d : ℕ) → AdvanceWithin range scale d 0 → d ≡ 0
+pub within_none : (range scale d : ℕ) → AdvanceWithin range scale d 0 → d ≡ 0
 within_none range scale d (inl many) = absurd (omega arith)
 within_none range scale d (inr a) = form_none range scale d a
 

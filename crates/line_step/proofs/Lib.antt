@@ -7,3 +7,4 @@ pub mod AddressWays
 pub mod Remainders
 pub mod RowWays
 pub mod NearWays
+pub mod ExactWays

@@ -5,8 +5,19 @@ ghost use Rattle.line_step.specs.Ways.{IsRowWay};
 ghost use Rattle.line_step.specs.inside.Search.{IsRemainderFor, IsLinePart, IsBestOfPart, IsBestOfParts};
 
 use crate::address::{LAST_SPECIAL, advance_way};
-use crate::way::{RowOpcode, RowWay};
+use crate::way::{AddressOpcodes, AddressWay, Advance, RowOpcode, RowWay};
 use leb_codec::len_s;
+
+// No opcode: the address stays.
+const NO_ADVANCE: AddressWay = AddressWay {
+    opcodes: AddressOpcodes::AdvanceBy(Advance {
+        operand: 0,
+        const_adds: 0,
+        fixed_adds: 0,
+        fixed_sum: 0,
+    }),
+    bytes: 0,
+};
 
 // The bytes of advance_line, which is left out where its operand is 0.
 fn advance_line_bytes(operand: i64) -> u32
@@ -154,6 +165,41 @@ fn copy_way(base: i8, range: u8, min: u8, line: i64, distance: u64) -> RowWay
     }
 }
 
+// The special opcode that makes a step alone, where one does and the step isn't one that copy makes alone: most steps of
+// programs are such, and no other way is as short.
+fn exact_way(base: i8, range: u8, min: u8, line: i64, distance: u64) -> Option<RowWay>
+    requires range { 0 < range }
+    requires scale { 0 < min }
+    requires low { neg_ℤ (pos (2 ^ 32)) ≤ℤ line }
+    requires high { line ≤ℤ pos (2 ^ 32) }
+    ensures way { IfSome result (IsRowWay base range min line distance) }
+    ensures few { IfSome result (λ way. way.bytes ≡ 1) }
+{
+    if line == 0 && distance == 0 {
+        return None;
+    }
+    let scale = u64::from(min);
+    let part = distance / scale;
+    let added = line - i64::from(base);
+    if distance % scale != 0
+        || part > u64::from(LAST_SPECIAL / range)
+        || added < 0
+        || added >= i64::from(range)
+    {
+        return None;
+    }
+    let special = part * u64::from(range) + added as u64;
+    if special > u64::from(LAST_SPECIAL) {
+        return None;
+    }
+    Some(RowWay {
+        address: NO_ADVANCE,
+        line: 0,
+        opcode: RowOpcode::Special(special as u8),
+        bytes: 1,
+    })
+}
+
 /// The way that is taken to step to a row: it has the fewest bytes, and among equals the least opcode, where copy is
 /// opcode 1 and below every special opcode. `base` is line_base, `range` is line_range and `min` is
 /// minimum_instruction_length, neither of these two 0; `line` is the line distance, from -2^32 to 2^32, and `distance`
@@ -166,6 +212,9 @@ pub fn step_way(base: i8, range: u8, min: u8, line: i64, distance: u64) -> RowWa
     ensures way { IsRowWay base range min line distance result }
     ensures few { result.bytes ≤ 18 }
 {
+    if let Some(way) = exact_way(base, range, min, line, distance) {
+        return way;
+    }
     let mut best = copy_way(base, range, min, line, distance);
     for part in 0..LAST_SPECIAL / range + 1 {
         best = better_step(best, base, range, min, line, distance, part);
