@@ -1,12 +1,11 @@
 -- How far opcodes of few bytes advance an address.
 use Rattle.std.proofs.Common.{◌≤◌, ◌<◌, ◌+◌, ◌-◌, ◌*◌, ◌/◌, ◌^◌, ℕ, arith, inl, inr}
 use Rattle.std.proofs.lemmas.Bool.{cases_lt}
-use Rattle.std.proofs.Math.Nat.{mul-le-mul_right, mul_assoc}
+use Rattle.std.proofs.Math.Nat.{mul-le-mul, mul-le-mul_right, mul_assoc}
 use Rattle.leb_codec.specs.LineCosts.{IsLeastCost, AdvanceWithin, address_distance, advance_pc_bytes}
 use Rattle.leb_codec.proofs.Lens.{fits_unsigned}
 use Rattle.line_step.proofs.Parts.{pc_some}
 use Rattle.line_sums.specs.inside.Windows.{PartWithin, farthest}
-use Rattle.line_sums.proofs.Prices.{reach_small}
 
 -- what advance_pc with its operand in so many bytes does at most
 operand_far : (scale operand n : ℕ) → advance_pc_bytes operand ≤ n → operand * scale ≤ (128 ^ (n - 1) - 1) * scale
@@ -28,6 +27,9 @@ within_farthest range scale distance n few (inr form) =
     let fixed : form.fixed_sum ≤ 65535 * (n / 3) = omega (arith, form.fixed, form.cost) in
     let operand = operand_far scale form.operand n (omega (arith, form.cost)) in
     omega (arith, form.exact, each, consts, fixed, operand)
+
+reach_small : (range scale : ℕ) → scale ≤ 255 → 242 / range * scale ≤ 61710
+reach_small range scale small = mul-le-mul {n₁ = 242 / range} {m₁ = scale} {n₂ = 242} {m₂ = 255} (omega arith) small
 
 -- an address that goes further than fewer bytes do takes so many before each opcode that appends a row
 far_low : (range scale part d a bytes : ℕ) → scale ≤ 255 → d < 2 ^ 64 → part ≤ 242 / range → bytes ≤ 8 → ((m : ℕ) → m < bytes → 242 / range * scale + farthest (242 / range * scale) scale m < d) → AdvanceWithin range scale (address_distance (part * scale) d) a → bytes ≤ a

@@ -1,4 +1,3 @@
-pub mod Beyond
 pub mod Bound
 pub mod Counted
 pub mod Farthest
@@ -7,6 +6,7 @@ pub mod FixedBytes
 pub mod Keeping
 pub mod Lengths
 pub mod LineRuns
+pub mod NearRuns
 pub mod Nearness
 pub mod Ordering
 pub mod Prices

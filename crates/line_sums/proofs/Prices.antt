@@ -1,21 +1,15 @@
 -- Prices of steps: what is enough for steps one by one is enough for them counted, and the other way round.
-use Rattle.std.proofs.Common.{◌≡◌, ◌≤◌, ◌<◌, ◌+◌, ◌*◌, ◌/◌, ◌%◌, ◌^◌, ◌++◌, ◌⊎◌, ◌∙◌, ℕ, List, [], ◌∷◌, take, drop, get_or, length, refl, sym, ap, subst, arith, inl, inr, zero, suc}
-use Rattle.std.specs.Prelude.{ℤ, pos, negsuc, neg_ℤ, ◌+ℤ◌, ◌-ℤ◌, ◌≤ℤ◌, All}
-use Rattle.std.proofs.lemmas.Int.{ints}
-use Rattle.std.proofs.Math.Nat.{mul-le-mul, mul-le-mul_right}
+use Rattle.std.proofs.Common.{◌≡◌, ◌≤◌, ◌<◌, ◌+◌, ◌*◌, ◌++◌, ◌⊎◌, ◌∙◌, ℕ, List, [], ◌∷◌, take, drop, get_or, length, refl, sym, ap, subst, arith, inl, inr, zero, suc}
+use Rattle.std.specs.Prelude.{ℤ, pos, negsuc}
+use Rattle.std.proofs.Math.Nat.{mul-le-mul}
 use Rattle.std.proofs.lemmas.Bool.{cases_lt, cases_eq}
-use Rattle.std.proofs.lemmas.Bool.Decides.{nat_tests}
-use Rattle.line_step.proofs.NearWays.{near}
-use Rattle.line_step.proofs.RowWays.{div_rises}
 use Rattle.std.proofs.lemmas.List.{take_more, take_all}
-use Rattle.std.proofs.lemmas.List.Elements.{All-head, All-tail}
-use Rattle.leb_codec.specs.LineCosts.{IsLeastCost, AdvanceWithin, address_distance, advance_line_bytes}
+use Rattle.leb_codec.specs.LineCosts.{IsLeastCost, AdvanceWithin, advance_line_bytes}
 use Rattle.line_sums.specs.declared.count.CountedStep.{CountedStep}
 use Rattle.line_sums.specs.declared.step.Step.{Step}
 use Rattle.line_sums.specs.declared.step.Step.TheVariants.{Row as RowStep, End as EndStep}
 use Rattle.line_sums.specs.Steps.{StepCosts, StepsWithin}
-use Rattle.line_sums.specs.Counting.{price_of, counted_price, IsCounted, ArePrices, CountedWithin, HasLine, HasCountedLine, floor_of, level, count_of}
-use Rattle.line_sums.proofs.Beyond.{beyond_low, beyond_few}
+use Rattle.line_sums.specs.Counting.{price_of, counted_price, IsCounted, ArePrices, CountedWithin, count_of}
 
 abbrev IsOrNot : Step → Step → Type 0
 IsOrNot t s = (t ≡ s) ⊎ (t ≡ s → ⊥)
@@ -190,96 +184,3 @@ count_part cs i = omega (arith, counted_split (λ _. 1) cs i)
 
 pub all_least : (base : ℤ) (range scale : ℕ) (cs : List CountedStep) (i sum : ℕ) → length cs ≤ i → IsLeastCost (CountedWithin base range scale (take i cs)) sum → IsLeastCost (CountedWithin base range scale cs) sum
 all_least base range scale cs i sum h least = rw (take_all i cs h) at least
-
-level_few : (reach distance : ℕ) → level reach distance ≤ 2
-level_few reach distance = grind (arith, nat_tests)
-
-level_one : (reach distance : ℕ) → distance ≤ reach → level reach distance ≡ 0
-level_one reach distance h = grind (arith, nat_tests)
-
-level_two : (reach distance : ℕ) → distance ≤ 2 * reach → level reach distance ≤ 1
-level_two reach distance h = grind (arith, nat_tests)
-
-pub reach_small : (range scale : ℕ) → scale ≤ 255 → 242 / range * scale ≤ 61710
-reach_small range scale small = mul-le-mul {n₁ = 242 / range} {m₁ = scale} {n₂ = 242} {m₂ = 255} (omega arith) small
-
--- an address that goes far takes bytes before each opcode that appends a row
-level_low : (range scale part d a : ℕ) → scale ≤ 255 → part ≤ 242 / range → AdvanceWithin range scale (address_distance (part * scale) d) a → level (242 / range * scale) (d % 2 ^ 64) ≤ a
-level_low range scale part d a small inside within =
-    let reach = reach_small range scale small in
-    let taken : part * scale ≤ 242 / range * scale = mul-le-mul_right scale inside in
-    elim (cases_lt 1 a) [
-      | inl many ↦ omega (arith, level_few (242 / range * scale) (d % 2 ^ 64))
-      | inr few ↦
-          elim (near range scale (address_distance (part * scale) d) a within few) [
-            | inl none ↦
-                let at : d % 2 ^ 64 ≤ 242 / range * scale = omega (arith, none, reach, taken) in
-                omega (arith, level_one (242 / range * scale) (d % 2 ^ 64) at)
-            | inr once ↦
-                let at : d % 2 ^ 64 ≤ 2 * (242 / range * scale) = omega (arith, once.1, reach, taken) in
-                omega (arith, level_two (242 / range * scale) (d % 2 ^ 64) at, once.0)
-          ]
-    ]
-
--- the same before copy
-copy_low : (range scale d a : ℕ) → scale ≤ 255 → AdvanceWithin range scale d a → level (242 / range * scale) (d % 2 ^ 64) ≤ a
-copy_low range scale d a small within =
-    let reach = reach_small range scale small in
-    elim (cases_lt 1 a) [
-      | inl many ↦ omega (arith, level_few (242 / range * scale) (d % 2 ^ 64))
-      | inr few ↦
-          elim (near range scale d a within few) [
-            | inl none ↦
-                let at : d % 2 ^ 64 ≤ 242 / range * scale = omega (arith, none) in
-                omega (arith, level_one (242 / range * scale) (d % 2 ^ 64) at)
-            | inr once ↦
-                let at : d % 2 ^ 64 ≤ 242 / range * scale = omega (arith, once.1, reach) in
-                omega (arith, level_one (242 / range * scale) (d % 2 ^ 64) at)
-          ]
-    ]
-
--- what is enough for a step is no less than its floor
-floor_low : (base : ℤ) (range scale : ℕ) (s : Step) (n : ℕ) → neg_ℤ (pos 128) ≤ℤ base → base ≤ℤ pos 127 → 0 < range → scale ≤ 255 → StepCosts base range scale s n → floor_of (242 / range * scale) (126 + range) s ≤ n
-floor_low base range scale (RowStep line distance) n from to some small (inl (a, within, cost)) =
-    let low = copy_low range scale distance a small within in
-    let none : line -ℤ pos 0 ≡ line = omega (arith, ints) in
-    let lines = beyond_low (126 + range) line (pos 0) (omega (arith, ints)) (omega (arith, ints)) in
-    omega (arith, low, lines, ap advance_line_bytes none, cost)
-floor_low base range scale (RowStep line distance) n from to some small (inr (s, few, (a, within, cost))) =
-    let low = level_low range scale (s / range) distance a small (div_rises s 242 range some few) within in
-    let below : s % range < range = omega arith in
-    let taken = base +ℤ pos (s % range) in
-    let left : line -ℤ taken ≡ line -ℤ base -ℤ pos (s % range) = omega (arith, ints) in
-    let lines = beyond_low (126 + range) line taken (omega (arith, ints, from)) (omega (arith, ints, below, to)) in
-    omega (arith, low, lines, ap advance_line_bytes left, cost)
-floor_low base range scale (EndStep distance) n from to some small (a, within, cost) = omega arith
-
--- the sum of some counted steps, and the floor of the rest
-pub rest_low : (base : ℤ) (range scale reach last : ℕ) (cs : List CountedStep) (i sum rest n : ℕ) → neg_ℤ (pos 128) ≤ℤ base → base ≤ℤ pos 127 → 0 < range → scale ≤ 255 → reach ≡ 242 / range * scale → last ≡ 126 + range → IsLeastCost (CountedWithin base range scale (take i cs)) sum → rest ≡ counted_price (floor_of reach last) (drop i cs) → CountedWithin base range scale cs n → sum + rest ≤ n
-rest_low base range scale reach last cs i sum rest n from to some small reach_is last_is before is within =
-    let price = within.paid in
-    let split = counted_split price cs i in
-    let low = before.least (counted_price price (take i cs)) (record { paid = price; enough = within.enough; cost = omega arith }) in
-    let floor = counted_falls price (floor_of reach last) (drop i cs) (λ s. rw (reach_is, last_is) (floor_low base range scale s (price s) from to some small (within.enough.each s))) in
-    omega (arith, split, low, floor, within.cost, is)
-
-floor_nine : (reach last : ℕ) (s : Step) → HasLine s → floor_of reach last s ≤ 9
-floor_nine reach last (RowStep line distance) within = omega (arith, level_few reach (distance % 2 ^ 64), beyond_few last line within.0 within.1)
-floor_nine reach last (EndStep distance) within = omega arith
-
--- the floor of counted steps is at most nine bytes each
-floor_few : (reach last : ℕ) (cs : List CountedStep) → All HasCountedLine cs → counted_price (floor_of reach last) cs ≤ 9 * count_of cs
-floor_few reach last [] lines = omega arith
-floor_few reach last (c ∷ cs) lines =
-    let one = mul-le-mul {n₁ = c.count} {m₁ = floor_of reach last c.step} {n₂ = c.count} {m₂ = 9} (omega arith) (floor_nine reach last c.step (All-head HasCountedLine c cs lines)) in
-    let rest = floor_few reach last cs (All-tail HasCountedLine c cs lines) in
-    omega (arith, one, rest)
-
-pub rest_few : (reach last : ℕ) (cs : List CountedStep) (i : ℕ) → All HasCountedLine cs → counted_price (floor_of reach last) (drop i cs) ≤ 9 * count_of cs
-rest_few reach last cs i lines = omega (arith, floor_few reach last cs lines, counted_split (floor_of reach last) cs i)
-
-pub floor_part : (reach last : ℕ) (cs : List CountedStep) (i : ℕ) → All HasCountedLine cs → counted_price (floor_of reach last) (take i cs) ≤ 9 * count_of cs
-floor_part reach last cs i lines = omega (arith, floor_few reach last cs lines, counted_split (floor_of reach last) cs i)
-
-pub level_is : (reach distance : ℕ) → (distance ≤ reach → level reach distance ≡ 0) × ((reach < distance) → distance ≤ 2 * reach → level reach distance ≡ 1) × (2 * reach < distance → level reach distance ≡ 2)
-level_is reach distance = (λ h. grind (arith, nat_tests), λ h l. grind (arith, nat_tests), λ h. grind (arith, nat_tests))

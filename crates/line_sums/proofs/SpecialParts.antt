@@ -1,6 +1,6 @@
 -- Laws of the special opcodes of a row by their parts.
 use Rattle.std.proofs.Common.{◌≡◌, ◌≤◌, ◌<◌, ◌+◌, ◌-◌, ◌*◌, ◌/◌, ◌%◌, ◌^◌, ◌⊎◌, ◌∙◌, ℕ, min, ap, sym, subst, arith, inl, inr}
-use Rattle.std.specs.Prelude.{ℤ, pos, ◌-ℤ◌}
+use Rattle.std.specs.Prelude.{ℤ, pos, ◌-ℤ◌, false}
 use Rattle.std.proofs.lemmas.Bool.{cases_lt}
 use Rattle.std.proofs.lemmas.Nat.{div-mul-add, mod-mul-add}
 use Rattle.std.proofs.Math.Nat.{div-add-mod, mul-le-mul_right, div-mul-le_self}
@@ -41,9 +41,10 @@ of_part range scale d s n some few within =
           inr (omega (arith, opcode_is s range (242 / range) same, div-add-mod 242 range), subst (λ (x : ℕ). AdvanceWithin range scale (address_distance (x * scale) d) n) same within)
     ]
 
--- the windows that the program takes
-pub both_windows : (range scale d parts : ℕ) (w : Windows) → 0 < range → parts ≡ 242 / range → w.wide.most ≡ range - 1 → IsLeastCost (PartWithin range scale d parts) w.wide.address → w.last.most ≡ 242 % range → IsLeastCost (AdvanceWithin range scale (address_distance (242 / range * scale) d)) w.last.address → AreWindows range scale d w
-both_windows range scale d parts w some is wide_is wide last_is last = record {
+-- the windows that the program takes: of both kinds, of those that add every number where the others take no fewer bytes, and of
+-- the last alone
+pub both_windows : (range scale d parts : ℕ) (w : Windows) → w.is_one ≡ false → 0 < range → parts ≡ 242 / range → w.wide.most ≡ range - 1 → IsLeastCost (PartWithin range scale d parts) w.wide.address → w.last.most ≡ 242 % range → IsLeastCost (AdvanceWithin range scale (address_distance (242 / range * scale) d)) w.last.address → AreWindows range scale d w
+both_windows range scale d parts w differ some is wide_is wide last_is last = record {
   wide = rw wide_is (wide_reached range scale d parts w.wide.address some is wide);
   last = rw last_is (last_reached range scale d w.last.address some last);
   covers = λ s n few within.
@@ -51,15 +52,22 @@ both_windows range scale d parts w some is wide_is wide last_is last = record {
         | inl p ↦ inl (omega (arith, wide_is, p.0), wide.least n (subst (λ (x : ℕ). PartWithin range scale d x n) (sym is) p.1))
         | inr p ↦ inr (omega (arith, last_is, p.0), last.least n p.1)
       ];
+  one = λ h. absurd (cc);
 }
 
-pub wide_windows : (range scale d parts : ℕ) (w : Windows) → 0 < range → parts ≡ 242 / range → w.wide.most ≡ range - 1 → IsLeastCost (PartWithin range scale d parts) w.wide.address → w.wide.address ≡ 0 → w.last ≡ w.wide → AreWindows range scale d w
-wide_windows range scale d parts w some is wide_is wide none same =
+pub wide_windows : (range scale d parts : ℕ) (w : Windows) → 0 < range → parts ≡ 242 / range → w.wide.most ≡ range - 1 → IsLeastCost (PartWithin range scale d parts) w.wide.address → ((n : ℕ) → AdvanceWithin range scale (address_distance (242 / range * scale) d) n → w.wide.address ≤ n) → w.last ≡ w.wide → AreWindows range scale d w
+wide_windows range scale d parts w some is wide_is wide low same =
     let reach : IsReached range scale d w.wide.most w.wide.address = rw wide_is (wide_reached range scale d parts w.wide.address some is wide) in
     record {
       wide = reach;
       last = rw same reach;
-      covers = λ s n few within. let below : s % range < range = omega arith in inl (omega (arith, wide_is), omega (arith, none));
+      covers = λ s n few within.
+          let below : s % range < range = omega arith in
+          elim (of_part range scale d s n some few within) [
+            | inl p ↦ inl (omega (arith, wide_is), wide.least n (subst (λ (x : ℕ). PartWithin range scale d x n) (sym is) p.1))
+            | inr p ↦ inl (omega (arith, wide_is), low n p.1)
+          ];
+      one = λ h. same;
     }
 
 pub last_windows : (range scale d : ℕ) (w : Windows) → 0 < range → 242 / range ≡ 0 → w.last.most ≡ 242 % range → IsLeastCost (AdvanceWithin range scale (address_distance (242 / range * scale) d)) w.last.address → w.wide ≡ w.last → AreWindows range scale d w
@@ -73,6 +81,7 @@ last_windows range scale d w some none last_is last same =
             | inl p ↦ absurd (omega (arith, none, p.1.1))
             | inr p ↦ inr (omega (arith, last_is, p.0), last.least n p.1)
           ];
+      one = λ h. sym same;
     }
 
 -- the best of a part more

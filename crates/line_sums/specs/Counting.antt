@@ -1,7 +1,6 @@
 -- The different steps of a program, each with how often it comes, and what they cost together.
 -- `base` is line_base, `range` is line_range, and `scale` is minimum_instruction_length.
-use Rattle.std.specs.Prelude.{◌≡◌, ◌≤◌, ◌+◌, ◌-◌, ◌*◌, ◌%◌, ◌^◌, if◌then◌else◌, nat_le, ℕ, ℤ, pos, negsuc, neg_ℤ, ◌≤ℤ◌, List, [], ◌∷◌, ⊤}
-use Rattle.leb_codec.specs.LineCosts.{advance_line_bytes}
+use Rattle.std.specs.Prelude.{◌≡◌, ◌≤◌, ◌+◌, ◌*◌, ◌^◌, ℕ, ℤ, pos, neg_ℤ, ◌≤ℤ◌, List, [], ◌∷◌, ⊤}
 use Rattle.line_sums.specs.declared.count.CountedStep.{CountedStep}
 use Rattle.line_sums.specs.declared.step.Step.{Step}
 use Rattle.line_sums.specs.declared.step.Step.TheVariants.{Row as RowStep, End as EndStep}
@@ -47,28 +46,6 @@ pub record CountedWithin (base : ℤ) (range scale : ℕ) (counted : List Counte
   pub paid : Step → ℕ
   pub enough : ArePrices base range scale paid
   pub cost : counted_price paid counted ≤ n
-
--- 0 for a distance that is reached at once, 1 for one that is reached at a second time, and 2 beyond
-abbrev pub level : ℕ → ℕ → ℕ
-level reach distance = if nat_le distance reach then 0 else (if nat_le distance (2 * reach) then 1 else 2)
-
--- What stays of a line distance when the nearest number from -128 to `last` is taken from it.
-abbrev pub lines_beyond : ℕ → ℤ → ℤ
-lines_beyond last (pos n) = pos (n - last)
-lines_beyond last (negsuc n) = neg_ℤ (pos (n - 127))
-
--- the greatest number that special opcodes add to the line under some line_base: line_base is at most 127, and they add up to
--- line_range - 1 to it
-abbrev pub last_line : ℕ → ℕ
-last_line range = 126 + range
-
--- Bytes that a step has at least under every line_base, where a special opcode and const_add_pc each advance the address by
--- at most `reach`, and special opcodes the line by -128 to `last`: the opcode that appends its row; an advance_line where the
--- line goes further, whose operand is at least as far from 0 as what stays; and one or two more where the address goes
--- further than a special opcode takes it, alone or after one const_add_pc.
-abbrev pub floor_of : ℕ → ℕ → Step → ℕ
-floor_of reach last (RowStep line distance) = 1 + advance_line_bytes (lines_beyond last line) + level reach (distance % 2 ^ 64)
-floor_of reach last (EndStep distance) = 3
 
 -- the bytes of the opcode that appends a step's row: one, or the three of end_sequence
 abbrev pub row_bytes : Step → ℕ

@@ -1,7 +1,6 @@
 // The address before a row's special opcode.
-ghost use Rattle.std.specs.Prelude.{◌≡◌, ◌≤◌, ◌<◌, ◌+◌, ◌-◌, ◌*◌, ◌/◌, ◌%◌, ◌^◌, ℕ};
+ghost use Rattle.std.specs.Prelude.{◌≡◌, ◌≤◌, ◌<◌, ◌+◌, ◌-◌, ◌*◌, ◌/◌, ◌%◌, ◌^◌, ℕ, true};
 ghost use Rattle.leb_codec.specs.LineCosts.{IsLeastCost, AdvanceWithin, last_special, address_distance};
-ghost use Rattle.line_sums.specs.Counting.{level};
 ghost use Rattle.line_sums.specs.inside.Windows.{PartWithin, AreWindows, farthest};
 
 use line_step::advance;
@@ -17,11 +16,12 @@ pub struct Window {
 }
 
 // The special opcodes that add up to line_range - 1 to line_base, and those that advance the address furthest, which may
-// add less. There may be only one of the two kinds, or one may be as good as both: then it stands twice.
+// add less. There may be only one of the two kinds, or one may be as good as both: then it stands twice, and `is_one` says so.
 #[derive(Clone, Copy, Debug)]
 pub struct Windows {
     pub wide: Window,
     pub last: Window,
+    pub is_one: bool,
 }
 
 // The bytes that advance the address before a special opcode that itself advances it by `part` instructions.
@@ -33,21 +33,6 @@ fn address_before(range: u8, min: u8, distance: u64, part: u8) -> u32
 {
     let taken = u64::from(part) * u64::from(min);
     advance(range, min, distance.wrapping_sub(taken))
-}
-
-/// The bytes that an address distance takes at least before an opcode that appends a row, where a special opcode and
-/// const_add_pc each advance the address by at most `reach`.
-pub fn bytes_beyond(reach: u64, distance: u64) -> u32
-    requires { reach < 2 ^ 32 }
-    ensures { result ≡ level reach distance }
-{
-    if distance <= reach {
-        0
-    } else if distance <= 2 * reach {
-        1
-    } else {
-        2
-    }
 }
 
 // The greatest operand of fixed_advance_pc, which takes 3 bytes.
@@ -131,21 +116,37 @@ pub fn windows_for(range: u8, min: u8, distance: u64) -> Windows
     ensures last_few { result.last.address ≤ 11 }
 {
     let parts = LAST_SPECIAL / range;
-    if parts > 0 {
-        let wide = Window {
-            most: range - 1,
-            address: least_before(range, min, distance, parts),
-        };
-        if wide.address == 0 {
-            return Windows { wide, last: wide };
-        }
-        return Windows {
-            wide,
-            last: last_window(range, min, distance),
-        };
+    if parts == 0 {
+        return one_kind(last_window(range, min, distance));
+    }
+    let wide = Window {
+        most: range - 1,
+        address: least_before(range, min, distance, parts),
+    };
+    if wide.address == 0 {
+        return one_kind(wide);
     }
     let last = last_window(range, min, distance);
-    Windows { wide: last, last }
+    // Those that add every number are as good where they take no more bytes.
+    if wide.address <= last.address {
+        return one_kind(wide);
+    }
+    Windows {
+        wide,
+        last,
+        is_one: false,
+    }
+}
+
+// Windows of one kind of special opcodes.
+fn one_kind(window: Window) -> Windows
+    ensures { result ≡ record { wide = window; last = window; is_one = true } }
+{
+    Windows {
+        wide: window,
+        last: window,
+        is_one: true,
+    }
 }
 
 // The special opcodes that advance the address furthest.

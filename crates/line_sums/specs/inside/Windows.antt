@@ -1,11 +1,12 @@
 -- The special opcodes of a row and its line distance, for runs of line_base. Private functions alone cite this. `scale` is
 -- minimum_instruction_length.
-use Rattle.std.specs.Prelude.{◌≡◌, ◌≤◌, ◌<◌, ◌+◌, ◌-◌, ◌*◌, ◌/◌, ◌%◌, ◌^◌, ◌⊎◌, ℕ, ℤ, pos, ◌-ℤ◌, ◌≤ℤ◌, ◌<ℤ◌}
+use Rattle.std.specs.Prelude.{◌≡◌, ◌≤◌, ◌<◌, ◌+◌, ◌-◌, ◌*◌, ◌/◌, ◌%◌, ◌^◌, ◌⊎◌, ℕ, ℤ, pos, ◌-ℤ◌, ◌≤ℤ◌, ◌<ℤ◌, IsTrue}
 use Rattle.leb_codec.specs.Leb.{least_signed_len}
 use Rattle.leb_codec.specs.LineCosts.{IsLeastCost, AdvanceWithin, RowWithin, StepWithin, last_special, special_advance, address_distance, advance_line_bytes}
 use Rattle.line_sums.specs.declared.line_run.LineRun.{LineRun}
 use Rattle.line_sums.specs.declared.sums.StepRun.{StepRun}
 use Rattle.line_sums.specs.declared.window.Windows.{Windows}
+use Rattle.line_sums.specs.Sums.{base_at}
 
 -- n bytes are enough to advance the address before a special opcode that itself advances it by some instructions,
 -- fewer than `parts`
@@ -26,6 +27,7 @@ pub record AreWindows (range scale distance : ℕ) (w : Windows) : Type 0 where
   pub last : IsReached range scale distance w.last.most w.last.address
   pub covers : (s n : ℕ) → s ≤ last_special → BeforeSpecial range scale distance s n →
       ((s % range ≤ w.wide.most) × (w.wide.address ≤ n)) ⊎ ((s % range ≤ w.last.most) × (w.last.address ≤ n))
+  pub one : IsTrue w.is_one → w.last ≡ w.wide
 
 -- the fewest bytes of a line distance that is lessened by a number up to `most`
 pub record IsLineCost (line : ℤ) (most bytes : ℕ) : Type 0 where
@@ -52,3 +54,11 @@ pub record IsLeastOfLen (len : ℕ) (value : ℤ) : Type 0 where
 -- had all of the bytes. `reach` is how far const_add_pc does.
 unfoldable pub farthest : ℕ → ℕ → ℕ → ℕ
 farthest reach scale bytes = bytes * reach + 65535 * (bytes / 3) + (128 ^ (bytes - 1) - 1) * scale
+
+-- the second number is the first and what a counted step costs under the line_base of a place
+pub record AddsRun (line : ℤ) (copy : ℕ) (w : Windows) (count place old new : ℕ) : Type 0 where
+  pub run : StepRun
+  pub right : IsStepRun (line -ℤ base_at place) copy w run
+  pub reached : run.low ≤ℤ (line -ℤ base_at place)
+  pub few : run.bytes ≤ copy
+  pub added : new ≡ old + count * run.bytes

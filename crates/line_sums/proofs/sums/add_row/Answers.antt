@@ -1,49 +1,24 @@
-use Rattle.std.proofs.Common.{◌≡◌, ◌≤◌, ◌<◌, ◌*◌, ◌∙◌, refl, arith}
+use Rattle.std.proofs.Common.{refl, arith}
 use Rattle.std.specs.Prelude.{FitsSigned}
 use Rattle.std.specs.Int.{w64}
-use Rattle.std.proofs.lemmas.Int.{ints, to_z-of_z}
-use Rattle.std.proofs.Math.Nat.{mul-le-mul}
-use Rattle.line_sums.proofs.RowSums.{row_more}
+use Rattle.std.proofs.lemmas.Int.{to_z-of_z}
+use Rattle.line_sums.proofs.RowSums.{run_adds}
 use Rattle.line_sums.proofs.SpecialParts.{copy_least}
 use Rattle.line_sums.proofs.sums.add_row.Goals as goal
 
-pub loop-from-init : goal.loop-from-init
-loop-from-init c = record { within = omega arith; added = λ place h. absurd (omega arith); left = λ place h inside. refl }
-
-pub loop-from-preserved : goal.loop-from-preserved
-loop-from-preserved c =
-    let further : c.loop-from.from < c.places_down_to-to.result = c.places_down_to-to.ensures.after c.loop-from.from (omega arith) (omega (arith, ints, c.step_run-run.ensures.below)) in
+pub returns-then-is_near-clause-added : goal.returns-then-is_near-clause-added
+returns-then-is_near-clause-added c = λ place inside.
     let line : FitsSigned w64 c.args.line = c.ranges.line in
     let bytes = simp to_z-of_z at c.line_bytes.ensures.bytes in
     let by_copy = copy_least c.args.range c.args.ways.now c.args.line c.args.distance c.line_bytes.result c.of-way.result.advance _ bytes c.of-way.ensures.right.advance refl in
-    record {
-      within = c.places_down_to-to.ensures.within;
-      added = row_more c.args.range c.args.ways.now c.args.line _ _ _ _ c.args.distance c.args.count _ c.loop-from.from c.places_down_to-to.result _ c.of-way.result.windows c.step_run-run.result c.args.sums.now c.loop-from.sums c.add_between.new.self (omega (arith, ints)) (omega (arith, ints)) (omega (arith, ints)) (omega (arith, ints))
-          c.of-way.ensures.right.windows by_copy c.step_run-run.ensures.run (omega (arith, c.step_run-run.ensures.few, c.line_bytes.ensures.few, c.of-way.ensures.right.few)) (cc (c.from.ensures, c.from-in-loop-from.ensures)) c.places_down_to-to.ensures.before c.add_between.ensures.added c.add_between.ensures.before (λ place later h. c.loop-from.invariant.left place later (omega (arith, c.places_down_to-to.ensures.within))) c.loop-from.invariant.added;
-      left = λ place h inside. c.add_between.ensures.after place h inside ∙ c.loop-from.invariant.left place (omega arith) inside;
-    }
+    let windows = c.of-way.result.windows in
+    let adds = simp to_z-of_z at (c.add_near.ensures windows refl (c.of-way.ensures.right.windows.one c.if-way.true) place inside) in
+    run_adds c.args.range c.args.ways.now c.args.line c.args.distance c.args.count _ place _ _ windows c.of-way.ensures.right.windows by_copy (omega (arith, c.line_bytes.ensures.few, c.of-way.ensures.right.few)) adds
 
-pub returns-clause-added : goal.returns-clause-added
-returns-clause-added c = λ place h.
+pub returns-else-way-clause-added : goal.returns-else-way-clause-added
+returns-else-way-clause-added c = λ place inside.
     let line : FitsSigned w64 c.args.line = c.ranges.line in
-    simp to_z-of_z at (c.loop-from.invariant.added place (omega arith))
-
-pub add_between-requires-clause-order : goal.add_between-requires-clause-order
-add_between-requires-clause-order c =
-    let further : c.loop-from.from < c.places_down_to-to.result = c.places_down_to-to.ensures.after c.loop-from.from (omega arith) (omega (arith, ints, c.step_run-run.ensures.below)) in
-    omega arith
-
-pub add_between-requires-clause-room : goal.add_between-requires-clause-room
-add_between-requires-clause-room c = λ place later h.
-    let bytes : c.step_run-run.result.bytes ≤ 18 = omega (arith, c.step_run-run.ensures.few, c.line_bytes.ensures.few, c.of-way.ensures.right.few) in
-    let amount : c.args.count * c.step_run-run.result.bytes ≤ 4294967295 * 18 = mul-le-mul {n₁ = c.args.count} {m₁ = c.step_run-run.result.bytes} {n₂ = 4294967295} {m₂ = 18} (omega arith) bytes in
-    let same : c.from.result * c.from-in-loop-from.result ≡ c.args.count * c.step_run-run.result.bytes = cc (c.from.ensures, c.from-in-loop-from.ensures) in
-    let inside : place < 256 = omega (arith, c.places_down_to-to.ensures.within) in
-    let old = c.loop-from.invariant.left place later inside in
-    let room = c.requires.room place inside in
-    omega (arith, amount, same, old, room)
-
-pub loop-from-smaller : goal.loop-from-smaller
-loop-from-smaller c =
-    let further : c.loop-from.from < c.places_down_to-to.result = c.places_down_to-to.ensures.after c.loop-from.from (omega arith) (omega (arith, ints, c.step_run-run.ensures.below)) in
-    omega arith
+    let bytes = simp to_z-of_z at c.line_bytes.ensures.bytes in
+    let by_copy = copy_least c.args.range c.args.ways.now c.args.line c.args.distance c.line_bytes.result c.of-way.result.advance _ bytes c.of-way.ensures.right.advance refl in
+    let adds = simp to_z-of_z at (c.add_runs.ensures place inside) in
+    run_adds c.args.range c.args.ways.now c.args.line c.args.distance c.args.count _ place _ _ c.of-way.result.windows c.of-way.ensures.right.windows by_copy (omega (arith, c.line_bytes.ensures.few, c.of-way.ensures.right.few)) adds

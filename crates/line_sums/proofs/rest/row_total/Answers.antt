@@ -4,7 +4,7 @@ use Rattle.line_sums.specs.declared.step.Step.TheVariants.{Row as RowStep}
 use Rattle.line_sums.proofs.Prices.{counted_more, count_more}
 use Rattle.line_sums.specs.Counting.{row_bytes}
 use Rattle.line_sums.proofs.Summing.{first_few}
-use Rattle.line_sums.proofs.floors.row_total.Goals as goal
+use Rattle.line_sums.proofs.rest.row_total.Goals as goal
 
 pub loop-counted_step-preserved : goal.loop-counted_step-preserved
 loop-counted_step-preserved c =

@@ -3,7 +3,7 @@ use Rattle.std.specs.Prelude.{pos}
 use Rattle.line_sums.specs.declared.step.Step.TheVariants.{Row as RowStep}
 use Rattle.line_sums.specs.Counting.{row_bytes}
 use Rattle.line_sums.proofs.Summing.{summed_more, summed_small}
-use Rattle.line_sums.proofs.floors.add_next.Goals as goal
+use Rattle.line_sums.proofs.rest.add_next.Goals as goal
 
 pub add_step-requires-clause-room : goal.add_step-requires-clause-room
 add_step-requires-clause-room c = λ place h.
