@@ -1,4 +1,5 @@
-// The plain search that the proved least pairs are measured against: it draws the same programs and looks for their pairs.
+// The plain search that the proved least pairs are measured against: it draws the same programs and looks for their pairs
+// and for the runs of their records.
 // Build: rustc -O --edition 2021 -C target-cpu=x86-64-v2 bench/plain/pairs.rs -o pairs. Run: pairs COUNT.
 use costs::{len_s, line_bytes, operand_bytes};
 use draws::Draws;
@@ -146,16 +147,6 @@ fn add_step(sums: &mut [u64; 256], range: u8, min: u8, step: Step, count: u32) {
     }
 }
 
-fn floor_bytes(range: u8, min: u8, step: Step, count: u32) -> u64 {
-    let reach = u64::from(LAST_SPECIAL / range) * u64::from(min);
-    let each = match step {
-        Step::Row(_, distance) if distance <= reach => 1,
-        Step::Row(_, distance) if distance <= 2 * reach => 2,
-        _ => 3,
-    };
-    each * u64::from(count)
-}
-
 fn counts(steps: impl Iterator<Item = Step>) -> Vec<(Step, u32)> {
     let mut places = HashMap::new();
     let mut counted: Vec<(Step, u32)> = Vec::new();
@@ -171,33 +162,108 @@ fn counts(steps: impl Iterator<Item = Step>) -> Vec<(Step, u32)> {
     counted
 }
 
-// The least pair: the first one where it is as good as any, then the least range, then the least base.
-fn least_pair(base: i8, range: u8, min: u8, counted: &[(Step, u32)]) -> (i8, u8) {
+// A pair of line_base and line_range, and the bytes of the steps under it.
+#[derive(Clone, Copy)]
+struct Choice {
+    base: i8,
+    range: u8,
+    bytes: u64,
+}
+
+fn sums_of(range: u8, min: u8, counted: &[(Step, u32)]) -> [u64; 256] {
     let mut sums = [0; 256];
     for &(step, count) in counted {
         add_step(&mut sums, range, min, step, count);
     }
-    let mut best = (sums[(i64::from(base) + 128) as usize], (base, range));
-    'ranges: for range in 1..=255 {
-        sums = [0; 256];
-        let mut rest: u64 = counted.iter().map(|&(step, count)| floor_bytes(range, min, step, count)).sum();
-        if rest >= best.0 {
-            continue;
+    sums
+}
+
+fn first_least(sums: &[u64; 256], range: u8) -> Choice {
+    let least = *sums.iter().min().expect("256 sums");
+    let place = sums.iter().position(|&sum| sum == least).expect("the least one");
+    Choice { base: (place as i64 - 128) as i8, range, bytes: least }
+}
+
+// The pair to begin with: that of the head, or a better one of some line_ranges.
+fn first_choice(base: i8, range: u8, min: u8, counted: &[(Step, u32)]) -> Choice {
+    let own = sums_of(range, min, counted)[(i64::from(base) + 128) as usize];
+    let mut best = Choice { base, range, bytes: own };
+    for range in [12, 14, 18, 22, 242] {
+        let other = first_least(&sums_of(range, min, counted), range);
+        if other.bytes < best.bytes {
+            best = other;
         }
-        for (index, &(step, count)) in counted.iter().enumerate() {
-            add_step(&mut sums, range, min, step, count);
-            rest -= floor_bytes(range, min, step, count);
-            if (index + 1).is_power_of_two() && sums.iter().all(|sum| sum + rest >= best.0) {
-                continue 'ranges;
-            }
+    }
+    best
+}
+
+fn row_bytes(step: Step, count: u32) -> u64 {
+    let each = if matches!(step, Step::Row(..)) { 1 } else { 3 };
+    each * u64::from(count)
+}
+
+fn give(numbers: &mut [u32; 256], sums: &[u64; 256], all: u32, number: u32, rest: u64, bytes: u64) {
+    for (own, sum) in numbers.iter_mut().zip(sums) {
+        if *own == all && sum + rest >= bytes {
+            *own = number;
         }
-        for (place, &sum) in sums.iter().enumerate() {
-            if sum < best.0 {
-                best = (sum, ((place as i64 - 128) as i8, range));
+    }
+}
+
+// The numbers of the pairs of a line_range, or a better choice.
+fn try_range(own: (i8, u8), range: u8, min: u8, counted: &[(Step, u32)], total: u64, best: Choice) -> Result<[u32; 256], Choice> {
+    let all = counted.len() as u32;
+    let mut numbers = [all; 256];
+    let mut sums = [0; 256];
+    let mut rest = total;
+    let may_come = range <= best.range && (best.base, best.range) != own;
+    let limit = best.bytes + u64::from(may_come);
+    for (index, &(step, count)) in counted.iter().enumerate() {
+        let round = index == 0 || index.is_power_of_two();
+        if round {
+            give(&mut numbers, &sums, all, index as u32, rest, best.bytes);
+        }
+        if (round || index % 32 == 0) && sums.iter().all(|sum| sum + rest >= limit) {
+            let next = if index == 0 { 0 } else { index.next_power_of_two().min(counted.len()) };
+            give(&mut numbers, &sums, all, next as u32, rest, best.bytes);
+            return Ok(numbers);
+        }
+        add_step(&mut sums, range, min, step, count);
+        rest -= row_bytes(step, count);
+    }
+    let other = first_least(&sums, range);
+    let comes_first = may_come && (range < best.range || other.base < best.base);
+    if other.bytes < best.bytes || (other.bytes == best.bytes && comes_first) {
+        Err(other)
+    } else {
+        Ok(numbers)
+    }
+}
+
+// Runs of pairs with equal numbers, each with its length, against a choice; or a better choice.
+fn try_ranges(own: (i8, u8), min: u8, counted: &[(Step, u32)], best: Choice) -> Result<Vec<(u32, u32)>, Choice> {
+    let total = counted.iter().map(|&(step, count)| row_bytes(step, count)).sum();
+    let mut runs: Vec<(u32, u32)> = Vec::new();
+    for range in 1..=255 {
+        for number in try_range(own, range, min, counted, total, best)? {
+            match runs.last_mut() {
+                Some((len, last)) if *last == number => *len += 1,
+                _ => runs.push((1, number)),
             }
         }
     }
-    best.1
+    Ok(runs)
+}
+
+// The least pair, the first one where it is as good as any, then the least range, then the least base; and its runs.
+fn least_pair(base: i8, range: u8, min: u8, counted: &[(Step, u32)]) -> (Choice, Vec<(u32, u32)>) {
+    let mut best = first_choice(base, range, min, counted);
+    loop {
+        match try_ranges((base, range), min, counted, best) {
+            Ok(runs) => return (best, runs),
+            Err(better) => best = better,
+        }
+    }
 }
 
 fn drawn_steps(draws: &mut Draws, count: u32, min: u8) -> Vec<Step> {
@@ -223,8 +289,9 @@ fn main() {
     for _ in 0..count {
         let min = if draws.below(2) == 0 { 1 } else { 4 };
         let steps = drawn_steps(&mut draws, 200, min);
-        let (base, range) = least_pair(-5, 14, min, &counts(steps.into_iter()));
-        sum = sum.wrapping_mul(31).wrapping_add(u64::from(range)).wrapping_add((i64::from(base) + 128) as u64);
+        let (pair, runs) = least_pair(-5, 14, min, &counts(steps.into_iter()));
+        let numbers = u64::from(pair.range) + (i64::from(pair.base) + 128) as u64 + runs.len() as u64;
+        sum = sum.wrapping_mul(31).wrapping_add(numbers);
     }
     println!("{count} pairs, sum {sum}");
 }

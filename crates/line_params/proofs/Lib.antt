@@ -4,6 +4,7 @@ pub mod Full
 pub mod Joining
 pub mod Numbering
 pub mod PairLaws
+pub mod Powers
 pub mod Rowwise
 pub mod Rowwork
 pub mod Running

@@ -1,6 +1,7 @@
 -- The least pair and the shortest program under it are together the member of the class that is taken.
 use Rattle.std.proofs.Common.{◌≡◌, ◌≤◌, ◌+◌, ℕ, List, length, sym, subst, arith}
 use Rattle.std.specs.Prelude.{ℤ}
+use Rattle.leb_codec.specs.LineCosts.{IsLeastCost}
 use Rattle.line_machine.specs.declared.head.Head.{Head}
 use Rattle.line_machine.specs.declared.registers.Row.{Row}
 use Rattle.line_machine.specs.Class.{Encoding, IsEncoding, IsTaken}
@@ -27,6 +28,14 @@ choice_taken head rows pair program h chosen member short =
           let e : cost.0 ≡ chosen.bytes = omega (arith, same, size, cost.2, chosen.least other.base other.range cost.0 is.pair cost.1) in
           chosen.first other.base other.range is.pair (subst (λ (k : ℕ). StepsWithin other.base other.range head.min (steps_of rows) k) e cost.1);
     }
+
+-- the program has the bytes that no pair changes and those of the steps
+pub written_bytes : (head : Head) (rows : List Row) (base : ℤ) (pair : Pair) (bytes : ℕ) (program : List ℕ) → head.min ≤ 255 → base ≡ pair.base → IsLeastCost (StepsWithin pair.base pair.range head.min (steps_of rows)) bytes → IsEncoding head rows (record { base = base; range = pair.range; bytes = program }) → ((k : ℕ) → StepsWithin base pair.range head.min (steps_of rows) k → length program ≤ fixed_bytes head.stmt rows + k) → fixed_bytes head.stmt rows + bytes ≡ length program
+written_bytes head rows base pair bytes program h same least member short =
+    let cost = no_shorter head rows (record { base = base; range = pair.range; bytes = program }) h member in
+    let low = least.least cost.0 (subst (λ (z : ℤ). StepsWithin z pair.range head.min (steps_of rows) cost.0) same cost.1) in
+    let high = short bytes (subst (λ (z : ℤ). StepsWithin z pair.range head.min (steps_of rows) bytes) (sym same) least.enough) in
+    omega (arith, low, high, cost.2)
 
 -- the same, where the numbers of the pair and the rows are named otherwise
 pub written_taken : (head : Head) (rows others : List Row) (base : ℤ) (pair : Pair) (program : List ℕ) → head.min ≤ 255 → base ≡ pair.base → others ≡ rows → IsLeastPair head (steps_of others) pair → IsEncoding head others (record { base = base; range = pair.range; bytes = program }) → ((k : ℕ) → StepsWithin base pair.range head.min (steps_of others) k → length program ≤ fixed_bytes head.stmt others + k) → IsTaken head rows (record { base = base; range = pair.range; bytes = program })

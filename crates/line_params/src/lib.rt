@@ -21,10 +21,9 @@ mod write;
 
 pub use dw_base::Run;
 pub use line_sums::Step;
-pub use pair::{Pair, least_pair};
+pub use pair::{LeastPair, Pair, least_pair};
 pub use program::{Program, shrink_program};
 pub use rows::write_rows;
-pub use runs::pair_runs;
 pub use write::put_opcode;
 
 /// Laws of the shortest bytes of opcodes: they spell them, and none that do are shorter.

@@ -131,8 +131,8 @@ fn no_pair_is_better(rt: HostRuntime) -> Result<(), Fail> {
         let head = Head { min: *min, ..HEAD };
         let rows = rows_of(rt.alloc(), steps)?;
         assert!(rt; are_rows(&rows));
-        let pair = least_pair(rt.alloc(), &head, &rows).map_err(|_| "no memory")?;
-        assert_eq!(rt; pair, plain_pair(*min, steps));
+        let least = least_pair(rt.alloc(), &head, &rows).map_err(|_| "no memory")?;
+        assert_eq!(rt; least.pair, plain_pair(*min, steps));
     }
     Ok(())
 }
@@ -147,11 +147,11 @@ fn equal_steps_are_counted(rt: HostRuntime) -> Result<(), Fail> {
     }
     rows.push(end((4 << 20) + 4)).map_err(|_| "no memory")?;
     assert!(rt; are_rows(&rows));
-    let pair = least_pair(rt.alloc(), &HEAD, &rows).map_err(|_| "no memory")?;
+    let least = least_pair(rt.alloc(), &HEAD, &rows).map_err(|_| "no memory")?;
     let want = Pair {
         base: -45,
         range: 49,
     };
-    assert_eq!(rt; pair, want);
+    assert_eq!(rt; least.pair, want);
     Ok(())
 }

@@ -4,9 +4,8 @@ ghost use Rattle.line_machine.specs.Class.{IsTaken, AreRows};
 ghost use Rattle.line_sums.specs.Accepted.{AreLeastRuns};
 ghost use Rattle.line_params.specs.Order.{AreInOrder};
 
-use crate::pair::least_pair;
+use crate::pair::{Pair, least_pair};
 use crate::rows::write_rows;
-use crate::runs::pair_runs;
 use dw_base::{NoMemory, Run};
 use line_machine::{Head, Row};
 use std::alloc::Global;
@@ -21,7 +20,7 @@ pub struct Program {
     /// The opcodes.
     pub bytes: Vec<u8>,
     /// Why no program under any pair is shorter: for each pair the least number of different steps that shows it, as
-    /// `pair_runs` says.
+    /// `least_pair` says.
     pub runs: Vec<Run>,
 }
 
@@ -44,13 +43,13 @@ pub fn shrink_program(alloc: Global, head: &Head, rows: &Vec<Row>) -> Result<Pro
     // Read here, so that the proof knows it for a byte.
     let _scale = head.min;
     let rows = rows.as_slice();
-    let pair = least_pair(alloc, head, rows)?;
-    let bytes = write_rows(alloc, head, pair.base, pair.range, rows)?;
-    let runs = pair_runs(alloc, head, rows, bytes.len() as u64)?;
+    let least = least_pair(alloc, head, rows)?;
+    let Pair { base, range } = least.pair;
+    let bytes = write_rows(alloc, head, base, range, rows)?;
     Ok(Program {
-        base: pair.base,
-        range: pair.range,
+        base,
+        range,
         bytes,
-        runs,
+        runs: least.runs,
     })
 }

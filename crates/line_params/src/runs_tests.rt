@@ -1,25 +1,10 @@
 // Runs of pairs and ordered steps that were found by hand.
-ghost use Rattle.std.specs.Prelude.{◌<◌};
-ghost use Rattle.line_machine.specs.Class.{AreRows};
-
+use crate::least_pair;
 use crate::tests::{HEAD, are_rows, end, row};
-use crate::{least_pair, pair_runs, write_rows};
-use dw_base::{NoMemory, Run};
-use line_machine::{Head, Row};
+use dw_base::Run;
+use line_machine::Row;
 use line_sums::{CountedStep, Step, count_steps};
-use std::alloc::Global;
 use std::test::Fail;
-
-// The runs of rows against the shortest program that gives them.
-fn least_runs(alloc: Global, head: &Head, rows: &[Row]) -> Result<Vec<Run>, NoMemory>
-    requires rows { AreRows rows.now }
-    requires scale { 0 < head.now.min }
-    requires range { 0 < head.now.range }
-{
-    let pair = least_pair(alloc, head, rows)?;
-    let bytes = write_rows(alloc, head, pair.base, pair.range, rows)?;
-    pair_runs(alloc, head, rows, bytes.len() as u64)
-}
 
 // No step; one that takes no more than its opcode; one that takes a byte more under each pair, or two; and two, of which a
 // special opcode makes the first under the pair 2 and 1 alone: there the bytes of both are needed, elsewhere those of the first.
@@ -64,8 +49,8 @@ fn known_runs_are_found(rt: HostRuntime) -> Result<(), Fail> {
     ];
     for (rows, want) in table {
         assert!(rt; are_rows(rows));
-        let runs = least_runs(rt.alloc(), &HEAD, rows).map_err(|_| "no memory")?;
-        assert_eq!(rt; runs.as_slice(), want);
+        let least = least_pair(rt.alloc(), &HEAD, rows).map_err(|_| "no memory")?;
+        assert_eq!(rt; least.runs.as_slice(), want);
     }
     Ok(())
 }

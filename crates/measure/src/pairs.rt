@@ -75,8 +75,8 @@ fn drawn_rows(alloc: Global, draws: &mut Draws, count: u32, min: u8) -> Result<V
     Ok(rows)
 }
 
-/// The sum of line_base and line_range of the least pairs of so many drawn programs with 200 rows each, where the pair of
-/// the head is -5 and 14 and an instruction has 1 or 4 bytes.
+/// The sum of line_base and line_range of the least pairs of so many drawn programs with 200 rows each, and of how many runs
+/// their records have, where the pair of the head is -5 and 14 and an instruction has 1 or 4 bytes.
 pub fn sum_of_pairs(alloc: Global, count: u32) -> Result<u64, NoMemory> {
     let mut draws = Draws::default();
     let mut sum = 0u64;
@@ -94,11 +94,12 @@ pub fn sum_of_pairs(alloc: Global, count: u32) -> Result<u64, NoMemory> {
             tables: SPAN,
             program: SPAN,
         };
-        let pair = least_pair(alloc, &head, &rows)?;
+        let least = least_pair(alloc, &head, &rows)?;
         sum = sum
             .wrapping_mul(31)
-            .wrapping_add(u64::from(pair.range))
-            .wrapping_add((i64::from(pair.base) + 128) as u64);
+            .wrapping_add(u64::from(least.pair.range))
+            .wrapping_add((i64::from(least.pair.base) + 128) as u64)
+            .wrapping_add(least.runs.len() as u64);
     }
     Ok(sum)
 }

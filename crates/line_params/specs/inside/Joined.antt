@@ -1,7 +1,9 @@
 -- Runs of equal numbers, one number after the other. Private functions alone cite this.
-use Rattle.std.specs.Prelude.{◌+◌, ◌<◌, ◌^◌, ◌==◌, if◌then◌else◌, ℕ, List, [], ◌∷◌, All}
+use Rattle.std.specs.Prelude.{◌+◌, ◌<◌, ◌^◌, ◌==◌, if◌then◌else◌, ℕ, List, [], ◌∷◌, All, slice_index}
 use Rattle.dw_base.specs.declared.record.Run.{Run}
-use Rattle.leb_codec.specs.Records.{NeighboursDiffer}
+use Rattle.leb_codec.specs.Records.{NeighboursDiffer, AreRuns, IsRun, pair_count}
+use Rattle.line_sums.specs.declared.count.CountedStep.{CountedStep}
+use Rattle.line_sums.specs.Accepted.{IsLeastNumber, pair_base, pair_range, numbers_of}
 
 -- a number more: the last run has one more, where it has that number, or a new one is behind it
 abbrev pub with_number : List Run → ℕ → List Run
@@ -18,3 +20,9 @@ pub record IsSome (run : Run) : Type 0 where
 pub record AreJoined (runs : List Run) : Type 0 where
   pub each : All IsSome runs
   pub differ : NeighboursDiffer runs
+
+-- the runs give to each pair the least number that is accepted of counted steps against so many bytes
+pub record AreLeastRunsOf (scale bytes : ℕ) (counted : List CountedStep) (runs : List Run) : Type 0 where
+  pub whole : AreRuns runs
+  pub fit : All IsRun runs
+  pub least : (pair : ℕ) → pair < pair_count → IsLeastNumber (pair_base pair) (pair_range pair) scale 0 bytes counted (slice_index (numbers_of runs) pair)

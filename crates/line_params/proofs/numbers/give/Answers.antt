@@ -3,6 +3,3 @@ use Rattle.line_params.proofs.numbers.give.Goals as goal
 
 pub returns-clause-each : goal.returns-clause-each
 returns-clause-each c = λ place lt. c.loop-place.invariant.each place (omega arith)
-
-pub returns-clause-done : goal.returns-clause-done
-returns-clause-done c = λ done place lt. c.loop-place.invariant.done done place (omega arith)
