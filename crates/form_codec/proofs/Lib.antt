@@ -5,3 +5,4 @@ pub mod ReadLaws
 pub mod NumberLaws
 pub mod WriteLaws
 pub mod FormLaws
+pub mod SizeLaws

@@ -4,20 +4,24 @@ ghost use Rattle.std.specs.Int.{w64};
 ghost use Rattle.spelled.specs.Spelled.{Appends};
 ghost use Rattle.leb_codec.specs.Digits.{Extends};
 ghost use Rattle.form_codec.specs.Forms.{Admits, SpellsShortest, counted};
-ghost use Rattle.form_codec.specs.Forms.Meaning.{Whole};
+ghost use Rattle.form_codec.specs.Forms.Meaning.{Whole as WholeMeaning};
+ghost use Rattle.form_codec.specs.declared.form.Role.TheVariants as role;
+ghost use Rattle.form_codec.specs.declared.form.Shape.TheVariants as shape;
+ghost use Rattle.form_codec.specs.declared.value.Value.TheVariants.{Int as IntValue};
 ghost use Rattle.form_codec.specs.Values.{meant_in, bytes_in, LiesIn, IsValueIn};
 ghost use Rattle.form_codec.specs.Written.{low_bytes, HasConstant, HasNoEncoding, IsShapeSize};
 ghost use Rattle.form_codec.specs.inside.Written.{Encodes, SpanLies, HasNoForm, IsFormEncoding, HasNoCode, IsCodeEncoding};
 
 use crate::encoding::{Encoding, constant_in, encoding_of};
-use crate::form::{Form, Shape, Width};
+use crate::form::{Form, Role, Shape, Width};
 use crate::value::Value;
+use crate::whole::Whole;
 use dw_base::{NoMemory, Span};
 use leb_codec::{len_s, len_u, put_s, put_u};
 
 // The constant of a value, or 0 where it has none.
 fn constant_of(value: &Value) -> i64
-    ensures { (section : List ℕ) (v : ℤ) → FitsSigned w64 v → meant_in section value.now ≡ Whole v → v ≡ result }
+    ensures { (section : List ℕ) (v : ℤ) → FitsSigned w64 v → meant_in section value.now ≡ WholeMeaning v → v ≡ result }
 {
     match constant_in(value) {
         Some(constant) => constant,
@@ -106,6 +110,59 @@ pub fn size_of(form: u64, value: &Value) -> u64
     counted_size(value, spelled_size(form, value))
 }
 
+// How many bytes a constant has in a form of a width, if it fits.
+fn data_size(width: Width, whole: Whole) -> Option<u64>
+    ensures { MatchOption result (HasNoEncoding (shape.Number width role.Data) (IntValue whole)) (IsShapeSize (shape.Number width role.Data) (IntValue whole)) }
+{
+    match u64::try_from(whole.get()) {
+        Ok(number) if number < width.half() => Some(u64::from(width.size())),
+        _ => None,
+    }
+}
+
+// How many bytes a constant has as an unsigned LEB128, if it is one.
+fn unsigned_size(whole: Whole) -> Option<u64>
+    ensures { MatchOption result (HasNoEncoding (shape.Uleb role.Unsigned) (IntValue whole)) (IsShapeSize (shape.Uleb role.Unsigned) (IntValue whole)) }
+{
+    match u64::try_from(whole.get()) {
+        Ok(number) => Some(u64::from(len_u(number))),
+        Err(_) => None,
+    }
+}
+
+// How many bytes a constant has as a signed LEB128, if it is one.
+fn signed_size(whole: Whole) -> Option<u64>
+    ensures { MatchOption result (HasNoEncoding shape.Sleb (IntValue whole)) (IsShapeSize shape.Sleb (IntValue whole)) }
+{
+    match i64::try_from(whole.get()) {
+        Ok(number) => Some(u64::from(len_s(number))),
+        Err(_) => None,
+    }
+}
+
+// How many bytes a constant has beside a declaration with a constant: none, if it is that one.
+fn constant_size(constant: i64, whole: Whole) -> Option<u64>
+    requires { FitsSigned w64 constant }
+    ensures { MatchOption result (HasNoEncoding (shape.Constant constant) (IntValue whole)) (IsShapeSize (shape.Constant constant) (IntValue whole)) }
+{
+    if whole.get() == i128::from(constant) {
+        Some(0)
+    } else {
+        None
+    }
+}
+
+// How many bytes of a value count in a shape, by what would be written.
+fn any_size(shape: Shape, value: &Value) -> Option<u64>
+    requires { HasConstant shape }
+    ensures { MatchOption result (HasNoEncoding shape value.now) (IsShapeSize shape value.now) }
+{
+    let Some(encoding) = encoding_of(shape, value) else {
+        return None;
+    };
+    Some(counted_size(value, encoded_size(encoding)))
+}
+
 /// The number of bytes that a value has in a form of this shape, written with the shortest LEB128 numbers; 0 for an
 /// expression and for a reference that counts from its unit. None: no bytes of the shape spell the value. It asks in one
 /// step what `admits` and `size_of` ask of a form's code.
@@ -114,10 +171,14 @@ pub fn size_in(shape: Shape, value: &Value) -> Option<u64>
     requires { HasConstant shape }
     ensures { MatchOption result (HasNoEncoding shape value.now) (IsShapeSize shape value.now) }
 {
-    let Some(encoding) = encoding_of(shape, value) else {
-        return None;
-    };
-    Some(counted_size(value, encoded_size(encoding)))
+    match (shape, *value) {
+        // Constants are what columns are most asked for: they are told without what would be written.
+        (Shape::Number(width, Role::Data), Value::Int(whole)) => data_size(width, whole),
+        (Shape::Uleb(Role::Unsigned), Value::Int(whole)) => unsigned_size(whole),
+        (Shape::Sleb, Value::Int(whole)) => signed_size(whole),
+        (Shape::Constant(constant), Value::Int(whole)) => constant_size(constant, whole),
+        _ => any_size(shape, value),
+    }
 }
 
 /// Appends as many bytes of a number as a width has, the lowest first. An Err leaves a front of these bytes behind `out`.
