@@ -266,14 +266,27 @@ impl<'a> Forest<'a> {
         self.values.value(id as usize)
     }
 
+    // Writes the values from the number `first` on over what a row holds, which takes less time than appending them.
+    fn write_over(&self, first: usize, row: &mut Vec<Value>)
+        requires { first + length row.old.items ≤ length self.now.values }
+        ensures { row.new.items ≡ slice_range self.now.values first (first + length row.old.items) }
+    {
+        for place in 0..row.len() {
+            row[place] = self.values.value(first + place);
+        }
+    }
+
     /// Reads values, `count` from the number `first` on, into `row`, in place of what it holds. The only error is want of memory.
     pub fn read_values(&self, first: u32, count: u32, row: &mut Vec<Value>) -> Result<(), NoMemory>
         requires { first + count ≤ length self.now.values }
         ensures values { OnOk result (row.new.items ≡ slice_range self.now.values first (first + count)) }
         ensures order { IsInOrder self.now }
     {
-        row.clear();
-        for number in first as usize..first as usize + count as usize {
+        let first = first as usize;
+        let end = first + count as usize;
+        row.truncate(count as usize);
+        self.write_over(first, row);
+        for number in first + row.len()..end {
             row.push(self.values.value(number))?;
         }
         Ok(())
