@@ -26,11 +26,9 @@ TOP = os.path.dirname(os.path.dirname(os.path.abspath(__file__)))
 sys.path.insert(0, os.path.join(TOP, "bench"))
 from drawn_files import drawn_file
 from elf_files import Section, aligned, elf_file, names_of, placed, sleb, uleb
-from harness import BUILT, Failure, Skipped, Tests, executable
+from harness import BUILT, SECONDS, Failure, Skipped, Tests, executable
 from record_files import LINES, MAGIC, PAIRS, records
 
-# A run of the program has to end in this time.
-SECONDS = 60
 LIMIT = 1 << 30
 SHRINK = ["shrink", "in", "out", "cert"]
 CHECK = ["check", "in", "out", "cert"]
@@ -427,6 +425,51 @@ def units_written(place):
     place.writes(["shrink", "in", "other", "its"], written, records_of_units)
     place.writes(["shrink", "out", "again", "its"], written, records_of_units)
     shows_the_same(place, "info", 400_000)
+
+
+def compiled(place):
+    """A program with debug information by the compiler that is there, or nothing."""
+    compiler = next(filter(None, map(shutil.which, ("gcc", "clang", "cc"))), None)
+    if compiler is None:
+        return b""
+    loop = b"int s = 0; for (int i = 0; i < n; i++) s += i * n; return s;"
+    place.write("a.c", b"int sum(int n) { %s }\nint main(void) { return sum(9); }\n" % loop)
+    run = subprocess.run([compiler, "-gdwarf-5", "-O2", "-o", "a.out", "a.c"], cwd=place.folder, capture_output=True)
+    return place.read("a.out") if run.returncode == 0 else b""
+
+
+def written_elsewhere(place, source, number):
+    """OUT and CERT by a run with other names, in another folder and with another environment, each time others."""
+    name = "x" * number + " ö"
+    folder = place.path(f"{number}/" * number)
+    os.makedirs(folder)
+    for it in (name, "old out", "old cert"):
+        with open(os.path.join(folder, it), "wb") as file:
+            file.write(source if it == name else b"before" * number)
+    words = ["shrink", os.path.join(folder, name) if number % 2 else name, "old out", "./old cert"]
+    environment = {"LC_ALL": ["C", "de_DE.UTF-8", "tr_TR"][number % 3], "TZ": f"UTC+{number}", "SOME": "x" * 1_000 * number}
+    how = {"cwd": folder, "env": environment, "stdin": subprocess.DEVNULL, "capture_output": True, "timeout": SECONDS}
+    run = subprocess.run([place.program, *words], preexec_fn=lambda: os.umask(number), **how)
+    if (run.returncode, run.stdout, run.stderr) != (0, b"", b""):
+        raise Failure(f"{words}: {run}")
+    return [place.read(os.path.join(folder, it)) for it in ("old out", "old cert")]
+
+
+@test
+def output_by_input_alone(place):
+    """OUT and CERT follow from IN alone: other runs, names, folders, environments and files that were there give the same bytes"""
+    sources = [pair_of_units(200)[0], drawn_file(7, 60), elf_file([(b".debug_line", line_program(drawn_lines(1 << 12)[1], -3, 12))])]
+    for source in filter(None, [*sources, compiled(place)]):
+        place.write("in", source)
+        place.answers(SHRINK, 0, b"")
+        first = [place.read(name) for name in SHRINK[2:]]
+        place.answers(CHECK, 0, b"accepted\n")
+        place.leaves(SHRINK, 0, b"", place.files())
+        for number in range(1, 4):
+            for name, found, wanted in zip(SHRINK[2:], written_elsewhere(place, source, number), first):
+                if found != wanted:
+                    raise Failure(f"run {number} writes another {name}, of {difference(found, wanted)}")
+            shutil.rmtree(place.path(f"{number}"))
 
 
 @test

@@ -1,4 +1,5 @@
-"""What the scripts of tests share: the list of a script's tests, how each ends, and what is said of it."""
+"""What the scripts of tests share: the list of a script's tests, how each ends, and what is said of it; and how they wait for
+other processes."""
 import os
 import sys
 import tempfile
@@ -6,6 +7,8 @@ import time
 
 TOP = os.path.dirname(os.path.dirname(os.path.abspath(__file__)))
 BUILT = os.path.join(TOP, "crates/shrink_app/out/shrink_app")
+# A run of what is tested has to end in this time.
+SECONDS = 60
 
 
 class Failure(Exception):
@@ -14,6 +17,27 @@ class Failure(Exception):
 
 class Skipped(Exception):
     """Why a test can't be run here."""
+
+
+def wanted(condition, words):
+    if not condition:
+        raise Failure(words)
+
+
+def wait_for(condition, words):
+    end = time.monotonic() + SECONDS
+    while not condition():
+        wanted(time.monotonic() < end, f"{words} in {SECONDS} seconds")
+        time.sleep(0.01)
+
+
+def is_alive(number):
+    """Whether a process lives, and not only its number, for which nobody has asked yet."""
+    try:
+        with open(f"/proc/{number}/stat") as file:
+            return file.read().rsplit(")", 1)[1].split()[0] != "Z"
+    except OSError:
+        return False
 
 
 def executable(path):

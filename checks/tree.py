@@ -17,6 +17,7 @@ import hashlib
 import os
 import pty
 import random
+import select
 import shutil
 import signal
 import stat
@@ -30,14 +31,12 @@ sys.dont_write_bytecode = True
 TOP = os.path.dirname(os.path.dirname(os.path.abspath(__file__)))
 sys.path.insert(0, os.path.join(TOP, "bench"))
 sys.path.insert(0, os.path.join(TOP, "checks"))
-from edge import ALONE, difference, no_ranks, pair_of_units
+from edge import ALONE, difference, no_ranks, pair_of_units, section_sizes
 from elf_files import elf_file
-from harness import BUILT, Failure, Skipped, Tests, executable
+from harness import BUILT, SECONDS, Skipped, Tests, executable, is_alive, wait_for, wanted
 from record_files import MAGIC
 
 SCRIPT = os.path.join(TOP, "mikadocherry-tree")
-# A run has to end in this time.
-SECONDS = 60
 test = Tests()
 
 # The front of each script that stands in place of the program: it answers words that aren't four as the program does,
@@ -56,11 +55,6 @@ echo "refused Torn at 0"; exit 3
 """
 # It writes a file without its last byte and a certificate without records, which will do where nobody reads them.
 CUTTING = 'size=$(wc -c <"$2")\nhead -c $((size - 1)) "$2" >"$3"\necho DWMIN01 >"$4"\n'
-
-
-def wanted(condition, words):
-    if not condition:
-        raise Failure(words)
 
 
 def temporary(name):
@@ -176,14 +170,36 @@ def certificate_of(count):
 
 
 def counts(summary):
-    """The numbers of a summary by their words, without those that are 0."""
+    """The numbers of a summary by their words, without those that are 0, and without the names of sections behind them."""
     pairs = (line.rsplit(": ", 1) for line in summary.splitlines())
-    return {words: int(number) for words, number in pairs if int(number)}
+    found = {words: int(number.split(" (")[0]) for words, number in pairs}
+    return {words: number for words, number in found.items() if number}
 
 
 def says(summary, numbers):
     found = counts(summary)
     wanted(found == numbers, f"{found} is said, and not {numbers}")
+
+
+def debug_bytes(file):
+    """How many bytes the debug sections of a file have."""
+    return sum(size for name, size in section_sizes(file).items() if name.startswith(b".debug_"))
+
+
+def bytes_said(pairs):
+    """What a summary says of the bytes of files that are replaced, given what they had before and what is written."""
+    found = {}
+    for words, files in zip(("before", "after"), zip(*pairs)):
+        found[f"file bytes {words}"] = sum(map(len, files))
+        found[f"debug section bytes {words}"] = sum(map(debug_bytes, files))
+    return found
+
+
+def cut_bytes(source):
+    """The same where a file loses its last byte, and with it the end of its section headers."""
+    return {
+        "file bytes before": len(source), "file bytes after": len(source) - 1, "debug section bytes before": debug_bytes(source)
+    }
 
 
 def object_file(whole):
@@ -228,23 +244,116 @@ def files_of_all_kinds(place):
     files = {**place.files(), **{name: pair[1] for name, pair in zip((b"a", b"b/c/d", b"b/e.so"), pairs)}}
     numbers = {"not smaller": 1, "refused": 4, "refused FileType": 2, "refused Compressed": 1, "refused Companion": 1}
     numbers["without debug sections"] = 2
-    sizes = {"bytes before": sum(len(it[0]) for it in pairs), "bytes after": sum(len(it[1]) for it in pairs)}
     stdout, stderr = place.run()
-    says(stdout, {"replaced": 3, **sizes, **numbers})
+    says(stdout, {"replaced": 3, **bytes_said(pairs), **numbers})
     wanted(stderr == "", stderr)
     place.has(files)
     says(place.keeps()[0], {**numbers, "not smaller": 4})
 
 
 @test
+def sections_of_refusals(place):
+    """the summary has the sections of refusals with their counts, most first, where these are known, and --verbose too"""
+    for number, name in enumerate([b".debug_names", b".debug_macro", b".debug_macro", b".gdb_index", b".debug_x\n"]):
+        body = elf_file([(b".text", b"12345"), (b".debug_str", b""), (name, b"1"), (b".debug_frame", b"")])
+        place.write(f"{number}", place.refused(body, b"refused Companion at 69\n"))
+    place.write("o", place.refused(object_file(place.pair(20)[0]), b"refused FileType at 16\n"))
+    # what follows the magic bytes is no header
+    place.write("z", place.refused(b"\x7fELF\2\1", b"refused NotElf64 at 0\n"))
+    stdout, stderr = place.keeps("--verbose", "tree")
+    lines = [it for it in stdout.splitlines() if it.startswith("refused")]
+    named = ".debug_macro 2, .debug_names 1, .debug_x\\x0a 1, .gdb_index 1"
+    kinds = [f"refused Companion: 5 ({named})", "refused FileType: 1", "refused NotElf64: 1"]
+    wanted(lines == ["refused: 7", *kinds], f"{lines} are said")
+    wanted("tree/1: refused Companion in .debug_macro\n" in stderr, stderr)
+
+
+def with_gap(source, gap):
+    """The same file with these bytes before its table of sections, which follows the names of sections."""
+    at = struct.unpack_from("<Q", source, 40)[0]
+    moved = source[:40] + struct.pack("<Q", at + len(gap)) + source[48:at] + gap + source[at:]
+    return moved
+
+
+@test
+def appended_bytes(place):
+    """a file with bytes that no header, segment or section holds is left alone and counted, but for zeros of padding"""
+    source, written = place.pair(20)
+    padded = with_gap(source, bytes(24))
+    place.knows(padded, out=written, cert=certificate_of(20))
+    for name, body in (("one", source + b"\0"), ("many", source + bytes(100_000)), ("text", source + b"more")):
+        place.write(name, body)
+    place.write("gap", with_gap(source, bytes(7) + b"\1" + bytes(70_000)))
+    place.write("padded", padded)
+    place.write("kept", PLAIN + b"more")
+    files = {**place.files(), b"padded": written}
+    stdout, stderr = place.run("--verbose", "tree")
+    numbers = {"has appended bytes": 4, "without debug sections": 1}
+    says(stdout, {"replaced": 1, **bytes_said([(padded, written)]), **numbers})
+    wanted("tree/gap: has appended bytes\n" in stderr, stderr)
+    place.has(files)
+
+
+@test
+def excluded_names(place):
+    """--exclude leaves names alone, of files and folders, and paths below DIR where it has a slash, and counts them"""
+    source, written = place.pair(20)
+    names = ["a.so", "b/a.so", "b/c", "b/d/c", "\udce9", "e/f", "g"]
+    for name in names:
+        place.write(os.fsencode(name), source)
+    os.link(place.in_tree("g"), place.in_tree("b/g.so"))
+    globs = ["*.so", "b/c", "*/d/", b"\xe9", "[e]"]
+    files = place.files()
+    stdout, stderr = place.run("--verbose", *(it for glob in globs for it in ("--exclude", glob)), "tree")
+    # a file that has an excluded name too is left alone
+    says(stdout, {"excluded": 7, "linked from outside": 1})
+    wanted("tree/b/d: excluded\n" in stderr, stderr)
+    place.has(files)
+    says(place.keeps("--exclude", "tree", "--exclude", "c", "--exclude", "e", "--dry-run", "tree/b")[0], {
+        "would be replaced": 1, **bytes_said([(source, written)]), "excluded": 1, "linked from outside": 1, "excluded": 2
+    })
+    says(place.keeps("--exclude", "f", "tree/e", "tree/e/f")[0], {"excluded": 1})
+
+
+@test
+def versions(place):
+    """--version says that of the program"""
+    with open(os.path.join(TOP, "VERSION")) as file:
+        version = file.read()
+    wanted(place.keeps("--version") == (f"mikadocherry-tree {version}", ""), "another one is said")
+
+
+@test
 def dry_run(place):
     """--dry-run says what would be, and leaves each file and inode as it is"""
-    source, written = place.pair(20)
-    os.link(place.write("a", source), place.in_tree("b"))
+    pair = place.pair(20)
+    os.link(place.write("a", pair[0]), place.in_tree("b"))
     inode = os.stat(place.in_tree("a")).st_ino
     stdout, _ = place.keeps("--dry-run", "tree")
-    says(stdout, {"would be replaced": 1, "bytes before": len(source), "bytes after": len(written)})
+    says(stdout, {"would be replaced": 1, **bytes_said([pair])})
     wanted(os.stat(place.in_tree("b")).st_ino == os.stat(place.in_tree("a")).st_ino == inode, "an inode differs")
+
+
+@test
+def temporary_files_of_a_dry_run(place):
+    """--dry-run makes its temporary files in TMPDIR, so that the folders of the tree may be read-only"""
+    place.write("a/b", place.pair(20)[0])
+    place.kept()
+    os.mkdir(place.path("elsewhere"))
+    environment = {**os.environ, "TMPDIR": os.fsdecode(place.path("elsewhere"))}
+    files = place.files()
+    with waiting_runs(place, *KEPT, "--dry-run", "tree", env=environment) as (run, folder):
+        names = os.listdir(place.path("elsewhere"))
+        wanted(len(names) == 2 and all(map(temporary, names)), f"{names} are there")
+        place.has(files)
+        has_kept(place, {})
+        wanted(go_on(run, folder)[0] == 0, "the run has failed")
+    wanted(os.listdir(place.path("elsewhere")) == [], "a temporary file is left")
+    os.chmod(place.in_tree("a"), 0o555)
+    stdout = run_without_rights(place, 0, "--dry-run")[0]
+    wanted(counts(stdout)["would be replaced"] == 1, stdout)
+    os.chmod(place.in_tree("a"), 0o755)
+    place.has(files)
 
 
 def properties(path):
@@ -325,8 +434,7 @@ def links_inside(place):
     os.link(place.in_tree("a"), place.in_tree("c/e/f"))
     before, files = inodes(place, names), place.files()
     stdout, _ = place.run("tree/c", "tree/a", "tree/b")
-    sizes = {"bytes before": len(source), "bytes after": len(written)}
-    says(stdout, {"replaced": 1, **sizes, "without debug sections": 1})
+    says(stdout, {"replaced": 1, **bytes_said([(source, written)]), "without debug sections": 1})
     place.has({**files, **{os.fsencode(name): written for name in names}})
     after = inodes(place, names)
     wanted(len(after) == 1 and after != before, f"inodes {before} became {after}")
@@ -398,7 +506,7 @@ def certificates_thrown_away(place):
     """the program gets /dev/null for a certificate that isn't kept, and --dry-run keeps none and makes no folder"""
     place.write("a/b", place.pair(20)[0])
     place.kept()
-    says(place.keeps("--dry-run", *KEPT, "tree", status=0)[0].split("bytes")[0], {"would be replaced": 1})
+    says(place.keeps("--dry-run", *KEPT, "tree", status=0)[0].split("file bytes")[0], {"would be replaced": 1})
     wanted(os.listdir(place.path("kept")) == [], "something is kept")
     program = place.script("thrown", FRONT + '[ "$4" = /dev/null ] || exit 1\n' + CUTTING)
     wanted(counts(place.run(program=program)[0])["replaced"] == 1, "it isn't replaced")
@@ -531,7 +639,11 @@ def other_classes(place):
         place.write(name + "-plain", elf_32(order, b".text"))
         place.write(name, place.refused(elf_32(order, b".debug_info"), b"refused NotElf64 at 0\n"))
     place.write("old", place.refused(elf_file([(b".zdebug_info", b"12345")]), b"refused Compressed at 64\n"))
-    numbers = {"refused": 3, "refused NotElf64": 2, "refused Compressed": 1, "without debug sections": 2}
+    # without a section of names all names are empty
+    file = elf_file([(b".debug_info", b"12345")])
+    place.write("nameless", file[:62] + bytes(2) + file[64:])
+    place.write("sectionless", ALONE[:62] + b"\1\0")
+    numbers = {"refused": 3, "refused NotElf64": 2, "refused Compressed": 1, "without debug sections": 4}
     says(place.keeps()[0], numbers)
 
 
@@ -578,6 +690,7 @@ def which_program(place):
     place.script("bin/mikadocherry", FRONT + f'exec "{place.program}" "$@"\n')
     for folder in ("beside", "none"):
         shutil.copy(SCRIPT, place.path(f"{folder}/mikadocherry-tree"))
+        shutil.copytree(os.path.join(TOP, "launcher"), os.fsdecode(place.path(f"{folder}/launcher")))
     path = os.environ["PATH"] + ":"
     on_path = os.fsdecode(place.path("bin")) + ":" + path
     # One may be installed on this machine.
@@ -597,24 +710,32 @@ def which_program(place):
 
 
 @test
+def missing_parts(place):
+    """a script without the file that it shares with the launcher says so, with the status 1"""
+    os.mkdir(place.path("alone"))
+    shutil.copy(SCRIPT, place.path("alone/mikadocherry-tree"))
+    run = subprocess.run([sys.executable, place.path("alone/mikadocherry-tree"), "tree"], cwd=place.folder, capture_output=True)
+    wanted(run.returncode == 1 and run.stderr.count(b"\n") == 1 and b"elf_headers.py" in run.stderr, f"{run}")
+
+
+@test
 def installed(place):
-    """make install refuses where the program isn't built, and else installs it with the script, which finds it"""
+    """what is installed below another folder finds the launcher and the program, and so does a link to it"""
     if not shutil.which("make"):
         raise Skipped("there is no make")
-    for name in ("Makefile", "mikadocherry-tree"):
-        shutil.copy(os.path.join(TOP, name), place.path(name))
-    command = ["make", "install", "DESTDIR=" + os.fsdecode(place.path("a b")), "PREFIX=/usr"]
+    program = place.script("built", FRONT + f'exec "{place.program}" "$@"\n')
+    command = ["make", "-C", TOP, "install", f"PROGRAM={program}", "DESTDIR=" + os.fsdecode(place.path("a b")), "PREFIX=/usr"]
     how = {"cwd": place.folder, "capture_output": True, "timeout": SECONDS}
-    run = subprocess.run(command, **how)
-    wanted(run.returncode == 2 and b"run ./mikadocherry first" in run.stderr, f"it isn't refused: {run}")
-    os.makedirs(place.path("crates/shrink_app/out"))
-    place.script("crates/shrink_app/out/shrink_app", FRONT + f'exec "{place.program}" "$@"\n')
     run = subprocess.run(command, **how)
     wanted(run.returncode == 0, f"it fails: {run}")
     source, written = place.pair(20)
-    place.write("a", source)
-    subprocess.run([sys.executable, place.path("a b/usr/bin/mikadocherry-tree"), "tree"], check=True, **how)
-    place.has({b"a": written})
+    os.symlink("a b/usr/bin/mikadocherry-tree", place.path("linked"))
+    for script in ("a b/usr/bin/mikadocherry-tree", "linked"):
+        place.write("a", source)
+        run = subprocess.run([sys.executable, place.path(script), "tree"], **how)
+        wanted(run.returncode == 0 and run.stderr == b"", f"it fails: {run}")
+        place.has({b"a": written})
+    wanted(not os.path.exists(place.path("a b/usr/libexec/mikadocherry/__pycache__")), "compiled Python is left")
 
 
 @test
@@ -641,6 +762,7 @@ def failing_programs(place):
         ("exit 5", "disk"),
         ("exit 6", "memory"),
         ("echo as it rains >&2; exit 70", "(as it rains)"),
+        ("echo as it rains >&2; LC_ALL=none bash -c 'exit 70'", "(as it rains)"),
         ("exit 1", "status 1"),
         ("exit 3", "status 3"),
         ("echo refused; exit 3", "status 3"),
@@ -658,6 +780,40 @@ def failing_programs(place):
         for name in ("a", "b"):
             line = next((it for it in stderr.splitlines() if f" tree/{name}: " in it), "")
             wanted(words in line, f"{text}: {stderr!r} is said")
+
+
+@test
+def wanted_memory(place):
+    """with --keep-going files for which memory was wanting are counted and left, and without it they are faults"""
+    names = ["a", "b"]
+    for name in names:
+        place.write(name, place.pair(20)[0])
+    program = place.script("hungry", FRONT + "exit 6\n")
+    stdout, stderr = place.keeps("--keep-going", "--verbose", "tree", program=program)
+    says(stdout, {"wanted memory": 2})
+    wanted("tree/a: wanted memory\n" in stderr, stderr)
+    stdout, stderr = place.keeps(program=program, status=1)
+    says(stdout, {"faults": 2})
+    wanted(all(f"tree/{name}: memory was wanting" in stderr for name in names), stderr)
+
+
+@test
+def timeouts(place):
+    """--timeout ends the program with what it has started, as a fault or, with --keep-going, as what is counted and left"""
+    for name in ("a", "b"):
+        place.write(name, place.pair(20)[0])
+    program = place.script("slow", FRONT + "sleep 60 & wait\n")
+    start = time.monotonic()
+    stdout, stderr = place.keeps("--timeout", "0.3", "tree", status=1, program=program)
+    says(stdout, {"faults": 2})
+    wanted("tree/a: the program took longer than 0.3 seconds (--timeout)\n" in stderr, stderr)
+    says(place.keeps("--keep-going", "--timeout", "0.3", "tree", program=program)[0], {"took too long": 2})
+    wanted(time.monotonic() - start < 20, "it took its time")
+    wait_for(lambda: not runs_in(place.folder), "a program doesn't end")
+    place.keeps("--timeout", "0", "tree", status=2)
+    stubborn = place.script("stubborn", FRONT + "trap '' TERM\nwhile true; do sleep 1; done\n")
+    says(place.keeps("--keep-going", "--timeout", "0.3", "tree", program=stubborn)[0], {"took too long": 2})
+    wait_for(lambda: not runs_in(place.folder), "a program doesn't end")
 
 
 @test
@@ -719,8 +875,7 @@ def folders_that_are_read_only(place):
     os.chmod(place.in_tree("read_only"), 0o555)
     stdout, stderr = run_without_rights(place, 1)
     place.has(files)
-    sizes = {"bytes before": len(sources[2]), "bytes after": len(sources[2]) - 1}
-    says(stdout, {"replaced": 1, **sizes, "faults": 2})
+    says(stdout, {"replaced": 1, **cut_bytes(sources[2]), "faults": 2})
     wanted("tree/read_only/a: no temporary file" in stderr and "tree/b/b: no temporary file" in stderr, stderr)
     os.chmod(place.in_tree("read_only"), 0o755)
     wanted(counts(run_without_rights(place, 0)[0])["replaced"] == 3, "not all are replaced in folders with rights")
@@ -753,13 +908,6 @@ def owners_that_cannot_be_kept(place):
     wanted("tree/a: its owner" in stderr and "tree/b: its owner" in stderr, stderr)
 
 
-def wait_for(condition, words):
-    end = time.monotonic() + SECONDS
-    while not condition():
-        wanted(time.monotonic() < end, f"{words} in {SECONDS} seconds")
-        time.sleep(0.01)
-
-
 # It says that it runs, and waits until it may go on, but at most for so long.
 WAITING = FRONT + """
 touch "{folder}/begun-$$"
@@ -777,12 +925,12 @@ def runs_in(folder):
 
 
 @contextlib.contextmanager
-def waiting_runs(place, *words, count=1):
+def waiting_runs(place, *words, count=1, **how):
     """A run whose programs wait for a file `go`, so many of which have begun. Nothing is left of it at the end."""
     folder = tempfile.mkdtemp(dir=os.fsdecode(place.folder))
     command = place.command(words, place.script("waiting", WAITING.format(folder=folder) + CUTTING))
     pipe = subprocess.PIPE
-    run = subprocess.Popen(command, cwd=place.folder, stdout=pipe, stderr=pipe)
+    run = subprocess.Popen(command, cwd=place.folder, **{"stdout": pipe, "stderr": pipe, **how})
     try:
         wait_for(lambda: len(os.listdir(folder)) >= count, "no program runs")
         yield run, folder
@@ -838,7 +986,7 @@ def files_that_change(place):
         files[b"same"] = source[:-1]
         status, stdout, stderr = go_on(run, folder)
     wanted(status == 1, f"status {status}")
-    says(stdout, {"replaced": 1, "bytes before": len(source), "bytes after": len(source) - 1, "faults": len(changes)})
+    says(stdout, {"replaced": 1, **cut_bytes(source), "faults": len(changes)})
     for name in changes:
         wanted(f"tree/{name}: " in stderr, f"{name} isn't named in {stderr!r}")
     place.has(files)
@@ -892,6 +1040,40 @@ def signal_amid_a_build(place):
     run.communicate(timeout=30)
     wanted(run.returncode == -signal.SIGTERM, f"the run has ended with {run.returncode}")
     wait_for(lambda: not runs_in(place.folder), "a program doesn't end")
+
+
+@test
+def killed_runs(place):
+    """the programs of a run that is killed end with it, also where SIGTERM was ignored before it"""
+    for number in range(4):
+        place.write(f"{number}", place.pair(20)[0])
+    for ignores in (False, True):
+        before = signal.signal(signal.SIGTERM, signal.SIG_IGN) if ignores else signal.getsignal(signal.SIGTERM)
+        try:
+            with waiting_runs(place, "--jobs", "4", "tree", count=4) as (run, folder):
+                begun = [name.split("-")[1] for name in os.listdir(folder)]
+                run.kill()
+                wait_for(lambda: not any(is_alive(pid) for pid in begun), "a program still runs")
+                wanted(not os.path.exists(os.path.join(folder, "go")), "they were let go")
+        finally:
+            signal.signal(signal.SIGTERM, before)
+
+
+@test
+def runs_side_by_side(place):
+    """the temporary files of another run that lives are counted as such, and not as left by a killed one"""
+    for number in range(3):
+        place.write(f"{number}", place.pair(20)[0])
+    with waiting_runs(place, "--jobs", "3", "tree", count=3) as (run, folder):
+        place.write(".mikadocherry-999999999-0.tmp", b"")
+        # lives, but is no such run
+        place.write(f".mikadocherry-{os.getpid()}-0.tmp", b"")
+        stdout, stderr = place.run("--verbose", "--dry-run", "--exclude", "?", "tree")
+        says(stdout, {"of another run": 3, "left by a killed run": 2, "excluded": 3})
+        wanted(f"tree/.mikadocherry-{run.pid}-0.tmp: of another run\n" in stderr, stderr)
+        run.kill()
+        run.wait()
+        says(place.run("--exclude", "?", "tree")[0], {"left by a killed run": 5, "excluded": 3})
 
 
 @test
@@ -1010,7 +1192,7 @@ def files_left_by_a_killed_run(place):
     place.write("a/.mikadocherry-9-99.tmp", source)
     place.write(".mikadocherry-x-0.tmp", source)
     files = {**place.files(), b".mikadocherry-x-0.tmp": written}
-    sizes = {"bytes before": len(source), "bytes after": len(written)}
+    sizes = bytes_said([(source, written)])
     says(place.run("tree", "tree/.mikadocherry-123-0.tmp")[0], {"replaced": 1, **sizes, "left by a killed run": 2})
     place.has(files)
     # the shell becomes the script, so that the files have its number
@@ -1061,6 +1243,35 @@ def what_is_said(place):
         wanted((b"2 of 2 files" in shown) == shows, f"{shown!r} is shown on a terminal")
         os.close(terminal)
         os.close(end)
+
+
+@test
+def progress_on_a_terminal(place):
+    """progress says which file and how many bytes, in one line, with the end of a path that is too long for it"""
+    sources = [place.pair(20)[0], place.pair(30)[0]]
+    long = "/".join(["folder"] * 20) + "/name"
+    place.write("a", sources[0])
+    place.write(long, sources[1])
+    terminal, end = pty.openpty()
+    total = sum(map(len, sources))
+    with waiting_runs(place, "--jobs", "1", "--dry-run", "tree", stderr=end) as (run, folder):
+        shown = line_with(terminal, b" bytes)")
+        wanted(shown == f"mikadocherry-tree: 0 of 2 files, 0 of {total} bytes: tree/a ({len(sources[0])} bytes)".encode(), shown)
+        go_on(run, folder)
+        shown = line_with(terminal, b"/name (")
+        front = f"mikadocherry-tree: 1 of 2 files, {len(sources[0])} of {total} bytes: ...".encode()
+        wanted(shown.startswith(front) and len(shown) < 80, shown)
+    os.close(terminal)
+    os.close(end)
+
+
+def line_with(terminal, words):
+    """The first line with these words that is shown on a terminal, each of which is written over the one before it."""
+    shown = b""
+    while words not in shown:
+        wanted(select.select([terminal], [], [], SECONDS)[0], f"only {shown!r} is shown")
+        shown += os.read(terminal, 1_000)
+    return next(line for line in shown.split(b"\r\033[K") if words in line)
 
 
 @test

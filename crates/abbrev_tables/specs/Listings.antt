@@ -17,6 +17,10 @@ decl_at decls i = slice_index_or decls i (record { at = 0; code = 0; tag = 0; ch
 abbrev pub spec_at : List Spec → ℕ → Spec
 spec_at specs i = slice_index_or specs i (record { name = 0; form = 0; constant = pos 0 })
 
+-- the names of columns
+abbrev pub names_of : List Spec → List ℕ
+names_of columns = map (λ (column : Spec). column.name) columns
+
 -- the declaration with its columns
 abbrev pub declared_in : List Spec → Decl → Declared
 declared_in specs d = record { code = d.code; tag = d.tag; children = d.children; columns = take d.count (drop d.first specs) }

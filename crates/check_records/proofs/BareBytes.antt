@@ -17,7 +17,7 @@ use Rattle.loc_lists.specs.Apart.{StandApart}
 use Rattle.loc_lists.specs.Locations.{SpellsBehind, entries_of, IsRead as IsLocationRead}
 use Rattle.loc_lists.proofs.LocationLaws.{said as locations_said}
 use Rattle.unit_slots.specs.Standing.{OperandsEnd}
-use Rattle.value_links.specs.Certificates.{IsListWithout}
+use Rattle.written_files.specs.Certificates.{IsListWithout}
 use Rattle.value_links.specs.Lists.{IsListOf}
 use Rattle.check_records.specs.inside.Bare.{StandFrom, HasBareSize}
 use Rattle.check_records.proofs.BareSizes.{ends_once}

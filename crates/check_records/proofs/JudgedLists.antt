@@ -15,7 +15,7 @@ use Rattle.list_lookup.specs.Maps.{IsContextIn}
 use Rattle.list_lookup.proofs.AddressTables.{context_same}
 use Rattle.check_lists.specs.Refused.{IsFirstRefused}
 use Rattle.list_arena.specs.Held.{HeldList}
-use Rattle.value_links.specs.Certificates.{ArePotentialsFor}
+use Rattle.written_files.specs.Certificates.{ArePotentialsFor}
 use Rattle.value_links.specs.Reading.{Reading, of_kind, lists_of, part_at, list_at, context_at}
 use Rattle.value_links.specs.Sections.{debug_addr, debug_lists}
 use Rattle.value_links.specs.Whole.{IsReading}

@@ -12,3 +12,4 @@ pub mod BareSizes
 pub mod BareBytes
 pub mod HeldItems
 pub mod JudgedLists
+mod WrittenRecords

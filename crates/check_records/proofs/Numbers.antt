@@ -4,7 +4,7 @@ use Rattle.std.specs.List.{All}
 use Rattle.std.proofs.lemmas.Bool.{cases_lt}
 use Rattle.std.proofs.lemmas.List.{length_push, get_or_push, get_or_append_left}
 use Rattle.std.proofs.lemmas.List.Elements.{All-nil, All-push, All-weaker}
-use Rattle.value_links.specs.Layouts.{AreNumbersOf}
+use Rattle.written_files.specs.Layouts.{AreNumbersOf}
 use Rattle.check_records.specs.Parts.{numbers_below}
 
 -- ONE AFTER THE OTHER

@@ -6,7 +6,7 @@ use Rattle.list_model.specs.declared.entry.ListKind.{ListKind}
 use Rattle.list_model.specs.declared.entry.ListKind.TheVariants.{Locations}
 use Rattle.list_lookup.specs.Owned.{IsOwnedBy, AreOwnedIn}
 use Rattle.list_arena.specs.Held.{HeldList}
-use Rattle.value_links.specs.Layouts.{AreOwnedLists}
+use Rattle.written_files.specs.Layouts.{AreOwnedLists}
 use Rattle.value_links.specs.Lists.{IsOwner}
 use Rattle.value_links.specs.Reading.{Linkable, Reading, list_at}
 use Rattle.value_links.specs.Whole.{IsReading}

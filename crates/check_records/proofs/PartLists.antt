@@ -12,7 +12,7 @@ use Rattle.list_model.specs.declared.item.Meaning.{Meaning}
 use Rattle.list_model.specs.declared.item.Meaning.TheVariants.{Live, Dead}
 use Rattle.line_machine.specs.declared.head.Head.{Head}
 use Rattle.list_arena.specs.Held.{HeldList}
-use Rattle.value_links.specs.Layouts.{AreNumbersOf}
+use Rattle.written_files.specs.Layouts.{AreNumbersOf}
 use Rattle.value_links.specs.Lists.{IsFrozen}
 use Rattle.value_links.specs.Reading.{ProgramRead, ListRead, Linkable, Reading, line_heads, lists_of, list_at}
 use Rattle.value_links.specs.Sections.{debug_info, debug_abbrev}

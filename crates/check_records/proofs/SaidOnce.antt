@@ -33,7 +33,7 @@ use Rattle.line_sums.proofs.Ordering.{one_order}
 use Rattle.check_lists.specs.Refused.{IsFirstRefused as IsFirstRefusedItem}
 use Rattle.check_units.specs.Refused.{IsFirstRefused as IsFirstRefusedSlot}
 use Rattle.unit_slots.specs.Standing.{HasStandingSlots}
-use Rattle.value_links.specs.Certificates.{IsListWithout, HasBareBytes, ArePotentialsFor}
+use Rattle.written_files.specs.Certificates.{IsListWithout, HasBareBytes, ArePotentialsFor}
 use Rattle.value_links.specs.Lists.{IsOwner}
 use Rattle.value_links.specs.Reading.{ProgramRead, ListRead, Linkable, Reading, lists_of, list_at, context_at, program_at, line_heads, no_program}
 use Rattle.value_links.specs.Sections.{debug_line}

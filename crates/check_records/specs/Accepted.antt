@@ -16,7 +16,7 @@ use Rattle.check_lines.specs.Refused.{IsFirstRefused as IsFirstRefusedPair}
 use Rattle.check_lists.specs.Refused.{IsFirstRefused as IsFirstRefusedItem}
 use Rattle.check_units.specs.Refused.{IsFirstRefused as IsFirstRefusedSlot}
 use Rattle.unit_slots.specs.Standing.{HasStandingSlots}
-use Rattle.value_links.specs.Certificates.{ArePotentialsFor}
+use Rattle.written_files.specs.Certificates.{ArePotentialsFor}
 use Rattle.value_links.specs.Reading.{Reading, program_at}
 use Rattle.value_links.specs.Sections.{debug_line}
 use Rattle.same_meaning.specs.declared.reason.Reason.{Reason}

@@ -5,7 +5,7 @@ use Rattle.std.specs.List.{AllZip}
 use Rattle.leb_codec.specs.Records.{Record, OfLines, OfList, OfLayout, SpellsFile}
 use Rattle.list_model.specs.declared.entry.ListKind.{ListKind}
 use Rattle.list_model.specs.declared.entry.ListKind.TheVariants.{Ranges, Locations}
-use Rattle.value_links.specs.Layouts.{AreNumbersOf}
+use Rattle.written_files.specs.Layouts.{AreNumbersOf}
 use Rattle.value_links.specs.Lists.{IsFrozen}
 use Rattle.value_links.specs.Reading.{Reading, lists_of, list_at}
 use Rattle.value_links.specs.Whole.{IsReading}

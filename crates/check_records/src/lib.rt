@@ -3,6 +3,7 @@
 #![tactic(auto)]
 
 mod broken;
+mod laws;
 mod lists;
 mod parts;
 mod programs;
@@ -10,6 +11,7 @@ mod refused;
 mod strays;
 mod units;
 
+pub use crate::laws::written_records;
 pub use broken::first_broken;
 pub use refused::first_refused;
 pub use strays::first_stray;

@@ -2,7 +2,7 @@
 ghost use Rattle.std.specs.Prelude.{◌≡◌, ◌<◌, ℕ, length, IfOk};
 ghost use Rattle.dw_base.specs.declared.fault.Reach.{Reach};
 ghost use Rattle.leb_codec.specs.Records.{OfLayout};
-ghost use Rattle.value_links.specs.Layouts.{AreOwnedLists};
+ghost use Rattle.written_files.specs.Layouts.{AreOwnedLists};
 ghost use Rattle.value_links.specs.Reading.{Reading};
 ghost use Rattle.value_links.specs.Whole.{IsReading};
 ghost use Rattle.value_links.specs.World.{IsWorldOf};

@@ -129,7 +129,7 @@ unit_lines section Limit place f = inl f
 unit_lines section kind place f = f
 
 -- the heads that tile a section are one list
-one_tile : (section : List ℕ) (hs ks : List Head) (a : ℕ) → Follow section hs a (length section) → Follow section ks a (length section) → hs ≡ ks
+pub one_tile : (section : List ℕ) (hs ks : List Head) (a : ℕ) → Follow section hs a (length section) → Follow section ks a (length section) → hs ≡ ks
 one_tile section [] [] a f g = refl
 one_tile section [] (k ∷ ks) a f g = absurd (end_apart section k a g.1 g.0 f)
 one_tile section (h ∷ hs) [] a f g = absurd (end_apart section h a f.1 f.0 g)

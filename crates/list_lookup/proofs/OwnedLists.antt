@@ -10,7 +10,7 @@ use Rattle.dw_base.specs.declared.fault.Reach.{Reach}
 use Rattle.list_model.specs.declared.entry.ListKind.TheVariants.{Locations}
 use Rattle.list_model.specs.declared.item.Meaning.TheVariants.{Dead}
 use Rattle.list_arena.specs.Held.{HeldList}
-use Rattle.value_links.specs.Layouts.{AreNumbersOf}
+use Rattle.written_files.specs.Layouts.{AreNumbersOf}
 use Rattle.value_links.specs.Lists.{IsOwner}
 use Rattle.value_links.specs.Reading.{list_at}
 use Rattle.value_links.specs.World.{World, IsWorldOf}

@@ -2,7 +2,7 @@
 use Rattle.std.specs.Prelude.{◌≡◌, ◌<◌, ℕ, List, [], length, slice_index_or, Some}
 use Rattle.list_lookup.specs.declared.owned.Owned.{Owned}
 use Rattle.list_arena.specs.Held.{HeldList}
-use Rattle.value_links.specs.Layouts.{AreNumbersOf}
+use Rattle.written_files.specs.Layouts.{AreNumbersOf}
 use Rattle.value_links.specs.World.{World}
 
 -- the location list with a number is held as one that the unit owns

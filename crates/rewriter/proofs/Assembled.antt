@@ -20,7 +20,7 @@ use Rattle.value_links.specs.Sections.{info_name, abbrev_name, line_name, arange
 use Rattle.value_links.specs.Laws.{IsImageInOrder}
 use Rattle.rewriter.specs.declared.sections.NewSections.{NewSections}
 use Rattle.rewriter.specs.inside.Bodies.{NewBytes, IsBodyWith, AddsBody, AreBodiesWith, new_bytes}
-use Rattle.value_links.specs.Placed.{body_in}
+use Rattle.written_files.specs.Placed.{body_in}
 use Rattle.rewriter.specs.inside.Sections.{AreFor, HasSections}
 use Rattle.rewriter.proofs.NewBodies.{added, all_bodies, spared, bodies_apart, bytes_in, bodies_few, bytes_few, own_names, all_written, written_bodies, bodies_written}
 

@@ -13,7 +13,7 @@ use Rattle.list_model.specs.declared.context.Context.{Context}
 use Rattle.list_model.specs.declared.entry.ListKind.TheVariants.{Ranges, Locations}
 use Rattle.list_model.specs.Items.{Bounds}
 use Rattle.unit_write.specs.declared.places.Places.{Places}
-use Rattle.value_links.specs.Certificates.{HavePotentials, HaveRanks, AreRecordsOf}
+use Rattle.written_files.specs.Certificates.{HavePotentials, HaveRanks, AreRecordsOf}
 use Rattle.value_links.specs.Reading.{Reading}
 use Rattle.value_links.specs.World.{World}
 use Rattle.rewriter.specs.declared.tables.NewTable.{NewTable}

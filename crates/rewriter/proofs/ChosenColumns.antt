@@ -23,7 +23,7 @@ use Rattle.value_links.specs.Sections.{debug_info, debug_abbrev}
 use Rattle.value_links.specs.Reading.{UnitRead, Reading, no_unit, unit_at}
 use Rattle.value_links.specs.Whole.{IsReading}
 use Rattle.value_links.specs.World.{World, head_and_forest, named_by, table_at, Holds}
-use Rattle.value_links.specs.Uses.{column_values, uses_of}
+use Rattle.written_files.specs.Uses.{column_values, uses_of}
 use Rattle.value_links.proofs.TabledUnits.{follow_head}
 use Rattle.rewriter.specs.declared.tables.NewTable.{NewTable}
 use Rattle.rewriter.specs.inside.Tables.{TableAnew, new_table_at, AreTablesWritten}

@@ -8,8 +8,8 @@ use Rattle.value_links.specs.declared.units.NamedTable.{NamedTable}
 use Rattle.value_links.specs.Reading.{UnitRead, Reading, unit_among, unit_at}
 use Rattle.value_links.specs.Values.{entry_of, declaration_of}
 use Rattle.value_links.specs.World.{World, named_by, table_at, AreTablesOf}
-use Rattle.value_links.specs.Uses.{AreUses}
-use Rattle.value_links.specs.Classes.{HaveCodes, HasLeastCodes, HasOrderedCodes}
+use Rattle.written_files.specs.Uses.{AreUses}
+use Rattle.written_files.specs.Classes.{HaveCodes, HasLeastCodes, HasOrderedCodes}
 use Rattle.rewriter.specs.declared.tables.NewTable.{NewTable}
 use Rattle.rewriter.specs.declared.new_places.NewPlaces.{NewPlaces}
 use Rattle.rewriter.specs.inside.Tables.{new_table_at}

@@ -8,7 +8,7 @@ use Rattle.abbrev_tables.specs.declared.decl.Spec.{Spec}
 use Rattle.abbrev_tables.specs.Listings.{decl_at, spec_at}
 use Rattle.entry_read.specs.Units.{HeadAndForest}
 use Rattle.value_links.specs.declared.units.NamedTable.{NamedTable}
-use Rattle.value_links.specs.Uses.{uses_of, column_meanings}
+use Rattle.written_files.specs.Uses.{uses_of, column_meanings}
 use Rattle.rewriter.specs.inside.Tables.{AreColumnsChosen}
 use Rattle.rewriter.proofs.MeaningsAmong.{spelled_among}
 use Rattle.rewriter.proofs.MovedValues.{part_at, as_many}

@@ -18,7 +18,7 @@ use Rattle.entry_arena.specs.Arena.{entry_at, value_at}
 use Rattle.entry_read.specs.declared.head.UnitHead.{UnitHead}
 use Rattle.entry_read.specs.Units.{HeadAndForest, declarations_of, IsTable, IsUnitHeld, entry_limit}
 use Rattle.value_links.specs.declared.units.NamedTable.{NamedTable}
-use Rattle.value_links.specs.Uses.{entries_with, uses_of, values_with, column_values, counted_inside, are_inside, taken_meanings, column_meanings}
+use Rattle.written_files.specs.Uses.{entries_with, uses_of, values_with, column_values, counted_inside, are_inside, taken_meanings, column_meanings}
 use Rattle.rewriter.specs.inside.Placed.{unit_in}
 use Rattle.rewriter.specs.inside.Columns.{units_with, value_in_column, values_in_column, values_of_units, meanings_of_units, with_head}
 use Rattle.rewriter.proofs.ColumnRows.{column_outside, value_here, value_none}

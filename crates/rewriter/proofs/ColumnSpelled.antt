@@ -21,7 +21,7 @@ use Rattle.entry_read.specs.Units.{HeadAndForest, declarations_of, IsTable, IsUn
 use Rattle.entry_read.proofs.Declarations.{columns_inside, declared_is}
 use Rattle.entry_read.proofs.PlaceLaws.{entry_stands}
 use Rattle.value_links.specs.declared.units.NamedTable.{NamedTable}
-use Rattle.value_links.specs.Uses.{values_with, column_values}
+use Rattle.written_files.specs.Uses.{values_with, column_values}
 use Rattle.rewriter.specs.inside.Placed.{unit_in}
 use Rattle.rewriter.specs.inside.Columns.{with_head}
 use Rattle.rewriter.proofs.ColumnUnits.{entry_declared, entry_counted}

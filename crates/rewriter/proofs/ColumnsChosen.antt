@@ -17,7 +17,7 @@ use Rattle.entry_read.specs.declared.head.UnitHead.{UnitHead}
 use Rattle.entry_read.specs.Units.{HeadAndForest, IsTable}
 use Rattle.entry_read.proofs.Declarations.{columns_inside}
 use Rattle.value_links.specs.declared.units.NamedTable.{NamedTable}
-use Rattle.value_links.specs.Uses.{column_values, column_meanings, uses_of}
+use Rattle.written_files.specs.Uses.{column_values, column_meanings, uses_of}
 use Rattle.rewriter.specs.inside.Tables.{AreColumnsChosen}
 use Rattle.rewriter.specs.inside.Placed.{unit_in}
 use Rattle.rewriter.specs.inside.Columns.{units_with, values_of_units, column_inside, AreBestInside}

@@ -14,7 +14,7 @@ use Rattle.entry_arena.specs.declared.entry.Entry.{Entry}
 use Rattle.entry_arena.specs.Arena.{entry_at, value_at}
 use Rattle.entry_read.specs.declared.head.UnitHead.{UnitHead}
 use Rattle.entry_read.specs.Units.{HeadAndForest, declarations_of, IsTable, IsUnitHeld}
-use Rattle.value_links.specs.Uses.{names_inside, are_inside}
+use Rattle.written_files.specs.Uses.{names_inside, are_inside}
 use Rattle.rewriter.specs.declared.inside_columns.Seen.{Seen}
 use Rattle.rewriter.specs.declared.inside_columns.Seen.TheVariants.{Nothing}
 use Rattle.rewriter.specs.inside.Placed.{unit_in}

@@ -26,12 +26,12 @@ use Rattle.value_links.specs.World.{World, Holds, IsWorldOf}
 use Rattle.rewriter.specs.declared.sections.NewSections.{NewSections}
 use Rattle.rewriter.specs.inside.Bodies.{NewBytes}
 use Rattle.rewriter.specs.inside.Sections.{HasSections}
-use Rattle.value_links.specs.Classes.{OfBoth, HasLeastCodes, HasOrderedCodes, HaveLeastCodes, HaveOrderedCodes, HaveColumns, HaveLeastColumns, HaveFirstColumns, HaveLeastLists}
-use Rattle.value_links.specs.Certificates.{IsCertificate, IsFirstCertificate}
-use Rattle.value_links.specs.Layouts.{HaveLeastLayouts}
+use Rattle.written_files.specs.Classes.{OfBoth, HasLeastCodes, HasOrderedCodes, HaveLeastCodes, HaveOrderedCodes, HaveColumns, HaveLeastColumns, HaveFirstColumns, HaveLeastLists}
+use Rattle.written_files.specs.Certificates.{IsCertificate, IsFirstCertificate}
+use Rattle.written_files.specs.Layouts.{HaveLeastLayouts}
 use Rattle.rewriter.specs.inside.Anew.{new_lists, AreAnew}
 use Rattle.rewriter.specs.inside.Follows.{AreReadAnew}
-use Rattle.value_links.specs.Tidy.{AreTidy, IsTidy}
+use Rattle.written_files.specs.Tidy.{AreTidy, IsTidy}
 use Rattle.rewriter.specs.inside.Rewritten.{IsRewritten}
 use Rattle.rewriter.proofs.Certified.{have_accepted_runs, record_file}
 use Rattle.rewriter.proofs.Codes.{least_codes, ordered_codes}

@@ -17,7 +17,7 @@ use Rattle.abbrev_tables.specs.declared.decl.Spec.{Spec}
 use Rattle.column_forms.specs.Columns.{IsChosen}
 use Rattle.entry_read.specs.declared.head.UnitHead.{UnitHead}
 use Rattle.unit_write.proofs.ValueLaws.{written_local}
-use Rattle.value_links.specs.Uses.{names_inside, counted_inside, are_inside, taken_meanings}
+use Rattle.written_files.specs.Uses.{names_inside, counted_inside, are_inside, taken_meanings}
 use Rattle.rewriter.specs.inside.Columns.{inside_column, column_inside}
 use Rattle.rewriter.proofs.ColumnMeanings.{plain}
 use Rattle.rewriter.proofs.SizedValues.{number_held}

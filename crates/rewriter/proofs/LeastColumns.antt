@@ -16,8 +16,8 @@ use Rattle.unit_write.specs.Placing.{columns_of}
 use Rattle.value_links.specs.Reading.{Reading, unit_at, declarations}
 use Rattle.value_links.specs.Values.{entry_of, declaration_of}
 use Rattle.value_links.specs.World.{World, head_and_forest, named_by}
-use Rattle.value_links.specs.Uses.{uses_of, column_meanings}
-use Rattle.value_links.specs.Classes.{HasColumns, HaveColumns}
+use Rattle.written_files.specs.Uses.{uses_of, column_meanings}
+use Rattle.written_files.specs.Classes.{HasColumns, HaveColumns}
 use Rattle.rewriter.specs.declared.tables.NewTable.{NewTable}
 use Rattle.rewriter.specs.declared.new_places.NewPlaces.{NewPlaces}
 use Rattle.rewriter.specs.inside.Tables.{TableAnew, new_table_at}

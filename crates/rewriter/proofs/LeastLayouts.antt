@@ -34,8 +34,8 @@ use Rattle.unit_write.specs.Moved.{NewValues, IsMovedEntry, AreMovedValues, IsPl
 use Rattle.unit_write.specs.Slots.{spot_place, spot_at, list_spot, IsSpotPlaced, IsListSlotFor, aims_anew, IsLaidOut, AreSpotNumbers}
 use Rattle.value_links.specs.Sections.{debug_info, debug_abbrev}
 use Rattle.value_links.specs.Reading.{UnitRead, Reading, declarations, unit_at, IsUnitRead}
-use Rattle.value_links.specs.Layouts.{place_told, all_aims, list_expressions, AreOwnedLists, HasSlots, HasLayout, HasLeastLayout}
-use Rattle.value_links.specs.Certificates.{AreFirstRanks, HaveRanks}
+use Rattle.written_files.specs.Layouts.{place_told, all_aims, list_expressions, AreOwnedLists, HasSlots, HasLayout, HasLeastLayout}
+use Rattle.written_files.specs.Certificates.{AreFirstRanks, HaveRanks}
 use Rattle.value_links.specs.World.{World, head_and_forest, table_at, operations_at}
 use Rattle.rewriter.specs.declared.tables.NewTable.{NewTable}
 use Rattle.rewriter.specs.declared.new_places.NewPlaces.{NewPlaces}

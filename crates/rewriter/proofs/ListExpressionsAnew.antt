@@ -13,7 +13,7 @@ use Rattle.unit_write.specs.NewExpressions.{refs_among}
 use Rattle.value_links.specs.Reading.{Linkable, Reading, lists_of}
 use Rattle.value_links.specs.Operations.{IsSomeExpression, LinkedOperation, LinksExpression}
 use Rattle.value_links.specs.Lists.{IsOwner, HasUnitOffset, AreExpressionsRead, AreWithinReach, owner_unit, expressions_at}
-use Rattle.value_links.specs.TidyLists.{IsShort, AreShort}
+use Rattle.written_files.specs.TidyLists.{IsShort, AreShort}
 use Rattle.value_links.specs.World.{World}
 use Rattle.rewriter.specs.declared.tables.NewTable.{NewTable}
 use Rattle.rewriter.specs.declared.new_places.NewPlaces.{NewPlaces}

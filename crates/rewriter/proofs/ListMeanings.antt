@@ -19,7 +19,7 @@ use Rattle.value_links.specs.Lists.{IsNamedIn, IsOwner, AreLookedUp, AreListsOf,
 use Rattle.value_links.specs.Resolved.{Content, ListMeaning, MeansContent, MeansList, Resolved, ResolvesLink, Resolves}
 use Rattle.value_links.specs.Resolved.Content.{Items, Entries}
 use Rattle.value_links.specs.Debug.{PartMeaning, MeansSlot, MeansPart, MeanParts}
-use Rattle.value_links.specs.TidyLists.{IsFilled, AreTidyLists}
+use Rattle.written_files.specs.TidyLists.{IsFilled, AreTidyLists}
 use Rattle.value_links.specs.World.{World}
 use Rattle.rewriter.specs.declared.tables.NewTable.{NewTable}
 use Rattle.rewriter.specs.declared.new_places.NewPlaces.{NewPlaces}

@@ -14,12 +14,12 @@ use Rattle.list_model.proofs.WalkLaws.{one_saying}
 use Rattle.loc_lists.specs.Locations.{entries_of}
 use Rattle.loc_lists.proofs.LocationLaws.{locations_once}
 use Rattle.unit_write.specs.declared.places.Places.{Places}
-use Rattle.value_links.specs.Certificates.{IsListWithout, ArePotentialsFor, HavePotentials, AreGreatestOf}
-use Rattle.value_links.specs.Classes.{AreBare}
-use Rattle.value_links.specs.Layouts.{AreNumbersOf}
+use Rattle.written_files.specs.Certificates.{IsListWithout, ArePotentialsFor, HavePotentials, AreGreatestOf}
+use Rattle.written_files.specs.Classes.{AreBare}
+use Rattle.written_files.specs.Layouts.{AreNumbersOf}
 use Rattle.value_links.specs.Lists.{IsFrozen}
 use Rattle.value_links.specs.Reading.{Reading, lists_of, list_at, context_at}
-use Rattle.value_links.specs.TidyLists.{IsWhole}
+use Rattle.written_files.specs.TidyLists.{IsWhole}
 use Rattle.value_links.specs.World.{World}
 use Rattle.rewriter.specs.declared.tables.NewTable.{NewTable}
 use Rattle.rewriter.specs.declared.new_places.NewPlaces.{NewPlaces}

@@ -28,8 +28,8 @@ use Rattle.unit_write.specs.declared.places.Places.{Places}
 use Rattle.value_links.specs.Reading.{ListSection, ListRead, ViewRead, Linkable, Reading, of_kind, lists_of, list_at, view_at, part_at}
 use Rattle.value_links.specs.Lists.{IsListOf, expressions_in, owner_unit, pair_count}
 use Rattle.value_links.specs.ListPlaces.{SlotNames}
-use Rattle.value_links.specs.Classes.{AreBare}
-use Rattle.value_links.specs.TidyLists.{IsWhole, RunsStand, views_with, Fill, IsFilled}
+use Rattle.written_files.specs.Classes.{AreBare}
+use Rattle.written_files.specs.TidyLists.{IsWhole, RunsStand, views_with, Fill, IsFilled}
 use Rattle.value_links.specs.Whole.{IsReading}
 use Rattle.rewriter.specs.declared.new_places.ListPlaces.{ListPlaces}
 use Rattle.rewriter.specs.inside.Numbers.{IsNewExpression}

@@ -13,7 +13,7 @@ use Rattle.entry_arena.specs.declared.entry.Entry.{Entry}
 use Rattle.entry_arena.specs.Arena.{entry_at, value_at}
 use Rattle.entry_read.specs.declared.head.UnitHead.{UnitHead}
 use Rattle.entry_read.specs.Units.{HeadAndForest}
-use Rattle.value_links.specs.Uses.{values_with, column_values}
+use Rattle.written_files.specs.Uses.{values_with, column_values}
 use Rattle.rewriter.specs.inside.Placed.{unit_in}
 
 -- LISTS

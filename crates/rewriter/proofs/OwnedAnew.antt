@@ -22,7 +22,7 @@ use Rattle.unit_write.specs.declared.slots.Spot.{Spot}
 use Rattle.unit_write.specs.declared.slots.Spot.TheVariants.{Entry as TheEntry, End as TheEnd, Nothing as NoSpot}
 use Rattle.unit_write.specs.NewExpressions.{refs_among}
 use Rattle.unit_write.specs.Slots.{IsSpotFor, IsSpotPlaced, IsListSlotFor, list_spot}
-use Rattle.value_links.specs.Layouts.{AreNumbersOf, AreOwnedLists, list_expressions}
+use Rattle.written_files.specs.Layouts.{AreNumbersOf, AreOwnedLists, list_expressions}
 use Rattle.value_links.specs.Lists.{IsOwner, expressions_at}
 use Rattle.value_links.specs.Reading.{Linkable, Reading, unit_at, list_at}
 use Rattle.value_links.specs.World.{World, Holds}

@@ -44,7 +44,7 @@ use Rattle.range_lists.specs.Ranges.{IsRead as IsRangeRead}
 use Rattle.list_arena.specs.Held.{HeldList}
 use Rattle.value_links.specs.Reading.{ListRead, Linkable, Reading, of_kind, lists_of, part_at, list_at, context_at}
 use Rattle.value_links.specs.Lists.{IsOwner, IsFrozen, IsListOf, item_count, AreListsOf}
-use Rattle.value_links.specs.Classes.{AreLeastBytes}
+use Rattle.written_files.specs.Classes.{AreLeastBytes}
 use Rattle.value_links.specs.World.{World, lists_held, IsMeaningOf, HoldsMeaning, HoldsList, Holds, IsWorldOf}
 use Rattle.list_lookup.specs.Maps.{IsContextIn}
 use Rattle.list_lookup.proofs.AddressTables.{context_same}

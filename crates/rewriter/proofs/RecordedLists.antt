@@ -12,7 +12,7 @@ use Rattle.list_model.specs.declared.entry.ListKind.{ListKind}
 use Rattle.list_model.specs.declared.item.Meaning.{Meaning}
 use Rattle.list_model.specs.declared.item.Meaning.TheVariants.{Live, Dead}
 use Rattle.list_arena.specs.Held.{HeldList}
-use Rattle.value_links.specs.Layouts.{AreNumbersOf}
+use Rattle.written_files.specs.Layouts.{AreNumbersOf}
 use Rattle.value_links.specs.Lists.{IsFrozen}
 use Rattle.value_links.specs.Reading.{ListRead, Linkable, Reading, lists_of, list_at}
 use Rattle.value_links.specs.World.{World, lists_held, HoldsMeaning, HoldsList, Holds}

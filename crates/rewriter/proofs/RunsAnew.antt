@@ -16,7 +16,7 @@ use Rattle.list_write.specs.Written.{ToWrite, Run, moved_at, run_at, run_size, p
 use Rattle.list_write.specs.Written.{part_at as new_part_at, list_at as written_at}
 use Rattle.value_links.specs.Reading.{ViewRead, view_at}
 use Rattle.value_links.specs.Lists.{AreViewsApart}
-use Rattle.value_links.specs.TidyLists.{RunsStand}
+use Rattle.written_files.specs.TidyLists.{RunsStand}
 use Rattle.rewriter.proofs.PickedLists.{choose}
 
 -- ---- runs that stand one after the other

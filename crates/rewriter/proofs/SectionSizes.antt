@@ -18,7 +18,7 @@ use Rattle.value_links.specs.Sections.{debug_info, debug_abbrev}
 use Rattle.value_links.specs.Reading.{UnitRead}
 use Rattle.value_links.specs.World.{World, head_and_forest, table_at, IsWorldOf}
 use Rattle.rewriter.specs.declared.uses.Uses.{Uses}
-use Rattle.value_links.specs.Uses.{entries_with, uses_of}
+use Rattle.written_files.specs.Uses.{entries_with, uses_of}
 use Rattle.rewriter.specs.inside.Tables.{TableAnew, AreColumnsChosen}
 use Rattle.rewriter.specs.inside.Appended.{IsAppended}
 use Rattle.rewriter.specs.inside.Placed.{unit_in}

@@ -36,7 +36,7 @@ use Rattle.loc_lists.specs.Laws.{LocationsWritten}
 use Rattle.range_lists.specs.Laws.{RangesWritten}
 use Rattle.value_links.specs.Reading.{ProgramRead, UnitRead, ListSection, Reading, of_kind, lists_of, view_at, no_program, no_unit, line_heads, unit_heads, unit_starts}
 use Rattle.value_links.specs.Whole.{IsReading}
-use Rattle.value_links.specs.TidyLists.{IsFilled}
+use Rattle.written_files.specs.TidyLists.{IsFilled}
 use Rattle.value_links.specs.Faults.{IsValid}
 use Rattle.value_links.specs.World.{World, head_and_forest, Holds, IsWorldOf}
 use Rattle.value_links.proofs.SectionLaws.{sections_are_found}

@@ -36,7 +36,7 @@ use Rattle.unit_write.proofs.SlotAims.{fixed_take, fixed_drop, expression_length
 use Rattle.unit_write.proofs.SlotsMade.{meant_take, take_least, rest_is, aim_length, aim_call, aim_uleb}
 use Rattle.list_arena.specs.Held.{HeldList}
 use Rattle.value_links.specs.Sections.{debug_lists}
-use Rattle.value_links.specs.Layouts.{list_expressions}
+use Rattle.written_files.specs.Layouts.{list_expressions}
 use Rattle.value_links.specs.ListFaults.{expression_bytes, entry_total, list_total}
 use Rattle.value_links.specs.Lists.{expressions_at}
 use Rattle.value_links.specs.Reading.{ListRead, Reading, list_at, part_at}

@@ -17,7 +17,7 @@ use Rattle.entry_read.specs.Units.{end_of}
 use Rattle.unit_write.specs.Taken.{StandsFor}
 use Rattle.unit_write.specs.inside.Puts.{shape_moves}
 use Rattle.unit_write.proofs.ValueLaws.{shape_is}
-use Rattle.value_links.specs.Uses.{names_inside, counted_inside, are_inside, taken_meanings}
+use Rattle.written_files.specs.Uses.{names_inside, counted_inside, are_inside, taken_meanings}
 use Rattle.rewriter.specs.inside.Taken.{is_taken, taken_value}
 use Rattle.rewriter.proofs.ColumnLaws.{IsSpelledBy}
 use Rattle.rewriter.proofs.MeaningsAmong.{contains_map}

@@ -7,7 +7,7 @@ use Rattle.std.proofs.lemmas.List.Elements.{All-from_get_or}
 use Rattle.leb_codec.specs.Numbering.{IsUsed}
 use Rattle.abbrev_tables.specs.declared.decl.Spec.{Spec}
 use Rattle.abbrev_tables.specs.Tables.{Declared}
-use Rattle.abbrev_tables.specs.Listings.{decl_at, declared_in}
+use Rattle.abbrev_tables.specs.Listings.{decl_at, declared_in, names_of}
 use Rattle.abbrev_tables.specs.Written.{numbered_as}
 use Rattle.entry_arena.specs.Trees.{declared_at}
 use Rattle.entry_read.specs.Units.{HeadAndForest, declarations_of}
@@ -17,10 +17,10 @@ use Rattle.unit_write.specs.Placing.{columns_of}
 use Rattle.value_links.specs.declared.units.NamedTable.{NamedTable}
 use Rattle.value_links.specs.Reading.{Reading, no_unit}
 use Rattle.value_links.specs.World.{World, table_at}
-use Rattle.value_links.specs.Uses.{AreUses}
+use Rattle.written_files.specs.Uses.{AreUses}
 use Rattle.list_model.specs.declared.entry.ListKind.{ListKind}
-use Rattle.value_links.specs.TidyLists.{AreTidyLists, AreTidyViews}
-use Rattle.value_links.specs.Tidy.{TablesTile, names_of, IsRenewed, IsTidyTable, AreTidyTables, IsTidyUnit, AreTidy}
+use Rattle.written_files.specs.TidyLists.{AreTidyLists, AreTidyViews}
+use Rattle.written_files.specs.Tidy.{TablesTile, IsRenewed, IsTidyTable, AreTidyTables, IsTidyUnit, AreTidy}
 use Rattle.rewriter.specs.declared.tables.NewTable.{NewTable}
 use Rattle.rewriter.specs.declared.new_places.NewPlaces.{NewPlaces}
 use Rattle.rewriter.specs.inside.Tables.{TableAnew, table_anew, anew_at, new_table_at, IsTableWritten, TablesStand}

@@ -10,7 +10,7 @@ use Rattle.entry_read.specs.Units.{HeadAndForest}
 use Rattle.value_links.specs.declared.units.NamedTable.{NamedTable}
 use Rattle.value_links.specs.World.{table_at}
 use Rattle.rewriter.specs.declared.uses.Uses.{Uses}
-use Rattle.value_links.specs.Uses.{AreUses, entries_with, uses_of}
+use Rattle.written_files.specs.Uses.{AreUses, entries_with, uses_of}
 use Rattle.rewriter.specs.inside.Placed.{unit_in}
 use Rattle.rewriter.specs.inside.Counting.{AddsUses, AreCountable, AreCounted, counts_in}
 

@@ -22,7 +22,7 @@ use Rattle.value_links.specs.Whole.{IsReading}
 use Rattle.value_links.specs.Values.{entry_of}
 use Rattle.value_links.specs.World.{World, head_and_forest, named_by, Holds}
 use Rattle.rewriter.specs.declared.tables.NewTable.{NewTable}
-use Rattle.value_links.specs.Uses.{uses_of, entries_with}
+use Rattle.written_files.specs.Uses.{uses_of, entries_with}
 use Rattle.rewriter.specs.inside.Tables.{new_table_at, IsTableWritten, AreTablesWritten}
 
 -- a sum is no less than one of its addends

@@ -9,7 +9,7 @@ use Rattle.list_model.specs.Entries.{AreSaid}
 use Rattle.unit_write.specs.declared.places.Places.{Places}
 use Rattle.value_links.specs.Reading.{ViewRead, Reading, view_at}
 use Rattle.value_links.specs.Lists.{pair_total, AreViewsNamed, AreViewsOf, AreViewsRead}
-use Rattle.value_links.specs.TidyLists.{AreTidyViews}
+use Rattle.written_files.specs.TidyLists.{AreTidyViews}
 use Rattle.value_links.specs.World.{World}
 use Rattle.rewriter.specs.declared.tables.NewTable.{NewTable}
 use Rattle.rewriter.specs.declared.new_places.NewPlaces.{NewPlaces}

@@ -17,7 +17,7 @@ use Rattle.unit_write.specs.Values.{renewed}
 use Rattle.value_links.specs.Reading.{UnitRead, Reading, unit_at, IsUnitRead}
 use Rattle.value_links.specs.Values.{entry_of, declaration_of, values_of, HasValueAt}
 use Rattle.value_links.specs.Laws.{AreExpressionsWithin}
-use Rattle.value_links.specs.Tidy.{AreTidyExpressions}
+use Rattle.written_files.specs.Tidy.{AreTidyExpressions}
 use Rattle.value_links.specs.World.{World}
 use Rattle.rewriter.specs.declared.tables.NewTable.{NewTable}
 use Rattle.rewriter.specs.declared.new_places.NewPlaces.{NewPlaces}

@@ -6,11 +6,11 @@ ghost use Rattle.value_links.specs.Sections.{debug_line};
 ghost use Rattle.value_links.specs.Faults.{IsValid, NamesFault};
 ghost use Rattle.value_links.specs.Same.{Same};
 ghost use Rattle.value_links.specs.World.{IsWorldOf};
-ghost use Rattle.value_links.specs.Placed.{IsPlaced};
-ghost use Rattle.value_links.specs.Certificates.{IsCertificate, IsFirstCertificate};
-ghost use Rattle.value_links.specs.Classes.{HaveLeastCodes, HaveOrderedCodes, HaveLeastColumns, HaveFirstColumns, HaveLeastLists};
-ghost use Rattle.value_links.specs.Layouts.{HaveLeastLayouts};
-ghost use Rattle.value_links.specs.Tidy.{IsTidy};
+ghost use Rattle.written_files.specs.Placed.{IsPlaced};
+ghost use Rattle.written_files.specs.Certificates.{IsCertificate, IsFirstCertificate};
+ghost use Rattle.written_files.specs.Classes.{HaveLeastCodes, HaveOrderedCodes, HaveLeastColumns, HaveFirstColumns, HaveLeastLists};
+ghost use Rattle.written_files.specs.Layouts.{HaveLeastLayouts};
+ghost use Rattle.written_files.specs.Tidy.{IsTidy};
 ghost use Rattle.rewriter.specs.inside.Rewritten.{IsRewritten};
 
 use crate::assemble::assemble;

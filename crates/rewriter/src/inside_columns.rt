@@ -6,7 +6,7 @@ ghost use Rattle.form_codec.specs.Values.{meant_in};
 ghost use Rattle.abbrev_tables.specs.Listings.{spec_at};
 ghost use Rattle.entry_read.specs.Units.{HeadAndForest, declarations_of, IsTable, IsUnitHeld};
 ghost use Rattle.entry_read.specs.declared.head.UnitHead.{UnitHead as Head};
-ghost use Rattle.value_links.specs.Uses.{names_inside};
+ghost use Rattle.written_files.specs.Uses.{names_inside};
 ghost use Rattle.rewriter.specs.inside.Columns.{AreUnitsOf, AreSeen, AreInside, SeesEntries, SeesRow, seen_of, meanings_of_units};
 
 use abbrev_tables::{Spec, Table};

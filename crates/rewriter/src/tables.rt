@@ -5,7 +5,7 @@ ghost use Rattle.dw_base.specs.declared.fault.Reach.{Reach};
 ghost use Rattle.abbrev_tables.specs.Written.{IsWritableColumn};
 ghost use Rattle.entry_read.specs.Units.{IsTable};
 ghost use Rattle.value_links.specs.World.{table_at, IsWorldOf};
-ghost use Rattle.value_links.specs.Uses.{AreUses};
+ghost use Rattle.written_files.specs.Uses.{AreUses};
 ghost use Rattle.rewriter.specs.inside.Tables.{AreColumnsChosen, AreTablesWritten, table_anew};
 ghost use Rattle.rewriter.specs.inside.Counting.{AreCounted};
 ghost use Rattle.rewriter.specs.inside.Columns.{units_with, AreNamers};

@@ -4,11 +4,10 @@ use Rattle.std.specs.Prelude.{◌↔◌, IsTrue}
 use Rattle.std.proofs.lemmas.Bool.{cases_lt}
 use Rattle.std.proofs.lemmas.List.{length-map}
 use Rattle.abbrev_tables.specs.declared.decl.Spec.{Spec}
-use Rattle.abbrev_tables.specs.Listings.{spec_at}
+use Rattle.abbrev_tables.specs.Listings.{spec_at, names_of}
 use Rattle.entry_arena.specs.declared.entry.Entry.{Entry}
 use Rattle.value_links.specs.Sections.{debug_info, debug_abbrev}
 use Rattle.value_links.specs.Reading.{Reading, unit_at, IsUnitRead}
-use Rattle.value_links.specs.Tidy.{names_of}
 use Rattle.value_links.specs.Values.{entry_of, declaration_of}
 use Rattle.value_links.specs.Whole.{IsReading}
 use Rattle.value_links.specs.Links.{held_at}

@@ -7,11 +7,10 @@ use Rattle.form_codec.specs.Forms.{Meaning}
 use Rattle.form_codec.specs.Forms.Meaning.{Address}
 use Rattle.form_codec.specs.Values.{meant_in}
 use Rattle.abbrev_tables.specs.declared.decl.Spec.{Spec}
-use Rattle.abbrev_tables.specs.Listings.{spec_at}
+use Rattle.abbrev_tables.specs.Listings.{spec_at, names_of}
 use Rattle.entry_arena.specs.Arena.{value_at}
 use Rattle.entry_arena.specs.Forests.{Described, described_by}
 use Rattle.value_links.specs.Reading.{UnitRead, Reading, unit_at, declarations, IsUnitRead}
-use Rattle.value_links.specs.Tidy.{names_of}
 use Rattle.value_links.specs.Values.{entry_of, declaration_of, described_at}
 use Rattle.value_links.specs.Whole.{IsReading}
 use Rattle.value_links.specs.Laws.{OneMeaning}

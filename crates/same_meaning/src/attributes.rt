@@ -2,7 +2,7 @@
 ghost use Rattle.std.specs.Prelude.{◌≡◌, ◌<◌, ◌+◌, ◌↔◌, ℕ, length, IsTrue, IfOk};
 ghost use Rattle.value_links.specs.Links.{held_at};
 ghost use Rattle.value_links.specs.Reading.{unit_at};
-ghost use Rattle.value_links.specs.Tidy.{names_of};
+ghost use Rattle.abbrev_tables.specs.Listings.{names_of};
 ghost use Rattle.value_links.specs.Values.{declaration_of};
 ghost use Rattle.same_meaning.specs.inside.Compared.{IsSomeWorld, OfBoth, MeanOne, MeanAttributesAt};
 ghost use Rattle.same_meaning.specs.inside.Values.{OfReading, entry_held, MeansColumn, IsNamedColumn};

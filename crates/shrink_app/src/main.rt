@@ -1,39 +1,11 @@
-//! Writes a linked file anew in fewer bytes.
+//! The program: the words of the command line, and the files and the standard output of the system. All else is in `commands`.
 #![tactic(auto)]
 
-mod check;
-#[cfg(test)]
-mod check_tests;
-#[cfg(test)]
-mod column_tests;
-mod ending;
-#[cfg(test)]
-mod file_tests;
-#[cfg(test)]
-mod line_tests;
-mod make;
-#[cfg(test)]
-mod make_tests;
-#[cfg(test)]
-mod overlap_tests;
-mod reading;
 mod real_host;
-mod rejection;
-mod run;
 #[cfg(test)]
-mod sample_tests;
-mod saying;
-mod shrink;
-#[cfg(test)]
-mod stat_tests;
-mod summary;
-#[cfg(test)]
-mod test_files;
-#[cfg(test)]
-mod unit_tests;
-mod words;
-mod writing;
+mod tests;
 
+use commands::run;
 use real_host::RealHost;
 use std::io::ErrorKind;
 use std::process::ExitCode;
@@ -61,5 +33,5 @@ fn main(rt: HostRuntime) -> ExitCode {
         }
     };
     let mut host = RealHost::new(rt, alloc);
-    ExitCode::from(run::run(alloc, &words, &mut host))
+    ExitCode::from(run(alloc, &words, &mut host))
 }

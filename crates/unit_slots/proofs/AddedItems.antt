@@ -20,7 +20,7 @@ use Rattle.entry_read.specs.Units.{HeadAndForest}
 use Rattle.list_model.specs.declared.entry.ListKind.TheVariants.{Locations}
 use Rattle.list_model.specs.declared.entry.RawEntry.{RawEntry}
 use Rattle.loc_lists.specs.Locations.{bytes_in}
-use Rattle.value_links.specs.Layouts.{all_aims}
+use Rattle.written_files.specs.Layouts.{all_aims}
 use Rattle.unit_slots.specs.declared.spots.Spots.{Spots}
 use Rattle.unit_slots.specs.Standing.{BeginsWith, OperandsEnd, AreExpressionSizes, slotted}
 use Rattle.unit_slots.specs.inside.Added.{form_told, CanHaveSizes, AreOperationsOf, AddsSizes, HasExpressionSizes}

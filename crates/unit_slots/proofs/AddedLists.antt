@@ -13,7 +13,7 @@ use Rattle.list_model.specs.declared.entry.ListKind.TheVariants.{Locations}
 use Rattle.list_model.specs.declared.entry.RawEntry.{RawEntry}
 use Rattle.loc_lists.specs.Locations.{is_item, items_among, bytes_in, expressions_of}
 use Rattle.list_arena.specs.Held.{HeldList}
-use Rattle.value_links.specs.Layouts.{list_expressions}
+use Rattle.written_files.specs.Layouts.{list_expressions}
 use Rattle.value_links.specs.Lists.{expressions_at}
 use Rattle.value_links.specs.Reading.{Reading, list_at}
 use Rattle.value_links.specs.Sections.{debug_lists}

@@ -18,3 +18,10 @@ pub mod StandingOnce
 pub mod UnitSizes
 pub mod ValueSizes
 pub mod WorldUnits
+pub mod WrittenNeeds
+pub mod WrittenOperations
+pub mod WrittenExpressions
+pub mod WrittenValues
+pub mod WrittenItems
+pub mod WrittenLists
+pub mod WrittenSlots

@@ -17,13 +17,13 @@ use Rattle.list_model.specs.declared.entry.ListKind.{ListKind}
 use Rattle.list_model.specs.declared.entry.ListKind.TheVariants.{Locations}
 use Rattle.list_model.specs.declared.entry.RawEntry.{RawEntry}
 use Rattle.list_model.specs.Contributions.{part_end, bytes_from}
-use Rattle.list_model.specs.Entries.{Entry, SpellsOperands}
+use Rattle.list_model.specs.Entries.{Entry, Says, SpellsEntry, SpellsOperands}
 use Rattle.list_model.specs.Items.{sets_base}
 use Rattle.list_model.specs.Reading.{AreReadFrom}
 use Rattle.loc_lists.specs.Locations.{IsRead as IsLocationRead, IsLocationList, SpellsBehind, SpellsExpression, is_item, items_among, bytes_in, expressions_of}
 use Rattle.loc_lists.proofs.ItemLaws.{item_says}
 use Rattle.loc_lists.proofs.Spans.{span_inside}
-use Rattle.value_links.specs.Layouts.{AreOwnedLists}
+use Rattle.written_files.specs.Layouts.{AreOwnedLists}
 use Rattle.value_links.specs.Links.{held_at}
 use Rattle.value_links.specs.Lists.{IsOwner, owner_unit}
 use Rattle.value_links.specs.Operations.{LinkedOperation, LinksExpression}
@@ -47,7 +47,7 @@ stands_between S section at first rest within spells whole =
     let own : take (at + length first - at) (drop at section) ≡ first = ap (take (at + length first - at)) whole ∙ take_at first rest (at + length first - at) long in
     record { order = omega arith; inside = omega (arith, size, parts, within); spelled = subst S (sym own) spells }
 
-behind_expression : (kind : EntryKind) (expression bytes : List ℕ) → sets_base kind ≡ false → SpellsBehind kind expression bytes → SpellsExpression expression bytes
+pub behind_expression : (kind : EntryKind) (expression bytes : List ℕ) → sets_base kind ≡ false → SpellsBehind kind expression bytes → SpellsExpression expression bytes
 behind_expression BaseAddressx expression bytes none spells = absurd (false≢true (sym none))
 behind_expression BaseAddress expression bytes none spells = absurd (false≢true (sym none))
 behind_expression kind expression bytes none spells = spells
@@ -56,6 +56,21 @@ not_false : (b : Bool) → not b ≡ true → b ≡ false
 not_false true e = absurd (false≢true e)
 not_false false e = refl
 
+-- The operands of an entry stand behind its code, and behind them what else belongs to it.
+pub operands_stand : (section : List ℕ) (at : ℕ) (raw : RawEntry) (entry : Entry) (spelling after : List ℕ) → (s : SpellsEntry Locations entry spelling) → Says Locations raw entry → raw.at ≡ at → drop at section ≡ spelling ++ after → OperandsEnd Locations section raw (raw.at + 1 + length s.operands) × (drop (raw.at + 1 + length s.operands) section ≡ after)
+operands_stand section at raw entry spelling after s says place whole =
+    let all_bytes : drop raw.at section ≡ s.code ∷ (s.operands ++ after) = ap (λ (n : ℕ). drop n section) place ∙ whole ∙ ap (λ (z : List ℕ). z ++ after) s.whole in
+    let behind_code : drop (raw.at + 1) section ≡ s.operands ++ after = sym (drop-drop 1 raw.at section) ∙ ap (drop 1) all_bytes in
+    let size : length (drop raw.at section) ≡ length section - raw.at = length-drop raw.at section in
+    let some : length (drop raw.at section) ≡ suc (length (s.operands ++ after)) = ap length all_bytes in
+    let stands = stands_between (SpellsOperands entry.kind (entry.a, entry.b)) section (raw.at + 1) s.operands after (omega (arith, size, some)) s.spelled behind_code in
+    let left : drop (raw.at + 1 + length s.operands) section ≡ after = sym (drop-drop (length s.operands) (raw.at + 1) section) ∙ ap (drop (length s.operands)) behind_code ∙ drop_at s.operands after (length s.operands) refl in
+    (record { kind = entry.kind; known = says.of_code; operands = (entry.a, entry.b); spelled = stands }, left)
+
+-- the entry of an item sets no base
+pub no_base : (raw : RawEntry) (entry : Entry) → Says Locations raw entry → is_item raw ≡ true → sets_base entry.kind ≡ false
+no_base raw entry says item = not_false (sets_base entry.kind) (sym (item_says raw entry says) ∙ item)
+
 -- the operands, the length and the expression of an item
 pub record LocationStands (section : List ℕ) (raw : RawEntry) : Type 0 where
   pub end : ℕ
@@ -63,33 +78,32 @@ pub record LocationStands (section : List ℕ) (raw : RawEntry) : Type 0 where
   pub counted : Begins Uleb (drop end section)
   pub inside : raw.expr.at + raw.expr.len ≤ length section
 
-location_stands : (section : List ℕ) (at : ℕ) (raw : RawEntry) (location : Entry × List ℕ) (first rest : List ℕ) → IsLocationRead at raw location first → drop at section ≡ first ++ rest → is_item raw ≡ true → LocationStands section raw
-location_stands section at raw location first rest here whole item =
-    let (spelling, behind, s, spells, parts) = here.spelled in
-    let place = here.place in
-    let own : drop raw.at section ≡ spelling ++ (behind ++ rest) = ap (λ (n : ℕ). drop n section) here.place ∙ whole ∙ ap (λ (z : List ℕ). z ++ rest) parts ∙ append_assoc spelling behind rest in
-    let all_bytes : drop raw.at section ≡ s.code ∷ (s.operands ++ (behind ++ rest)) = own ∙ ap (λ (z : List ℕ). z ++ (behind ++ rest)) s.whole in
-    let behind_code : drop (raw.at + 1) section ≡ s.operands ++ (behind ++ rest) = sym (drop-drop 1 raw.at section) ∙ ap (drop 1) all_bytes in
-    let size : length (drop raw.at section) ≡ length section - raw.at = length-drop raw.at section in
-    let some : length (drop raw.at section) ≡ suc (length (s.operands ++ (behind ++ rest))) = ap length all_bytes in
-    let none : sets_base location.0.kind ≡ false = not_false (sets_base location.0.kind) (sym (item_says raw (record { kind = location.0.kind; a = raw.a; b = raw.b }) (record { of_code = here.says.of_code; of_a = refl; of_b = refl })) ∙ item) in
-    let e : SpellsExpression location.1 behind = behind_expression location.0.kind location.1 behind none spells in
-    let stands = stands_between (SpellsOperands location.0.kind (location.0.a, location.0.b)) section (raw.at + 1) s.operands (behind ++ rest) (omega (arith, size, some)) s.spelled behind_code in
-    let left : drop (raw.at + 1 + length s.operands) section ≡ behind ++ rest = sym (drop-drop (length s.operands) (raw.at + 1) section) ∙ ap (drop (length s.operands)) behind_code ∙ drop_at s.operands (behind ++ rest) (length s.operands) refl in
+-- what is read stands in the section
+pub expression_inside : (section : List ℕ) (at : ℕ) (raw : RawEntry) (location : Entry × List ℕ) (first rest : List ℕ) → IsLocationRead at raw location first → drop at section ≡ first ++ rest → 0 < length first → raw.expr.at + raw.expr.len ≤ length section
+expression_inside section at raw location first rest here whole some =
     let from : length (drop at section) ≡ length section - at = length-drop at section in
     let long : length (drop at section) ≡ length first + length rest = ap length whole ∙ length-append first rest in
     let span = span_inside location.0.kind raw.expr location.1 (at + length first) here.expression in
+    omega (arith, from, long, span, some)
+
+location_stands : (section : List ℕ) (at : ℕ) (raw : RawEntry) (location : Entry × List ℕ) (first rest : List ℕ) → IsLocationRead at raw location first → drop at section ≡ first ++ rest → is_item raw ≡ true → LocationStands section raw
+location_stands section at raw location first rest here whole item =
+    let (spelling, behind, s, spells, parts) = here.spelled in
+    let own : drop at section ≡ spelling ++ (behind ++ rest) = whole ∙ ap (λ (z : List ℕ). z ++ rest) parts ∙ append_assoc spelling behind rest in
+    let (ends, left) = operands_stand section at raw location.0 spelling (behind ++ rest) s here.says here.place own in
+    let some : length first ≡ suc (length s.operands) + length behind = ap length parts ∙ length-append spelling behind ∙ ap (λ (z : List ℕ). length z + length behind) s.whole in
+    let e : SpellsExpression location.1 behind = behind_expression location.0.kind location.1 behind (no_base raw location.0 here.says item) spells in
     record {
       end = raw.at + 1 + length s.operands;
-      behind = record { kind = location.0.kind; known = here.says.of_code; operands = (location.0.a, location.0.b); spelled = stands };
+      behind = ends;
       counted = (length location.1, e.head, location.1 ++ rest, e.count, left ∙ ap (λ (z : List ℕ). z ++ rest) e.whole ∙ append_assoc e.head location.1 rest);
-      inside = omega (arith, from, long, span, size, some, place);
+      inside = expression_inside section at raw location first rest here whole (omega (arith, some));
     }
 
 -- THE ITEMS OF A LIST
 
 -- what is left behind a front
-front_left : (section : List ℕ) (at : ℕ) (first rest after : List ℕ) → drop at section ≡ (first ++ rest) ++ after → drop (at + length first) section ≡ rest ++ after
+pub front_left : (section : List ℕ) (at : ℕ) (first rest after : List ℕ) → drop at section ≡ (first ++ rest) ++ after → drop (at + length first) section ≡ rest ++ after
 front_left section at first rest after whole = sym (drop-drop (length first) at section) ∙ ap (drop (length first)) (whole ∙ append_assoc first rest after) ∙ drop_at first (rest ++ after) (length first) refl
 
 abbrev ItemThere : List ℕ → RawEntry → Type 0
@@ -106,7 +120,7 @@ locations_stand section at (r ∷ raws) (e ∷ es) bytes after (first, rest, her
     (locations_stand section (at + length first) raws es rest after more (front_left section at first rest after all))
 
 -- what stands in a contribution stands in its section
-in_section : (section : List ℕ) (part : Contribution) (at : ℕ) (front rest : List ℕ) → bytes_from section part at ≡ front ++ rest → drop at section ≡ front ++ (rest ++ drop (part_end part - at) (drop at section))
+pub in_section : (section : List ℕ) (part : Contribution) (at : ℕ) (front rest : List ℕ) → bytes_from section part at ≡ front ++ rest → drop at section ≡ front ++ (rest ++ drop (part_end part - at) (drop at section))
 in_section section part at front rest e =
     sym (take-append-drop (part_end part - at) (drop at section)) ∙ ap (λ (z : List ℕ). z ++ drop (part_end part - at) (drop at section)) e ∙ append_assoc front rest (drop (part_end part - at) (drop at section))
 

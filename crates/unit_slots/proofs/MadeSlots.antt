@@ -18,7 +18,7 @@ use Rattle.entry_arena.specs.Operations.{HeldOps}
 use Rattle.entry_read.specs.Expressions.{IsExprAt, HasOperations}
 use Rattle.entry_read.specs.Slots.{aims_of, aim_at, operations_in, IsRowOf}
 use Rattle.entry_read.specs.Units.{HeadAndForest}
-use Rattle.value_links.specs.Layouts.{AreOwnedLists, list_expressions, place_told, all_aims, HasSlots}
+use Rattle.written_files.specs.Layouts.{AreOwnedLists, list_expressions, place_told, all_aims, HasSlots}
 use Rattle.value_links.specs.Links.{held_at}
 use Rattle.value_links.specs.Reading.{UnitRead, Reading, unit_at}
 use Rattle.value_links.specs.Whole.{IsReading}

@@ -33,7 +33,7 @@ typed_by true c e = refl
 typed_by false c e = e
 
 -- what holds of the opcodes of slots in ULEB128
-slot_codes : (P : ℕ → Type 0) (code a : ℕ) → is_slot code a ≡ true → code ≢ 153 → P 163 → P 164 → P 165 → P 166 → P 167 → P 168 → P 169 → P code
+pub slot_codes : (P : ℕ → Type 0) (code a : ℕ) → is_slot code a ≡ true → code ≢ 153 → P 163 → P 164 → P 165 → P 166 → P 167 → P 168 → P 169 → P code
 slot_codes P code a slot no_call entry p4 p5 p6 p7 p8 p9 =
     elim (eqb_tells code 163) [
       | inl (same, is) ↦ subst P (sym is) entry

@@ -20,7 +20,7 @@ use Rattle.expr_ops.proofs.SlotLaws.{five_length}
 use Rattle.expr_ops.proofs.PlainLaws.{expression_sized}
 use Rattle.entry_read.specs.Slots.{slots_before, aim_at, IsRowOf}
 use Rattle.entry_read.specs.Units.{HeadAndForest}
-use Rattle.value_links.specs.Layouts.{place_told}
+use Rattle.written_files.specs.Layouts.{place_told}
 use Rattle.unit_slots.specs.declared.spots.Spots.{Spots}
 use Rattle.unit_slots.specs.inside.Rows.{HasSpots, NamesThere, IsRowFor, AreRows, entry_places}
 use Rattle.unit_slots.proofs.RowAims.{fixed_drop, slots_take, op_aims_length, aims_yes, aims_no, slots_up}

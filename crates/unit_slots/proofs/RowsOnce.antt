@@ -22,7 +22,7 @@ use Rattle.entry_read.specs.Expressions.{IsExprAt}
 use Rattle.entry_read.specs.Places.{HaveOwners}
 use Rattle.entry_read.specs.Slots.{value_aims, aims_before, meaning_at, slots_before, aims_of, aim_at, AreValuesBefore, IsPlaceRow, IsRowOf}
 use Rattle.entry_read.proofs.OwnerLaws.{values_belong}
-use Rattle.value_links.specs.Layouts.{AreNumbersOf, list_expressions, place_told, all_aims, HasSlots}
+use Rattle.written_files.specs.Layouts.{AreNumbersOf, list_expressions, place_told, all_aims, HasSlots}
 use Rattle.value_links.specs.Reading.{UnitRead, Reading, no_unit, unit_at, declarations, IsUnitRead}
 use Rattle.value_links.specs.Sections.{debug_info, debug_abbrev}
 use Rattle.value_links.specs.Whole.{IsReading}

@@ -1,7 +1,7 @@
 -- The slots of a unit stand in a file in one way.
 use Rattle.std.proofs.Common.{◌≡◌, ◌<◌, ℕ, List, length, subst}
 use Rattle.leb_codec.specs.Layout.{SlotRow}
-use Rattle.value_links.specs.Layouts.{HasSlots}
+use Rattle.written_files.specs.Layouts.{HasSlots}
 use Rattle.value_links.specs.Reading.{Reading}
 use Rattle.value_links.specs.Whole.{IsReading}
 use Rattle.unit_slots.specs.Standing.{HasStandingSlots}

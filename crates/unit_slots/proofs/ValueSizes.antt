@@ -74,7 +74,7 @@ role_no_expression r w n body e = absurd (cc (e))
 IsCountedBody : List ℕ → List ℕ → Type 0
 IsCountedBody body bytes = (head : List ℕ) × Uleb (length body) head × (bytes ≡ head ++ body)
 
-same_body : (a b : List ℕ) → Expression a ≡ Expression b → b ≡ a
+pub same_body : (a b : List ℕ) → Expression a ≡ Expression b → b ≡ a
 same_body a b e = cc
 
 expression_shape : (shape : Shape) (body bytes : List ℕ) → SpellsShape shape (Expression body) bytes → IsCountedBody body bytes

@@ -23,7 +23,7 @@ use Rattle.list_model.specs.declared.entry.RawEntry.{RawEntry}
 use Rattle.list_model.specs.Entries.{code_of, SpellsOperands}
 use Rattle.loc_lists.specs.Locations.{items_among, bytes_in}
 use Rattle.slot_layout.specs.Rows.{CanBeSizes}
-use Rattle.value_links.specs.Layouts.{AreOwnedLists, HasSlots}
+use Rattle.written_files.specs.Layouts.{AreOwnedLists, HasSlots}
 use Rattle.value_links.specs.Reading.{UnitRead, ListRead, Reading, unit_at, list_at}
 use Rattle.value_links.specs.Values.{HasValueAt}
 use Rattle.value_links.specs.Whole.{IsReading}

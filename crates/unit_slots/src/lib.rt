@@ -4,13 +4,14 @@
 ghost use Rattle.std.specs.Prelude.{◌≤◌, ◌<◌, length, IfOk};
 ghost use Rattle.dw_base.specs.declared.fault.Reach.{Reach};
 ghost use Rattle.slot_layout.specs.Rows.{rows_of, most_slots, HasRangesInside, HasFittingFixed, CanBeSizes};
-ghost use Rattle.value_links.specs.Layouts.{AreOwnedLists};
+ghost use Rattle.written_files.specs.Layouts.{AreOwnedLists};
 ghost use Rattle.value_links.specs.Reading.{Reading};
 ghost use Rattle.value_links.specs.Whole.{IsReading};
 ghost use Rattle.value_links.specs.World.{IsWorldOf};
 ghost use Rattle.unit_slots.specs.Standing.{HasStandingSlots};
 
 mod expressions;
+mod laws;
 mod list_operands;
 mod lists;
 mod operands;
@@ -19,6 +20,7 @@ mod rows;
 mod spots;
 mod values;
 
+pub use crate::laws::written_slots;
 pub use crate::list_operands::operands_end;
 use crate::lists::push_lists;
 use crate::own::{OwnSizes, own_sizes};

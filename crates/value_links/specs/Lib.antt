@@ -15,13 +15,6 @@ pub mod ListFaults
 pub mod Faults
 pub mod Same
 pub mod World
-pub mod Uses
-pub mod Placed
-pub mod Certificates
-pub mod Classes
-pub mod Layouts
-pub mod Tidy
-pub mod TidyLists
 pub mod Laws
 pub mod Parts
 pub mod Links

@@ -7,7 +7,6 @@ use Rattle.std.proofs.lemmas.List.Sums.{sum_by-le}
 use Rattle.std.proofs.lemmas.List.Elements.{All-from_get_or}
 use Rattle.std.proofs.lemmas.Bool.{cases_lt}
 use Rattle.std.proofs.lemmas.Bool.Decides.{nat_tests}
-use Rattle.dw_base.specs.declared.fault.Span.{Span}
 use Rattle.dw_base.specs.declared.fault.Reach.TheVariants.{Wide}
 use Rattle.spelled.specs.Spelled.{AreBytes}
 use Rattle.leb_codec.proofs.Lens.{unsigned_lens}
@@ -21,8 +20,6 @@ use Rattle.check_units.proofs.Tightness.{accepted_tight}
 use Rattle.expr_ops.specs.Expressions.{Operation}
 use Rattle.expr_ops.specs.Slots.{Aim, expression_aims}
 use Rattle.expr_ops.specs.Slots.Aim.{Place, Length}
-use Rattle.form_codec.specs.declared.value.Value.{Value}
-use Rattle.form_codec.specs.declared.value.Value.TheVariants as value
 use Rattle.form_codec.specs.declared.form.Width.{Width}
 use Rattle.form_codec.specs.declared.form.Width.TheVariants.{One, Two, Three, Four, Eight}
 use Rattle.form_codec.specs.declared.form.Shape.{Shape}
@@ -41,7 +38,8 @@ use Rattle.entry_read.specs.Slots.{value_aims, meaning_at, aims_before, aims_of,
 use Rattle.list_model.specs.declared.entry.RawEntry.{RawEntry}
 use Rattle.list_model.specs.declared.entry.ListKind.TheVariants.{Ranges, Locations}
 use Rattle.value_links.specs.Faults.{IsValid}
-use Rattle.value_links.specs.Layouts.{all_aims, list_expressions, place_told}
+use Rattle.written_files.proofs.Counterparts.{expression_value}
+use Rattle.written_files.specs.Layouts.{all_aims, list_expressions, place_told}
 use Rattle.value_links.specs.Lists.{expressions_at}
 use Rattle.value_links.specs.Reading.{UnitRead, Reading, unit_at, list_at, IsUnitRead}
 use Rattle.value_links.specs.Sections.{debug_info, debug_abbrev, debug_line, debug_lists, info_name, lists_name, section_named}
@@ -98,10 +96,6 @@ values_fit f ops each zero within = tt
 values_fit f ops each (suc k) within =
     fitting_append (aims_before (meaning_at f) ops k) (value_aims (meaning_at f k) (ops k)) (values_fit f ops each k (omega (arith, within))) (each k (omega (arith, within)))
 
-expression_span : (section : List ℕ) (v : Value) (bytes : List ℕ) → meant_in section v ≡ Expression bytes → (span : Span) × (v ≡ value.Expr span)
-expression_span section (value.Expr span) bytes e = (span, refl)
-expression_span section v bytes e = absurd (cc (e))
-
 fitting_at : (aims : List Aim) (i : ℕ) → AreFitting aims → IsFitting (aim_at aims i)
 fitting_at [] i fit = omega arith
 fitting_at (aim ∷ aims) zero (one, rest) = one
@@ -144,7 +138,7 @@ module _ (written : List ℕ) (valid : IsValid written Wide) (s : Reading) (read
 
   held_fits : (k : ℕ) → k < length unit.forest.values → (bytes : List ℕ) → meaning_at unit.forest k ≡ Expression bytes → AreFitting (expression_aims (stand.slots.ops k))
   held_fits k inside bytes is =
-      let (span, at) = expression_span unit.forest.section (value_at unit.forest.values k) bytes is in
+      let (span, at) = expression_value unit.forest.section (value_at unit.forest.values k) bytes is in
       expression_fits (stand.slots.ops k) (bytes_in unit.forest.section span) (stand.slots.spelled k span (record { inside = inside; is = at })) (omega (arith, part_short span.len span.at unit.forest.section, info_short))
 
   own_fit : AreFitting (aims_of unit.forest stand.slots.ops)

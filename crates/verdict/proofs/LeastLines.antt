@@ -21,8 +21,8 @@ use Rattle.line_write.proofs.ReadBack.{bounds}
 use Rattle.check_lines.proofs.Least.{accepted_are_least}
 use Rattle.value_links.specs.Reading.{ProgramRead, Reading, line_heads, no_program, program_at}
 use Rattle.value_links.specs.Sections.{debug_line}
-use Rattle.check_classes.specs.Tidy.{IsTidy}
-use Rattle.check_classes.specs.Tidy.Row.{AProgram as ProgramRow}
+use Rattle.tidy_files.specs.Tidy.{IsTidy}
+use Rattle.tidy_files.specs.Tidy.Row.{AProgram as ProgramRow}
 use Rattle.check_records.specs.Accepted.{IsAccepted, SaysOf, accepting}
 use Rattle.check_records.specs.Parts.{Part, AProgram, numbers_below}
 use Rattle.verdict.proofs.AmongParts.{StandsAmong, among_more, said_of}

@@ -34,14 +34,14 @@ use Rattle.loc_lists.proofs.LocationLaws.{said as locations_said}
 use Rattle.list_least.specs.Shortest.{ShortestEntry, ShortestList}
 use Rattle.list_least.proofs.Bound.{plans_least}
 use Rattle.list_least.proofs.Shortest.{frozen_least}
-use Rattle.value_links.specs.Certificates.{IsListWithout, ArePotentialsFor}
-use Rattle.value_links.specs.Classes.{AreBare, IsLeastWritten, HaveLeastLists}
+use Rattle.written_files.specs.Certificates.{IsListWithout, ArePotentialsFor}
+use Rattle.written_files.specs.Classes.{AreBare, IsLeastWritten, HaveLeastLists}
 use Rattle.value_links.specs.Lists.{IsFrozen, IsListOf}
 use Rattle.value_links.specs.Reading.{Reading, of_kind, lists_of, part_at, list_at, context_at}
 use Rattle.value_links.specs.Sections.{debug_addr, debug_line, offset_named, lists_name}
 use Rattle.value_links.proofs.ListMeanings.{owner_once}
-use Rattle.long_numbers.specs.LongLists.{IsLongOperandOf, AreLongOperandsOf}
-use Rattle.check_classes.specs.Tidy.{IsTidy, ANumber}
+use Rattle.tidy_numbers.specs.LongLists.{IsLongOperandOf, AreLongOperandsOf}
+use Rattle.tidy_files.specs.Tidy.{IsTidy, ANumber}
 use Rattle.check_records.specs.Accepted.{SaysOf, accepting, IsAccepted}
 use Rattle.check_records.specs.Parts.{Part, AList, AProgram, AUnit, numbers_below, AreUnfrozen, AreParts}
 use Rattle.check_records.proofs.BareBytes.{behind_code, onward, parted_at, in_section}

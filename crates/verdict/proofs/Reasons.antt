@@ -9,7 +9,7 @@ use Rattle.value_links.specs.Reading.{Reading}
 use Rattle.value_links.specs.Same.{Same}
 use Rattle.same_meaning.specs.declared.reason.Reason.{Reason}
 use Rattle.same_meaning.specs.declared.reason.Reason.TheVariants as reason
-use Rattle.check_classes.specs.Tidy.{IsTidy}
+use Rattle.tidy_files.specs.Tidy.{IsTidy}
 use Rattle.check_records.specs.Parts.{Part, AProgram, AList, AUnit, IsFor, HasRecords}
 use Rattle.check_records.specs.Accepted.{Judges, SaysOf, accepting, IsAccepted, IsFirstRefused, IsNamedBy}
 use Rattle.check_records.specs.Strays.{IsRecordFile, IsStray}

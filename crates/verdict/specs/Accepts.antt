@@ -6,16 +6,16 @@ use Rattle.line_write.specs.Least.{LeastLines}
 use Rattle.same_meaning.specs.declared.reason.Reason.{Reason}
 use Rattle.same_meaning.specs.declared.reason.Reason.TheVariants as reason
 use Rattle.same_meaning.specs.Differences.{IsFirstDifference}
-use Rattle.value_links.specs.Classes.{HaveLeastCodes, HaveLeastColumns, HaveLeastLists}
+use Rattle.written_files.specs.Classes.{HaveLeastCodes, HaveLeastColumns, HaveLeastLists}
 use Rattle.value_links.specs.Faults.{IsValid}
 use Rattle.unit_slots.specs.Standing.{HaveLeastStandingLayouts}
 use Rattle.value_links.specs.Same.{Same}
 use Rattle.value_links.specs.Sections.{debug_line}
-use Rattle.check_classes.specs.Tidy.{IsTidy, IsFirstUntidy}
+use Rattle.tidy_files.specs.Tidy.{IsTidy, IsFirstUntidy}
 use Rattle.check_records.specs.Accepted.{IsAccepted, IsFirstRefused}
 use Rattle.check_records.specs.Strays.{IsRecordFile, IsStray}
 
--- Both files are valid and mean the same, the written one is as a writer makes it, and each record of the certificate is accepted.
+-- Both files are valid and mean the same, none of the rows of what isn't tidy holds of the written one, and each record of the certificate is accepted.
 pub record Accepts (file written certificate : List ℕ) : Type 0 where
   pub valid : IsValid file Narrow
   pub still_valid : IsValid written Wide
@@ -48,8 +48,8 @@ IsFirstReason file written certificate (reason.Differs unit entry) = IsRecordFil
 -- WHAT ACCEPTANCE SHOWS
 
 -- No line number program, list, column, numbering of declarations and layout of a unit of a written file has a shorter one in its class. The
--- classes are told by the written file alone: since it means the same as the file for which it was written, they are also those of that file's
--- parts.
+-- classes are told by the written file alone: since it means the same as the file for which it was written and is tidy, so that its tables and
+-- declarations correspond to those that this file uses, they are also those of that file's parts.
 pub record IsAllLeast (written : List ℕ) : Type 0 where
   pub lines : LeastLines (debug_line written) (debug_line written)
   pub lists : HaveLeastLists written written

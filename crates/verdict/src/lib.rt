@@ -8,12 +8,15 @@ ghost use Rattle.value_links.specs.Sections.{debug_addr, debug_line};
 ghost use Rattle.value_links.specs.World.{IsWorldOf};
 ghost use Rattle.verdict.specs.Accepts.{Accepts, IsFirstReason, IsAllLeast};
 
-use check_classes::accept_classes;
+mod laws;
+
+pub use crate::laws::written_are_accepted;
 use check_records::{first_broken, first_refused, first_stray};
 use dw_base::NoMemory;
 pub use same_meaning::Reason;
 use same_meaning::first_difference;
 use std::alloc::Global;
+use tidy_files::accept_classes;
 use value_links::World;
 
 // A law: contracts see a section as a list of numbers, and each is a byte.

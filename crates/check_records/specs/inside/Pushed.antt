@@ -4,7 +4,7 @@ use Rattle.std.specs.Prelude.{◌≡◌, ◌++◌, ℕ, List, length, map, slice
 use Rattle.list_model.specs.declared.entry.ListKind.{ListKind}
 use Rattle.list_model.specs.declared.item.Meaning.TheVariants.{Dead}
 use Rattle.list_arena.specs.Held.{HeldList}
-use Rattle.value_links.specs.Layouts.{AreNumbersOf}
+use Rattle.written_files.specs.Layouts.{AreNumbersOf}
 use Rattle.value_links.specs.World.{World, lists_held}
 use Rattle.check_records.specs.declared.parts.Part.{Part as HeldPart}
 use Rattle.check_records.specs.declared.parts.Part.TheVariants as held

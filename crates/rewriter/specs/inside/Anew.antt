@@ -7,7 +7,7 @@ use Rattle.value_links.specs.Sections.{debug_line, debug_aranges}
 use Rattle.value_links.specs.Reading.{Linkable, Reading, of_kind, lists_of, line_heads, unit_starts, program_at, AreProgramsIn}
 use Rattle.list_model.specs.declared.entry.ListKind.{ListKind}
 use Rattle.list_model.specs.declared.entry.ListKind.TheVariants.{Ranges, Locations}
-use Rattle.value_links.specs.TidyLists.{IsFilled}
+use Rattle.written_files.specs.TidyLists.{IsFilled}
 use Rattle.value_links.specs.Laws.{HaveFewRows}
 use Rattle.value_links.specs.World.{World}
 use Rattle.rewriter.specs.declared.tables.NewTable.{NewTable}

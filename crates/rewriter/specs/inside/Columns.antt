@@ -14,7 +14,7 @@ use Rattle.entry_arena.specs.declared.entry.Entry.{Entry}
 use Rattle.entry_arena.specs.Arena.{value_at}
 use Rattle.entry_read.specs.declared.head.UnitHead.{UnitHead}
 use Rattle.entry_read.specs.Units.{HeadAndForest, declarations_of, IsUnitHeld, entry_limit}
-use Rattle.value_links.specs.Uses.{are_inside}
+use Rattle.written_files.specs.Uses.{are_inside}
 use Rattle.rewriter.specs.declared.columns.Namers.{Namers}
 use Rattle.rewriter.specs.declared.inside_columns.Seen.{Seen}
 use Rattle.rewriter.specs.declared.inside_columns.Seen.TheVariants.{Nothing, Inside, Outside}

@@ -6,7 +6,7 @@ use Rattle.entry_read.specs.Units.{HeadAndForest, entry_limit}
 use Rattle.value_links.specs.declared.units.NamedTable.{NamedTable}
 use Rattle.value_links.specs.World.{table_at}
 use Rattle.rewriter.specs.declared.uses.Uses.{Uses}
-use Rattle.value_links.specs.Uses.{AreUses}
+use Rattle.written_files.specs.Uses.{AreUses}
 use Rattle.rewriter.specs.inside.Placed.{unit_in}
 
 -- each entry has a declaration with one of so many numbers

@@ -6,7 +6,7 @@ use Rattle.value_links.specs.Whole.{IsReading}
 use Rattle.value_links.specs.Debug.{UnitMeaning, MeanUnits}
 use Rattle.dw_base.specs.declared.fault.Reach.TheVariants.{Wide}
 use Rattle.value_links.specs.Laws.{AreExpressionsWithin}
-use Rattle.value_links.specs.Tidy.{AreTidyExpressions}
+use Rattle.written_files.specs.Tidy.{AreTidyExpressions}
 use Rattle.value_links.specs.World.{World, Holds}
 use Rattle.rewriter.specs.declared.tables.NewTable.{NewTable}
 use Rattle.rewriter.specs.declared.new_places.NewPlaces.{NewPlaces}

@@ -16,8 +16,8 @@ use Rattle.list_write.specs.Written.{ToWrite, all_runs, runs_before, AreWritten}
 use Rattle.list_write.specs.Written.{list_at as written_at}
 use Rattle.value_links.specs.Reading.{ListRead, Linkable, Reading, of_kind, lists_of, list_at, view_at, context_at}
 use Rattle.value_links.specs.Lists.{IsOwner, IsFrozen, owner_unit, expressions_at}
-use Rattle.value_links.specs.Classes.{AreLeastBytes}
-use Rattle.value_links.specs.Layouts.{AreNumbersOf}
+use Rattle.written_files.specs.Classes.{AreLeastBytes}
+use Rattle.written_files.specs.Layouts.{AreNumbersOf}
 use Rattle.rewriter.specs.inside.Numbers.{IsNewExpression}
 use Rattle.rewriter.specs.inside.Runs.{views_among, run_for}
 

@@ -8,8 +8,8 @@ use Rattle.list_write.specs.Written.{moved_at}
 use Rattle.value_links.specs.Reading.{ListSection, ListRead, Reading, of_kind, lists_of, part_at, list_at}
 use Rattle.value_links.specs.ListPlaces.{IsListPlace, SlotNames}
 use Rattle.value_links.specs.Lists.{IsListOf, expressions_in}
-use Rattle.value_links.specs.Classes.{AreBare, AreLeastBytes}
-use Rattle.value_links.specs.TidyLists.{IsWhole}
+use Rattle.written_files.specs.Classes.{AreBare, AreLeastBytes}
+use Rattle.written_files.specs.TidyLists.{IsWhole}
 use Rattle.rewriter.specs.declared.new_places.ListPlaces.{ListPlaces}
 use Rattle.rewriter.specs.inside.Lists.{MeanTheSame, AreNewExpressions}
 

@@ -8,7 +8,7 @@ use Rattle.expr_ops.specs.Slots.{Aim, expression_aims}
 use Rattle.entry_read.specs.Units.{HeadAndForest}
 use Rattle.unit_write.specs.declared.slots.ListSlot.{ListSlot}
 use Rattle.unit_write.specs.Slots.{AreListSlots}
-use Rattle.value_links.specs.Layouts.{list_expressions}
+use Rattle.written_files.specs.Layouts.{list_expressions}
 use Rattle.value_links.specs.Reading.{Reading}
 use Rattle.value_links.specs.World.{World, Holds}
 

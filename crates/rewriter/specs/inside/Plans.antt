@@ -12,7 +12,7 @@ use Rattle.list_write.specs.Written.{AreEnds, Piece, IsPieceOf, pieces, to_write
 use Rattle.unit_write.specs.declared.places.Places.{Places}
 use Rattle.list_arena.specs.Held.{HeldList, HeldViews}
 use Rattle.value_links.specs.Reading.{ListRead, Reading}
-use Rattle.value_links.specs.Layouts.{AreNumbersOf}
+use Rattle.written_files.specs.Layouts.{AreNumbersOf}
 use Rattle.value_links.specs.ListFaults.{expression_bytes}
 use Rattle.value_links.specs.World.{World, lists_held, Holds, HoldsList}
 use Rattle.rewriter.specs.inside.Lists.{IsPlannedFor, IsRecordedFor, AreNewExpressions}

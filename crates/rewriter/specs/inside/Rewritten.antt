@@ -5,11 +5,11 @@ use Rattle.line_write.specs.Least.{LeastLines, OrderedLines}
 use Rattle.value_links.specs.Sections.{debug_line}
 use Rattle.value_links.specs.Faults.{IsValid}
 use Rattle.value_links.specs.Same.{Same}
-use Rattle.value_links.specs.Placed.{IsPlaced}
-use Rattle.value_links.specs.Certificates.{IsCertificate, IsFirstCertificate}
-use Rattle.value_links.specs.Classes.{HaveLeastCodes, HaveOrderedCodes, HaveLeastColumns, HaveFirstColumns, HaveLeastLists}
-use Rattle.value_links.specs.Layouts.{HaveLeastLayouts}
-use Rattle.value_links.specs.Tidy.{IsTidy}
+use Rattle.written_files.specs.Placed.{IsPlaced}
+use Rattle.written_files.specs.Certificates.{IsCertificate, IsFirstCertificate}
+use Rattle.written_files.specs.Classes.{HaveLeastCodes, HaveOrderedCodes, HaveLeastColumns, HaveFirstColumns, HaveLeastLists}
+use Rattle.written_files.specs.Layouts.{HaveLeastLayouts}
+use Rattle.written_files.specs.Tidy.{IsTidy}
 
 -- The written file means the same and is valid within the wide limits. Its line number programs, its lists, the forms of its columns,
 -- the codes of its entries and the slots of its units take the fewest bytes, and of several such choices each is the one that comes first

@@ -7,7 +7,7 @@ use Rattle.elf_sections.specs.Sections.{HasNone}
 use Rattle.elf_place.specs.Same.{SameImage}
 use Rattle.value_links.specs.Sections.{body_named}
 use Rattle.value_links.specs.Laws.{IsImageInOrder}
-use Rattle.value_links.specs.Placed.{IsPlaced}
+use Rattle.written_files.specs.Placed.{IsPlaced}
 use Rattle.rewriter.specs.declared.sections.NewSections.{NewSections}
 use Rattle.rewriter.specs.inside.Bodies.{NewBytes, new_bytes}
 

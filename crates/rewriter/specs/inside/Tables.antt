@@ -10,7 +10,7 @@ use Rattle.entry_read.specs.Units.{HeadAndForest, declarations_of}
 use Rattle.unit_write.specs.Placing.{IsRenumbered}
 use Rattle.value_links.specs.declared.units.NamedTable.{NamedTable}
 use Rattle.value_links.specs.World.{World, table_at}
-use Rattle.value_links.specs.Uses.{AreUses, uses_of, column_meanings}
+use Rattle.written_files.specs.Uses.{AreUses, uses_of, column_meanings}
 use Rattle.rewriter.specs.declared.tables.NewTable.{NewTable}
 
 -- a table as it is written anew: its place, a new column for each of its columns, and the new code of each declaration, or 0

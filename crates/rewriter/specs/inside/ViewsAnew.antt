@@ -5,7 +5,7 @@ use Rattle.loc_lists.specs.Views.{IsRunAt}
 use Rattle.value_links.specs.Reading.{ViewRead, Reading, part_at, list_at, view_at}
 use Rattle.value_links.specs.ListPlaces.{IsListPlace}
 use Rattle.value_links.specs.Lists.{AreViewsApart}
-use Rattle.value_links.specs.TidyLists.{IsRunMoved}
+use Rattle.written_files.specs.TidyLists.{IsRunMoved}
 use Rattle.rewriter.specs.declared.new_places.MovedViews.{MovedViews}
 use Rattle.rewriter.specs.inside.NewPlaces.{moved_views_at}
 

@@ -12,7 +12,7 @@ use Rattle.list_model.specs.declared.entry.RawEntry.{RawEntry}
 use Rattle.loc_lists.specs.Locations.{is_item, items_among, bytes_in}
 use Rattle.entry_read.specs.Units.{HeadAndForest}
 use Rattle.list_arena.specs.Held.{HeldList}
-use Rattle.value_links.specs.Layouts.{all_aims, list_expressions}
+use Rattle.written_files.specs.Layouts.{all_aims, list_expressions}
 use Rattle.value_links.specs.Reading.{Reading}
 use Rattle.value_links.specs.World.{World, Holds}
 use Rattle.unit_slots.specs.declared.spots.Spots.{Spots}

@@ -11,7 +11,7 @@ use Rattle.entry_arena.specs.declared.entry.Target.{Target}
 use Rattle.entry_arena.specs.Arena.{Arena}
 use Rattle.entry_read.specs.Slots.{aim_at, IsRowOf}
 use Rattle.entry_read.specs.Units.{HeadAndForest}
-use Rattle.value_links.specs.Layouts.{place_told}
+use Rattle.written_files.specs.Layouts.{place_told}
 use Rattle.value_links.specs.Linked.{IsTargetAt}
 use Rattle.unit_slots.specs.declared.spots.Spots.{Spots}
 use Rattle.unit_slots.specs.inside.Own.{AreStarts}

@@ -1,8 +1,7 @@
 use Rattle.std.proofs.Common.{◌≡◌, ◌≤◌, ◌<◌, ◌∙◌, ℕ, [], length, sym, refl, arith}
 use Rattle.std.proofs.lemmas.List.{get_or-map, length-map, ext_get_or}
 use Rattle.abbrev_tables.specs.declared.decl.Spec.{Spec}
-use Rattle.abbrev_tables.specs.Listings.{spec_at}
-use Rattle.value_links.specs.Tidy.{names_of}
+use Rattle.abbrev_tables.specs.Listings.{spec_at, names_of}
 use Rattle.same_meaning.proofs.EntryMeanings.{name_alike}
 use Rattle.same_meaning.proofs.attributes.have_same_names.Goals as goal
 

@@ -1,6 +1,0 @@
-mod FileOffsets
-mod FirstPlaces
-mod TreeEnds
-mod PaddedUnits
-mod OtherPrograms
-mod TidyRows

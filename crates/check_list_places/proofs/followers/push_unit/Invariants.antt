@@ -1,6 +1,0 @@
-use Rattle.check_list_places.specs.inside.Compared.{OfBoth}
-use Rattle.check_list_places.specs.inside.NamedNumbers.{Adds, Below, ArePairedBy}
-use Rattle.check_list_places.proofs.followers.push_unit.Given as goal
-
-abbrev pub invariant-loop-number : goal.invariant-loop-number
-invariant-loop-number l = OfBoth l.before l.after (λ r s. Adds (Below (ArePairedBy l.sought r s l.unit) l.number) l.fn.pairs.items l.pairs.items)

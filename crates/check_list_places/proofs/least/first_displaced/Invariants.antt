@@ -1,6 +1,0 @@
-use Rattle.check_places.specs.Firsts.{IsLeastFound}
-use Rattle.check_list_places.specs.inside.LeastPlaces.{IsDisplaced}
-use Rattle.check_list_places.proofs.least.first_displaced.Given as goal
-
-abbrev pub invariant-loop-pair : goal.invariant-loop-pair
-invariant-loop-pair l = IsLeastFound (IsDisplaced l.pair-index l.pairs l.stands l.due) l.least

@@ -1,6 +1,0 @@
-use Rattle.std.specs.Prelude.{◌≤◌}
-use Rattle.check_list_places.proofs.LooseSpans.{AreWalked}
-use Rattle.check_list_places.proofs.loose.first_gap.Given as goal
-
-abbrev pub invariant-loop-start : goal.invariant-loop-start
-invariant-loop-start l = AreWalked l.spans l.start-index l.covered × (l.covered ≤ l.end)

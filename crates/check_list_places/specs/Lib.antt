@@ -1,4 +1,0 @@
-pub mod Followers
-pub mod Due
-pub mod Rows
-pub mod inside

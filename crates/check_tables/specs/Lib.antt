@@ -1,3 +1,0 @@
-pub mod Untidy
-pub mod Rows
-pub mod inside

@@ -1,8 +1,0 @@
-use Rattle.check_places.specs.Firsts.{IsLeastFound}
-use Rattle.long_numbers.specs.inside.Expressions.{IsLongInValue}
-use Rattle.long_numbers.proofs.FoundAmong.{HoldsBelow}
-use Rattle.long_numbers.proofs.operations.first_in_values.Given as goal
-
--- the least place in the expressions of the values so far
-abbrev pub invariant-loop-number : goal.invariant-loop-number
-invariant-loop-number l = IsLeastFound (HoldsBelow (IsLongInValue l.forest) l.number) l.found

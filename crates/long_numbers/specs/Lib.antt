@@ -1,7 +1,0 @@
-pub mod Fronts
-pub mod LongTables
-pub mod LongUnits
-pub mod LongOperations
-pub mod LongLists
-pub mod LongNumbers
-pub mod inside

@@ -1,0 +1,12 @@
+mod FileOffsets
+mod FirstPlaces
+mod TreeEnds
+mod PaddedUnits
+mod OtherPrograms
+mod TidyRows
+mod WrittenFiles
+mod Searches
+mod WholeTables
+mod WholeEntries
+mod WholeLists
+mod WholeFiles

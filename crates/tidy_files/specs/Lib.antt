@@ -1,0 +1,4 @@
+pub mod Tidy
+pub mod Whole
+pub mod Laws
+pub mod inside

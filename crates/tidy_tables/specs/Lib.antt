@@ -1,0 +1,4 @@
+pub mod Untidy
+pub mod Rows
+pub mod Laws
+pub mod inside

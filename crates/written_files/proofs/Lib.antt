@@ -1,0 +1,14 @@
+pub mod Zips
+pub mod Forms
+pub mod AlikeMeanings
+pub mod ColumnSpellings
+pub mod SameValues
+pub mod Counterparts
+pub mod Filled
+pub mod Standing
+pub mod OwnBytes
+pub mod FewestSizes
+pub mod FewestPut
+pub mod FewestBytes
+pub mod Expressions
+pub mod Laws

@@ -1,0 +1,9 @@
+pub mod Uses
+pub mod Placed
+pub mod Classes
+pub mod Layouts
+pub mod Certificates
+pub mod TidyLists
+pub mod Tidy
+pub mod Written
+pub mod inside
