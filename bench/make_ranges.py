@@ -2,12 +2,14 @@
 """Writes an ELF file with many range lists for the measures.
 
   bench/make_ranges.py FILE [--items N] [--longest N] [--table N] [--lists N] [--random] [--even]
+  bench/make_ranges.py FILE --ends N
 
 One unit, with an entry for each list. Defaults: 1,000,000 items in lists of 1 to 50, without an address table, in order of address.
 --lists N gives N lists of --longest items each. --table N gives the unit an address table with the starts of N functions, of which
 some are items' starts. --even gives items that are functions of the table, evenly spaced and in order: for each item many bases save
 as many bytes, so that the search for the shortest list has the most to keep. --random draws the items of a list in any order. The lists are written as a compiler writes them: a base
-address and offsets, or indexes where there is a table. The same words give the same bytes.
+address and offsets, or indexes where there is a table. --ends N gives one list of N items, and N lists that are its ends: values
+name each of its entries, so that the file holds each entry as often as lists reach over it. The same words give the same bytes.
 """
 import argparse
 import random
@@ -68,11 +70,17 @@ def main():
     parser.add_argument("--table", type=int, default=0)
     parser.add_argument("--random", action="store_true")
     parser.add_argument("--even", action="store_true")
+    parser.add_argument("--ends", type=int, default=0)
     arguments = parser.parse_args()
     rng = random.Random(7)
     functions = [0x400000 + 64 * i for i in range(arguments.table)]
     section, places, address = bytearray(12), [], 0x400000
-    for count in lengths(rng, arguments):
+    for i in range(arguments.ends):
+        places.append(len(section))
+        section += bytes([OFFSET_PAIR]) + uleb(2 * i) + uleb(2 * i + 1)
+    if arguments.ends:
+        section += b"\0"
+    for count in [] if arguments.ends else lengths(rng, arguments):
         places.append(len(section))
         if arguments.even:
             section += even_bytes(count, functions)

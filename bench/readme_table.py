@@ -1,0 +1,77 @@
+#!/usr/bin/env python3
+"""Prints README's table: what dwz, this program, and this program behind dwz make of files, and what each takes.
+
+  bench/readme_table.py [--program PROGRAM] [--dwz PROGRAM] [--runs N] FILE ..
+
+Bytes are those of the five sections that this program writes, as they are and with each compressed by zlib at level 6. Seconds are of the
+processor, the fastest of N runs (3), the tools in turn; memory is the peak, in MB of 10^6 bytes. Behind dwz both tools' seconds are
+added, and the greater peak is told. Run it with nothing beside.
+"""
+import argparse
+import os
+import shutil
+import subprocess
+import tempfile
+import zlib
+from typing import List, Optional
+
+from compare_dwz import SECTIONS, Run, added, measured, sizes_of
+
+TOP = os.path.dirname(os.path.dirname(os.path.abspath(__file__)))
+
+
+def compressed(path: str) -> int:
+    """The bytes of the five sections, each compressed by zlib."""
+    found = 0
+    with tempfile.TemporaryDirectory() as folder:
+        for name in SECTIONS:
+            body = os.path.join(folder, "body")
+            subprocess.run(["objcopy", "-O", "binary", "--only-section", name, "--set-section-flags", f"{name}=alloc", path, body],
+                           stderr=subprocess.DEVNULL, check=False)
+            if os.path.exists(body):
+                with open(body, "rb") as file:
+                    found += len(zlib.compress(file.read(), 6))
+                os.remove(body)
+    return found
+
+
+def better(one: Optional[Run], other: Run) -> Run:
+    return other if one is None or other.seconds < one.seconds else one
+
+
+def lines(path: str, program: str, dwz: str, runs: int) -> List[str]:
+    """The rows of a file: its bytes, and what the tools take."""
+    with tempfile.TemporaryDirectory() as folder:
+        by_dwz, ours, behind = (os.path.join(folder, name) for name in ("dwz", "ours", "behind"))
+        best: List[Optional[Run]] = [None, None, None]
+        for _ in range(runs):
+            best[0] = better(best[0], measured([dwz, "-o", by_dwz, path], by_dwz, 1))
+            best[1] = better(best[1], measured([program, "shrink", path, ours, "/dev/null"], ours, 1))
+            if os.path.exists(by_dwz):
+                best[2] = better(best[2], measured([program, "shrink", by_dwz, behind, "/dev/null"], behind, 1))
+        before = Run(sizes=sizes_of(path))
+        made = [run or Run(refused="no input") for run in best]
+        files = [path, by_dwz, ours, behind]
+        raw = [f"{added([run]):,}" if not run.refused else run.refused for run in (before, *made)]
+        packed = [f"{compressed(file):,}" if os.path.exists(file) else "" for file in files]
+        both = Run(made[0].seconds + made[2].seconds, max(made[0].megabytes, made[2].megabytes))
+        taken = [f"{run.seconds:.2f}; {run.megabytes:.0f}" for run in (made[0], made[1], both)]
+    name = os.path.basename(path)
+    return [f"| {name} | bytes | " + " | ".join(raw) + " |", "| | by zlib | " + " | ".join(packed) + " |",
+            "| | seconds; MB | | " + " | ".join(taken) + " |"]
+
+
+def main() -> None:
+    parser = argparse.ArgumentParser(description=__doc__.split("\n")[0])
+    parser.add_argument("files", nargs="+")
+    parser.add_argument("--program", default=os.path.join(TOP, "mikadocherry"))
+    parser.add_argument("--dwz", default=shutil.which("dwz") or "dwz")
+    parser.add_argument("--runs", type=int, default=3)
+    arguments = parser.parse_args()
+    print("| program | | input | `dwz` | this program | `dwz`, then this program |\n|---|---|---:|---:|---:|---:|")
+    for path in arguments.files:
+        print("\n".join(lines(path, arguments.program, arguments.dwz, arguments.runs)), flush=True)
+
+
+if __name__ == "__main__":
+    main()
