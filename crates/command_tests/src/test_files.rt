@@ -1,5 +1,5 @@
 // Files made by hand, and what the program answers to them.
-use crate::running::run;
+use commands::run;
 use dw_base::{MemHost, NamedFile};
 use std::alloc::{AllocError, Global};
 use std::process::Abort;

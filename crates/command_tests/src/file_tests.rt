@@ -1,10 +1,10 @@
 // Files in memory: which are written, and what is answered where a file, a call or the words are at fault.
 use crate::line_tests::{LEAST_TWO_ROWS, TWO_ROWS};
-use crate::running::run;
 use crate::test_files::{
     BEFORE, CERTIFICATE_BEFORE, MAGIC, answer_to, elf_file, is_certified, is_unwritten, is_written,
     shrunk, words_of,
 };
+use commands::run;
 use dw_base::{Host, NamedFile, QuietHost};
 use std::test::Fail;
 

@@ -1,12 +1,12 @@
 // What is said of a file, one that was written for it, and the certificate of this one.
 use crate::line_tests::{NO_ROWS, SAMPLE};
-use crate::running::run;
 use crate::sample_tests::{
     CLANG_ABBREVS, CLANG_ADDRESSES, CLANG_INFO, CLANG_LOCATIONS, CLANG_RANGES, GCC_ABBREVS,
     GCC_INFO, GCC_LOCATIONS, LEAST_CLANG_ABBREVS_WITH_LISTS, LEAST_CLANG_INFO_WITH_LISTS,
     LEAST_CLANG_LOCATIONS,
 };
 use crate::test_files::{MAGIC, elf_file, named, shrunk, words_of};
+use commands::run;
 use dw_base::MemHost;
 use std::alloc::{AllocError, Global};
 use std::process::Abort;
