@@ -11,8 +11,6 @@ mod proof;
 mod reading;
 mod record;
 mod runs;
-#[cfg(test)]
-mod tests;
 mod writing;
 
 pub use dw_base::Run;

@@ -7,8 +7,6 @@ ghost use Rattle.check_lines.specs.Laws.{AcceptedAreLeast, AcceptedTakeFewest, O
 mod accept;
 mod places;
 mod spread;
-#[cfg(test)]
-mod tests;
 
 pub use accept::accept_program;
 pub use dw_base::Run;

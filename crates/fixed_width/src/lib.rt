@@ -4,8 +4,6 @@
 
 mod initial_length;
 mod read;
-#[cfg(test)]
-mod tests;
 mod write;
 
 pub use initial_length::{LengthFault, end_of_unit, version_of_unit};

@@ -7,8 +7,6 @@ ghost use Rattle.leb_codec.specs.LebLaws.{UnsignedLens, SignedLens, UnsignedSpel
 
 mod read;
 mod signed;
-#[cfg(test)]
-mod tests;
 mod write;
 
 pub use read::{LebFault, ReadU, read_u};

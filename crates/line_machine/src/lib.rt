@@ -9,8 +9,6 @@ mod opcode;
 mod place;
 mod registers;
 mod table;
-#[cfg(test)]
-mod tests;
 
 pub use cursor::Cursor;
 pub use head::{Head, OPERAND_COUNTS};

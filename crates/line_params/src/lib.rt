@@ -7,16 +7,10 @@ mod choice;
 mod numbers;
 mod opcodes;
 mod pair;
-#[cfg(test)]
-mod pair_tests;
 mod program;
 mod rows;
 mod runs;
-#[cfg(test)]
-mod runs_tests;
 mod search;
-#[cfg(test)]
-mod tests;
 mod write;
 
 pub use dw_base::Run;

@@ -8,8 +8,6 @@ ghost use Rattle.line_step.specs.Laws.{AddressLaws, DistanceLaws, LineLaws};
 
 mod address;
 mod row;
-#[cfg(test)]
-mod tests;
 mod way;
 
 pub use address::{advance, advance_way};

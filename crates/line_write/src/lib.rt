@@ -5,8 +5,6 @@ ghost use Rattle.line_write.specs.Laws.{OneMeaning, LinesRead};
 
 mod lines;
 mod read;
-#[cfg(test)]
-mod tests;
 mod unit;
 
 pub use lines::{Lines, shrink_lines};

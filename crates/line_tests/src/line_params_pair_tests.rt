@@ -1,9 +1,9 @@
 // Least pairs beside a plain search of all pairs.
-ghost use Rattle.std.specs.Prelude.{◌<◌, ◌≤◌};
+ghost use Rattle.std.specs.Prelude.{◌<◌};
 
-use crate::tests::{HEAD, are_rows, end, row};
-use crate::{Pair, least_pair};
+use crate::rows::{HEAD, are_rows, end, row};
 use line_machine::{Head, Row};
+use line_params::{Pair, least_pair};
 use line_step::{advance, step};
 use std::alloc::Global;
 use std::test::Fail;

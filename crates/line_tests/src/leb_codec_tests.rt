@@ -1,6 +1,6 @@
 // Numbers whose bytes are known from elsewhere.
-use crate::{LebFault, ReadS, ReadU, len_s, len_u, put_padded, put_s, put_u, read_s, read_u};
 use dw_base::NoMemory;
+use leb_codec::{LebFault, ReadS, ReadU, len_s, len_u, put_padded, put_s, put_u, read_s, read_u};
 
 #[test]
 fn known_numbers_are_read(rt: HostRuntime) {

@@ -1,8 +1,8 @@
 // Sections whose least programs are known from elsewhere, or worked out from the costs of their steps, and sections whose
 // faults are known.
-use crate::{read_lines, shrink_lines};
 use dw_base::{Fault, Kind, Refusal, Span};
 use line_machine::Head;
+use line_write::{read_lines, shrink_lines};
 use std::test::Fail;
 
 // One program in which an operand is padded. With the range 49 const_add_pc advances by 4, and of the line bases under

@@ -1,5 +1,5 @@
 // Record files that were written by hand and by another program.
-use crate::{CertFault, Proof, Run, put_record, read, read_record, write};
+use certificates::{CertFault, Proof, Run, put_record, read, read_record, write};
 use dw_base::NoMemory;
 use std::alloc::Global;
 use std::test::Fail;

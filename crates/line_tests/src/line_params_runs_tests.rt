@@ -1,8 +1,8 @@
 // Runs of pairs and ordered steps that were found by hand.
-use crate::least_pair;
-use crate::tests::{HEAD, are_rows, end, row};
+use crate::rows::{HEAD, are_rows, end, row};
 use dw_base::Run;
 use line_machine::Row;
+use line_params::least_pair;
 use line_sums::{CountedStep, Step, count_steps};
 use std::test::Fail;
 

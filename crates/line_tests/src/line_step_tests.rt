@@ -1,8 +1,8 @@
 // Costs that are known from elsewhere, and costs by a plain search.
 ghost use Rattle.std.specs.Prelude.{◌≤◌, ◌<◌, pos, neg_ℤ, ◌≤ℤ◌};
 
-use crate::{AddressOpcodes, Advance, RowOpcode, advance, advance_way, step, step_way};
 use leb_codec::{len_s, len_u};
+use line_step::{AddressOpcodes, Advance, RowOpcode, advance, advance_way, step, step_way};
 
 #[test]
 fn known_steps_cost_what_they_do(rt: HostRuntime) {

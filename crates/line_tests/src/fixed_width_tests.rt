@@ -1,5 +1,7 @@
 // Numbers read and written at their places.
-use crate::{LengthFault, end_of_unit, put_u32, put_u64, u16_at, u32_at, u64_at, version_of_unit};
+use fixed_width::{
+    LengthFault, end_of_unit, put_u32, put_u64, u16_at, u32_at, u64_at, version_of_unit,
+};
 
 const BYTES: [u8; 10] = [1, 2, 3, 4, 5, 6, 7, 8, 9, 10];
 

@@ -5,7 +5,7 @@ use Rattle.std.proofs.lemmas.List.Elements.{All-more}
 use Rattle.line_machine.specs.Rows.{ends}
 use Rattle.line_machine.specs.Class.{IsRow}
 use Rattle.line_machine.proofs.Passing.{ends_append}
-use Rattle.check_lines.proofs.tests.are_rows.Goals as goal
+use Rattle.line_tests.proofs.rows.are_rows.Goals as goal
 
 pub loop-row-preserved : goal.loop-row-preserved
 loop-row-preserved c =

@@ -1,40 +1,9 @@
 // Programs whose rows are known from elsewhere, and programs that have faults.
-use crate::{Cursor, Head, Row, count_rows, rows};
+use crate::rows::{end, row};
 use dw_base::{Fault, Kind, Refusal};
+use line_machine::{Cursor, Head, Row, count_rows, rows};
 use std::alloc::Global;
 use std::test::Fail;
-
-fn row(address: u64, line: u64, column: u64) -> Row {
-    Row {
-        address,
-        line,
-        file: 1,
-        column,
-        isa: 0,
-        discriminator: 0,
-        stmt: true,
-        block: false,
-        prologue: false,
-        epilogue: false,
-        end: false,
-    }
-}
-
-fn end(address: u64) -> Row {
-    Row {
-        address,
-        line: 0,
-        file: 0,
-        column: 0,
-        isa: 0,
-        discriminator: 0,
-        stmt: false,
-        block: false,
-        prologue: false,
-        epilogue: false,
-        end: true,
-    }
-}
 
 // A compiler's program with tables.
 const COMPILED: [u8; 76] = [

@@ -1,10 +1,9 @@
 // Records whose verdict is known from elsewhere.
-ghost use Rattle.std.specs.Prelude.{◌≡◌, ◌≢◌, ◌<◌, All, IsTrue};
+ghost use Rattle.std.specs.Prelude.{◌≡◌, ◌≢◌, ◌<◌, All};
 ghost use Rattle.leb_codec.specs.Records.{AreRuns, IsRun};
-ghost use Rattle.line_machine.specs.Class.{IsRow, AreRows};
-ghost use Rattle.line_machine.specs.Rows.{end_row};
 
-use crate::{Run, accept_program};
+use crate::rows::{HEAD, MARKED, are_rows, end, row};
+use check_lines::{Run, accept_program};
 use dw_base::Span;
 use line_machine::{Head, Row};
 use std::test::Fail;
@@ -14,77 +13,9 @@ fn head(len: u64) -> Head
     ensures { result.min ≡ 1 }
 {
     Head {
-        at: 0,
-        len: 0,
-        min: 1,
-        stmt: true,
-        base: -5,
-        range: 14,
-        opcode_base: 13,
-        tables: Span { at: 0, len: 0 },
         program: Span { at: 0, len },
+        ..HEAD
     }
-}
-
-// A row of a line and a column at an address.
-fn row(address: u64, line: u64, column: u64) -> Row {
-    Row {
-        address,
-        line,
-        file: 1,
-        column,
-        isa: 0,
-        discriminator: 0,
-        stmt: true,
-        block: false,
-        prologue: false,
-        epilogue: false,
-        end: false,
-    }
-}
-
-// The row that ends a sequence at an address.
-fn end(address: u64) -> Row
-    ensures { result ≡ end_row address }
-{
-    Row {
-        address,
-        line: 0,
-        file: 0,
-        column: 0,
-        isa: 0,
-        discriminator: 0,
-        stmt: false,
-        block: false,
-        prologue: false,
-        epilogue: false,
-        end: true,
-    }
-}
-
-// A row that ends a sequence has an address alone, and another has a line below 2^32.
-fn is_row(row: &Row) -> bool
-    ensures { IsTrue result → IsRow row.now }
-{
-    if row.end {
-        *row == end(row.address)
-    } else {
-        row.line < 1 << 32
-    }
-}
-
-// These are rows that a program can have.
-fn are_rows(rows: &[Row]) -> bool
-    ensures { IsTrue result → AreRows rows.now }
-{
-    let mut ended = true;
-    for row in rows {
-        if !is_row(row) {
-            return false;
-        }
-        ended = row.end;
-    }
-    ended
 }
 
 // All pairs have one number.
@@ -118,21 +49,6 @@ fn all_but_one(pair: u32, number: u32, others: u32) -> [Run; 3]
         },
     ]
 }
-
-// Every register but the line and the address is set.
-const MARKED: Row = Row {
-    address: 0,
-    line: 1,
-    file: 2,
-    column: 3,
-    isa: 4,
-    discriminator: 5,
-    stmt: false,
-    block: true,
-    prologue: true,
-    epilogue: true,
-    end: false,
-};
 
 // The size of each program is that of its shortest form, or a byte more: then the first pair is refused that has so short a
 // one. The numbers are too small at some pair, as large as they have to be, or above the count of steps.
