@@ -1,13 +1,10 @@
 -- Numbers of slots by the sums of sizes.
-use Rattle.std.proofs.Common.{◌≡◌, ◌≤◌, ◌<◌, ◌+◌, ◌-◌, ◌^◌, ℕ, Bool, true, false, IsTrue, ◌↔◌, leb, List, length, get_or, take, sum, sym, ◌∙◌, subst, arith}
+use Rattle.std.proofs.Common.{◌≡◌, ◌≤◌, ◌<◌, ◌+◌, ◌-◌, ℕ, Bool, true, false, IsTrue, ◌↔◌, leb, List, length, get_or, sum, sym, ◌∙◌, subst, arith}
 use Rattle.std.specs.Prelude.{slice_range}
-use Rattle.std.specs.List.{All}
 use Rattle.std.proofs.lemmas.Bool.{true≢false, leb-true, le-leb}
-use Rattle.std.proofs.lemmas.List.Sums.{sum_by-take-le, sum_by-le}
-use Rattle.std.proofs.lemmas.List.Elements.{All-from_get_or}
 use Rattle.leb_codec.specs.Layout.{SlotRow, row_at, slot_number, need, size_after, IsSlotNumber, HoldsNumber}
 use Rattle.slot_layout.specs.declared.slots.Slot.{Slot}
-use Rattle.slot_layout.specs.Rows.{form_of, row_of, rows_of, most_slots}
+use Rattle.slot_layout.specs.Rows.{form_of, row_of, rows_of}
 use Rattle.slot_layout.specs.inside.Rounds.{AreStarts}
 use Rattle.slot_layout.proofs.SumLaws.{sum_range}
 use Rattle.check_units.specs.declared.steps.Step.{Step}
@@ -16,7 +13,7 @@ use Rattle.check_units.specs.inside.Checks.{AreSlotsToCheck, AreChecked}
 use Rattle.slot_layout.proofs.GrowLaws.{no_slot, row_is, count_rows}
 
 pub slots_of : (rows : List SlotRow) (sizes : List ℕ) → AreChecked rows sizes → AreSlotsToCheck rows
-slots_of rows sizes checked = record { few = checked.few; inside = checked.inside; fitting = checked.fitting }
+slots_of rows sizes checked = record { few = checked.few; inside = checked.inside }
 
 -- what is known of a slot's row, of the slot
 module _ (slots : List Slot) (are : AreSlotsToCheck (rows_of slots)) (i : ℕ) (inside : i < length slots) where
@@ -29,16 +26,6 @@ module _ (slots : List Slot) (are : AreSlotsToCheck (rows_of slots)) (i : ℕ) (
       let h = (are.inside i (omega (arith, count_rows slots))).1 in
       let k = rw (row_is slots i inside) at h in
       omega (arith, k, count_rows slots)
-
-  pub slot_fixed : (get_or slots i no_slot).fixed < 2 ^ 62
-  slot_fixed =
-      let h = are.fitting i (omega (arith, count_rows slots)) in rw (row_is slots i inside) at h
-
--- sums of so many sizes are small
-pub sum_few : (sizes : List ℕ) (k : ℕ) → length sizes ≤ most_slots → ((i : ℕ) → i < length sizes → get_or sizes i 0 < 2 ^ 32) → sum (take k sizes) < 2 ^ 63
-sum_few sizes k few small =
-    let all : All (λ s. s ≤ 2 ^ 32) sizes = All-from_get_or (λ s. s ≤ 2 ^ 32) sizes 0 (λ i lt. let s = small i lt in omega (arith, s)) in
-    omega (arith, sum_by-take-le (λ s. s) sizes k, sum_by-le (λ s. s) (2 ^ 32) sizes all, few)
 
 -- what is tested of a slot's size is that it holds its number
 module _ (slots : List Slot) (are : AreSlotsToCheck (rows_of slots)) (sizes starts : List ℕ) (are_starts : AreStarts sizes starts) (long : length sizes ≡ length slots) (i : ℕ) (inside : i < length slots) where

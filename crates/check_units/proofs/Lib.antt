@@ -5,6 +5,7 @@ pub mod DealLaws
 pub mod GrowthLaws
 pub mod HoldLaws
 pub mod Lowest
+pub mod NeedLaws
 pub mod StepLaws
 pub mod Tightness
 pub mod Verdicts

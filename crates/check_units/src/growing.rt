@@ -1,6 +1,6 @@
 // The steps of slots, each held against the sizes that the steps of lower rank led to.
 ghost use Rattle.std.specs.Prelude.{◌≡◌, ◌≤◌, ◌<◌, ◌+◌, ◌^◌, ◌↔◌, ℕ, List, length, sum, IsTrue};
-ghost use Rattle.slot_layout.specs.Rows.{rows_of, most_slots};
+ghost use Rattle.slot_layout.specs.Rows.{rows_of};
 ghost use Rattle.slot_layout.specs.inside.Rounds.{smallest_of};
 ghost use Rattle.check_units.specs.inside.Checks.{AreSlotsToCheck, IsFirstWithout};
 ghost use Rattle.check_units.specs.inside.Dealing.{AreInOrder, step_at};
@@ -14,7 +14,7 @@ use slot_layout::Slot;
 
 // Takes the next step.
 fn take_step(slots: &[Slot], steps: &[Step], next: usize, sums: &mut SizeSums)
-    requires slots { length slots.now ≤ most_slots }
+    requires slots { length slots.now < 2 ^ 32 }
     requires steps { AreSteps (length slots.now) steps.now }
     requires next { next < length steps.now }
     requires taken { HasTaken (rows_of slots.now) steps.now next sums.old.cells.items }
@@ -33,7 +33,7 @@ fn take_steps_below(
     rank: u64,
     sums: &mut SizeSums,
 ) -> usize
-    requires slots { length slots.now ≤ most_slots }
+    requires slots { length slots.now < 2 ^ 32 }
     requires steps { AreSteps (length slots.now) steps.now }
     requires from { from ≤ length steps.now }
     requires taken { HasTaken (rows_of slots.now) steps.now from sums.old.cells.items }
@@ -60,8 +60,9 @@ fn is_needed(slots: &[Slot], step: Step, sums: &SizeSums) -> bool
     ensures { IsTrue result ↔ IsNeededUnder (rows_of slots.now) (numbers_of sums.now.cells.items) step }
 {
     let slot = slots[step.slot as usize];
-    let number = slot.fixed + sums.between(slot.from as usize, slot.to as usize);
-    size_after(slot.kind, u64::from(step.number) + 1) <= u64::from(need(slot.kind, number))
+    let counted = sums.between(slot.from as usize, slot.to as usize);
+    let needed = need(slot.kind, slot.fixed, counted);
+    size_after(slot.kind, u64::from(step.number) + 1) <= u64::from(needed)
 }
 
 // The first slot that has failed so far, once a step is looked at.

@@ -1,7 +1,7 @@
 // The sizes of slots, each held against the slot's number.
-ghost use Rattle.std.specs.Prelude.{◌≡◌, ◌≤◌, ◌<◌, ℕ, length, IfOk};
+ghost use Rattle.std.specs.Prelude.{◌<◌, ◌^◌, length, IfOk};
 ghost use Rattle.leb_codec.specs.Layout.{HoldsNumber};
-ghost use Rattle.slot_layout.specs.Rows.{rows_of, most_slots};
+ghost use Rattle.slot_layout.specs.Rows.{rows_of};
 ghost use Rattle.slot_layout.specs.inside.Rounds.{AreStarts};
 ghost use Rattle.check_units.specs.inside.Checks.{AreChecked, IsFirstWithout};
 
@@ -12,7 +12,7 @@ use std::alloc::Global;
 
 // The sum of the sizes before each slot, and of all.
 pub(crate) fn sums_before(alloc: Global, sizes: &[u32]) -> Result<Vec<u64>, NoMemory>
-    requires { length sizes.now ≤ most_slots }
+    requires { length sizes.now < 2 ^ 32 }
     ensures { IfOk result (λ sums. AreStarts sizes.now sums.items) }
 {
     let mut sums = Vec::new(alloc);
@@ -33,8 +33,8 @@ pub(crate) fn first_unheld(slots: &[Slot], sizes: &[u32], sums: &[u64]) -> usize
 {
     for i in 0..slots.len() {
         let slot = slots[i];
-        let number = slot.fixed + (sums[slot.to as usize] - sums[slot.from as usize]);
-        if !holds(slot.kind, sizes[i], number) {
+        let counted = sums[slot.to as usize] - sums[slot.from as usize];
+        if !holds(slot.kind, sizes[i], slot.fixed, counted) {
             return i;
         }
     }

@@ -2,9 +2,9 @@
 //! numbers count bytes of the unit (DWARF 5 sections 2.5.1.5 and 7.6).
 #![tactic(auto)]
 
-ghost use Rattle.std.specs.Prelude.{◌≡◌, ◌<◌, ◌≤◌, ◌↔◌, ℕ, length, slice_index, IfOk, IfSome, IsNone};
+ghost use Rattle.std.specs.Prelude.{◌≡◌, ◌<◌, ◌↔◌, ℕ, length, slice_index, IfOk, IfSome, IsNone};
 ghost use Rattle.leb_codec.specs.Layout.{AcceptsLayout, AcceptsSlot, row_at, step_count};
-ghost use Rattle.slot_layout.specs.Rows.{rows_of, CanHaveSize, HasRangesInside, HasFittingFixed, most_slots};
+ghost use Rattle.slot_layout.specs.Rows.{rows_of, CanHaveSize, HasRangesInside};
 ghost use Rattle.check_units.specs.Laws.{AcceptedAreLowest, AcceptedAreLeast, AcceptedAreTight, NeverBoth, OneRefused};
 ghost use Rattle.check_units.specs.Refused.{IsFirstRefused};
 ghost use Rattle.check_units.specs.inside.Checks.{AreChecked, IsFirstWithout};
@@ -59,22 +59,24 @@ fn first_failing(
 /// rank, and its size holds its number under all sizes. Ranks that are left over are a fault of the last slot, or of slot 0 where
 /// there is none.
 ///
-/// There are at most 17 * 2^24 slots, each range of slots lies in the list, each fixed part is below 2^62, and a ULEB128 has at
-/// least one byte and a call 2 or 4. The only error is want of memory.
+/// Each range of slots lies in the list, and a ULEB128 has at least one byte and a call 2 or 4. A number may be past 64 bits: no call
+/// holds it, and a ULEB128 of ten bytes does. The only error is want of memory, which is also the answer to 2^32 slots and more.
 pub fn accept_layout(
     alloc: Global,
     slots: &[Slot],
     sizes: &[u32],
     ranks: &[u64],
 ) -> Result<Option<u32>, NoMemory>
-    requires few { length slots.now ≤ most_slots }
     requires inside { HasRangesInside (rows_of slots.now) }
-    requires fitting { HasFittingFixed (rows_of slots.now) }
     requires each { length sizes.now ≡ length slots.now }
     requires sized { (i : ℕ) → i < length slots.now → CanHaveSize (row_at (rows_of slots.now) i).form (slice_index sizes.now i) }
     ensures accepted { IfOk result (λ refused. IsNone refused ↔ AcceptsLayout (rows_of slots.now) sizes.now ranks.now) }
     ensures first { IfOk result (λ refused. IfSome refused (IsFirstRefused (rows_of slots.now) sizes.now ranks.now)) }
 {
+    // 32 bits number the slots.
+    if slots.len() > u32::MAX as usize {
+        return Err(NoMemory);
+    }
     let starts = deal(alloc, slots, sizes, ranks.len())?;
     let first = first_failing(alloc, slots, sizes, ranks, &starts)?;
     if first < slots.len() {

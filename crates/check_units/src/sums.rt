@@ -1,6 +1,6 @@
 // Sums of ranges of sizes, while sizes grow.
 ghost use Rattle.std.specs.Prelude.{◌≡◌, ◌≤◌, ◌<◌, ◌+◌, ◌-◌, ◌*◌, ◌/◌, ◌^◌, ℕ, length, map, sum, slice_index, slice_range, slice_set, IfOk};
-ghost use Rattle.slot_layout.specs.Rows.{rows_of, most_slots};
+ghost use Rattle.slot_layout.specs.Rows.{rows_of};
 ghost use Rattle.slot_layout.specs.inside.Rounds.{smallest_of};
 ghost use Rattle.check_units.specs.inside.Sums.{AreSums, numbers_of, odd_cell};
 
@@ -73,7 +73,7 @@ impl SizeSums {
 
 // As many cells again as there are slots, and the smallest size of each slot.
 fn smallest_cells(alloc: Global, slots: &[Slot]) -> Result<Vec<u64>, NoMemory>
-    requires { length slots.now ≤ most_slots }
+    requires { length slots.now < 2 ^ 32 }
     ensures long { IfOk result (λ cells. length cells.items ≡ 2 * length slots.now) }
     ensures numbers { IfOk result (λ cells. numbers_of cells.items ≡ smallest_of (rows_of slots.now)) }
 {
@@ -86,7 +86,7 @@ fn smallest_cells(alloc: Global, slots: &[Slot]) -> Result<Vec<u64>, NoMemory>
 
 // The sums of the smallest sizes.
 pub(crate) fn smallest_sums(alloc: Global, slots: &[Slot]) -> Result<SizeSums, NoMemory>
-    requires { length slots.now ≤ most_slots }
+    requires { length slots.now < 2 ^ 32 }
     ensures sums { IfOk result (λ sums. AreSums sums.cells.items) }
     ensures numbers { IfOk result (λ sums. numbers_of sums.cells.items ≡ smallest_of (rows_of slots.now)) }
 {

@@ -12,14 +12,13 @@ use std::alloc::Global;
 fn is_checkable(slot: Slot, size: u32, count: usize) -> bool
     ensures order { result ≡ true → slot.from ≤ slot.to }
     ensures inside { result ≡ true → slot.to ≤ count }
-    ensures fixed { result ≡ true → slot.fixed < 2 ^ 62 }
     ensures sized { result ≡ true → CanHaveSize (form_of slot.kind) size }
 {
     let has_size = match slot.kind {
         SlotKind::Uleb => size >= 1,
         SlotKind::Call => size == 2 || size == 4,
     };
-    has_size && slot.from <= slot.to && slot.to as usize <= count && slot.fixed < 1 << 62
+    has_size && slot.from <= slot.to && slot.to as usize <= count
 }
 
 // Whether a few slots and sizes are what `accept_layout` needs.
@@ -76,10 +75,13 @@ fn short_records(rt: HostRuntime) -> Result<(), NoMemory> {
     let one: &[Slot] = &[uleb(20000, 0, 0)];
     // The first needs four bytes: with the smallest size its number is 65536. That of the second is 65535.
     let calls: &[Slot] = &[call(65534, 0, 1), call(65533, 1, 2)];
-    // The greatest fixed part has 62 bits, which nine bytes spell. A call holds no number from 2^32 on.
-    let widest: &[Slot] = &[uleb((1 << 62) - 1, 0, 0)];
+    // 62 bits take nine bytes. The greatest fixed part takes ten, and so does the number 2^64 + 9 that it makes with ten bytes of its
+    // own. A call holds no number from 2^32 on.
+    let wide: &[Slot] = &[uleb((1 << 62) - 1, 0, 0)];
+    let widest: &[Slot] = &[uleb(u64::MAX, 0, 1)];
     let too_wide: &[Slot] = &[call(1 << 32, 0, 0)];
-    let rows: [(&[Slot], &[u32], &[u64], Option<u32>); 21] = [
+    let wider_still: &[Slot] = &[call(u64::MAX, 0, 1)];
+    let rows: [(&[Slot], &[u32], &[u64], Option<u32>); 24] = [
         (two, &[2, 2], &[0, 1], None),
         (two, &[2, 2], &[5, 9], None),
         (two, &[2, 2], &[0, 0], Some(1)),
@@ -96,8 +98,11 @@ fn short_records(rt: HostRuntime) -> Result<(), NoMemory> {
         (one, &[2], &[0], Some(0)),
         (calls, &[4, 2], &[0], None),
         (calls, &[4, 4], &[0, 1], Some(1)),
-        (widest, &[9], &[0, 0, 0, 0, 0, 0, 0, 0], None),
-        (widest, &[8], &[0, 0, 0, 0, 0, 0, 0], Some(0)),
+        (wide, &[9], &[0, 0, 0, 0, 0, 0, 0, 0], None),
+        (wide, &[8], &[0, 0, 0, 0, 0, 0, 0], Some(0)),
+        (widest, &[10], &[0, 0, 0, 0, 0, 0, 0, 0, 0], None),
+        (widest, &[9], &[0, 0, 0, 0, 0, 0, 0, 0], Some(0)),
+        (wider_still, &[4], &[0], Some(0)),
         (too_wide, &[4], &[0], Some(0)),
         (&[], &[], &[], None),
         (&[], &[], &[0], Some(0)),

@@ -4,18 +4,11 @@ use Rattle.leb_codec.specs.Layout.{need, size_after}
 use Rattle.slot_layout.specs.Rows.{form_of}
 use Rattle.slot_layout.proofs.GrowLaws.{no_slot}
 use Rattle.check_units.specs.inside.Sums.{numbers_of}
-use Rattle.check_units.proofs.CellLaws.{range_few}
-use Rattle.check_units.proofs.HoldLaws.{slot_from, slot_to, slot_fixed, needed_is}
+use Rattle.check_units.proofs.HoldLaws.{slot_from, slot_to, needed_is}
 use Rattle.check_units.proofs.growing.is_needed.Goals as goal
 
-pub overflow_add-number : goal.overflow_add-number
-overflow_add-number c =
-    let slot = get_or c.args.slots.now c.args.step.slot no_slot in
-    let few = range_few (numbers_of c.args.sums.now.cells.items) slot.from slot.to in
-    omega (arith, few, c.between.ensures, slot_fixed c.args.slots.now c.requires.slots c.args.step.slot c.requires.inside)
-
-pub between-requires : goal.between-requires
-between-requires c =
+pub between-counted-requires : goal.between-counted-requires
+between-counted-requires c =
     let slots = c.args.slots.now in
     let cells = c.args.sums.now.cells.items in
     record {
@@ -31,4 +24,4 @@ returns c =
     let slot = get_or slots c.args.step.slot no_slot in
     needed_is slots c.args.step c.requires.inside (numbers_of c.args.sums.now.cells.items) c.size_after.result c.from-2.result
     (c.size_after.ensures ∙ ap (λ (k : ℕ). size_after (form_of slot.kind) (k + 1)) c.from.ensures)
-    (c.from-2.ensures ∙ c.need.ensures ∙ ap (λ (n : ℕ). need (form_of slot.kind) (slot.fixed + n)) c.between.ensures)
+    (c.from-2.ensures ∙ c.need-needed.ensures ∙ ap (λ (n : ℕ). need (form_of slot.kind) (slot.fixed + n)) c.between-counted.ensures)

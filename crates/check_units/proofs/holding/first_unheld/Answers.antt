@@ -1,7 +1,7 @@
-use Rattle.std.proofs.Common.{ℕ, get_or, below_more, arith, ◌∙◌}
+use Rattle.std.proofs.Common.{get_or, below_more, arith, ◌∙◌}
 use Rattle.slot_layout.specs.Rows.{rows_of}
 use Rattle.slot_layout.proofs.GrowLaws.{no_slot, count_rows, starts_rise}
-use Rattle.check_units.proofs.HoldLaws.{slots_of, slot_from, slot_to, slot_fixed, sum_few, holds_from, holds_not_from}
+use Rattle.check_units.proofs.HoldLaws.{slots_of, slot_from, slot_to, holds_from, holds_not_from}
 use Rattle.check_units.proofs.holding.first_unheld.Goals as goal
 
 pub bounds-sums-slot : goal.bounds-sums-slot
@@ -10,17 +10,10 @@ bounds-sums-slot c = omega (arith, slot_to c.args.slots.now (slots_of (rows_of c
 pub bounds-sums-slot-in-loop-i : goal.bounds-sums-slot-in-loop-i
 bounds-sums-slot-in-loop-i c = omega (arith, slot_from c.args.slots.now (slots_of (rows_of c.args.slots.now) c.args.sizes.now c.requires.checked) c.loop-i.i c.loop-i-test.true, slot_to c.args.slots.now (slots_of (rows_of c.args.slots.now) c.args.sizes.now c.requires.checked) c.loop-i.i c.loop-i-test.true, c.requires.checked.each_slot, count_rows c.args.slots.now)
 
-pub overflow_sub-number : goal.overflow_sub-number
-overflow_sub-number c =
+pub overflow_sub-counted : goal.overflow_sub-counted
+overflow_sub-counted c =
     starts_rise c.args.sizes.now c.args.sums.now c.requires.sums (get_or c.args.slots.now c.loop-i.i no_slot).from (get_or c.args.slots.now c.loop-i.i no_slot).to
     (slot_from c.args.slots.now (slots_of (rows_of c.args.slots.now) c.args.sizes.now c.requires.checked) c.loop-i.i c.loop-i-test.true) (omega (arith, slot_to c.args.slots.now (slots_of (rows_of c.args.slots.now) c.args.sizes.now c.requires.checked) c.loop-i.i c.loop-i-test.true, c.requires.checked.each_slot, count_rows c.args.slots.now))
-
-pub overflow_add-number : goal.overflow_add-number
-overflow_add-number c =
-    let to : ℕ = (get_or c.args.slots.now c.loop-i.i no_slot).to in
-    let few = sum_few c.args.sizes.now to (omega (arith, c.requires.checked.few, c.requires.checked.each_slot)) (λ i lt. (c.type_inv.sizes i).fits) in
-    let each = c.requires.sums.each to (omega (arith, slot_to c.args.slots.now (slots_of (rows_of c.args.slots.now) c.args.sizes.now c.requires.checked) c.loop-i.i c.loop-i-test.true, c.requires.checked.each_slot, count_rows c.args.slots.now)) in
-    omega (arith, few, each, slot_fixed c.args.slots.now (slots_of (rows_of c.args.slots.now) c.args.sizes.now c.requires.checked) c.loop-i.i c.loop-i-test.true)
 
 pub returns-then-not-holds : goal.returns-then-not-holds
 returns-then-not-holds c = record {
