@@ -37,10 +37,16 @@ failing_of host = host.failing.items
 abbrev pub calls_of : MemHost → ℕ
 calls_of host = host.calls
 
+-- how many bytes a read gives at most
+abbrev pub piece_of : MemHost → ℕ
+piece_of host = host.piece
+
 -- the next call is to fail
 abbrev pub IsDue : MemHost → Type 0
 IsDue host = Contains (failing_of host) (calls_of host)
 
--- a call was counted, by a number that stays at the last value of its type, and the list of calls that are to fail stays
+-- a call was counted, by a number that stays at the last value of its type; the list of calls that are to fail stays, and so does how many
+-- bytes a read gives
 abbrev pub CountsCall : MemHost → MemHost → Type 0
-CountsCall old new = (calls_of new ≡ min (calls_of old + 1) (2 ^ 64 - 1)) × (failing_of new ≡ failing_of old)
+CountsCall old new =
+    (calls_of new ≡ min (calls_of old + 1) (2 ^ 64 - 1)) × (failing_of new ≡ failing_of old) × (piece_of new ≡ piece_of old)

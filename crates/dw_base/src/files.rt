@@ -95,16 +95,17 @@ pub fn extend(
     Ok(())
 }
 
-/// Copies what there is of a list from a place on, as much as fits.
-pub fn copy_part(from: &[u8], at: u64, into: &mut [u8]) -> usize
+/// Copies what there is of a list from a place on, as much as fits, but no more than so many bytes.
+pub fn copy_part(from: &[u8], at: u64, most: usize, into: &mut [u8]) -> usize
     ensures bound { result ≤ length into.new }
-    ensures part { 0 < length into.old → IsPartRead (Some from.now) at into.new result }
+    ensures few { result ≤ most }
+    ensures part { 0 < length into.old → 0 < most → IsPartRead (Some from.now) at into.new result }
 {
     if at >= from.len() as u64 {
         return 0;
     }
     let start = at as usize;
-    let count = into.len().min(from.len() - start);
+    let count = into.len().min(from.len() - start).min(most);
     into[..count].copy_from_slice(&from[start..start + count]);
     count
 }

@@ -1,8 +1,8 @@
 // A host in memory whose calls fail by their numbers.
-ghost use Rattle.std.specs.Prelude.{◌≡◌, ◌↔◌, ◌≢◌, ◌≤◌, ◌<◌, ◌+◌, ◌-◌, ◌^◌, ◌++◌, ◌⊎◌, ℕ, List, [], length, Option, Some, IfSome, IsSome, IsTrue, Contains, min, true, false, is_some, IfOk, OnOk, OnErr, option_map, IsErr};
+ghost use Rattle.std.specs.Prelude.{◌≡◌, ◌↔◌, ◌≢◌, ◌≤◌, ◌<◌, ◌+◌, ◌-◌, ◌^◌, ◌++◌, ◌⊎◌, ℕ, List, [], length, Option, Some, IfSome, IsSome, IsTrue, Contains, min, max, true, false, is_some, IfOk, OnOk, OnErr, option_map, IsErr};
 ghost use Rattle.dw_base.specs.Files.{content, is_there};
 ghost use Rattle.dw_base.specs.Host.{AddsPart, HasCause, HasOneCause, IsPartRead, has_failed};
-ghost use Rattle.dw_base.specs.MemHost.{files_of, failing_of, calls_of, faults_of, say_faults_of, IsDue, CountsCall};
+ghost use Rattle.dw_base.specs.MemHost.{files_of, failing_of, calls_of, piece_of, faults_of, say_faults_of, IsDue, CountsCall};
 ghost use Rattle.dw_base.specs.inside.MemHost.{NotesFailure};
 ghost use Rattle.dw_base.specs.declared.mem_host.CallKind.TheVariants.{Read, Write, Say};
 
@@ -33,6 +33,7 @@ pub struct MemHost {
     files: Vec<NamedFile>,
     failing: Vec<u64>,
     calls: u64,
+    piece: u64,
     said: Vec<u8>,
     failed: Vec<FailedCall>,
 }
@@ -48,12 +49,29 @@ impl MemHost {
         ensures files { files_of result ≡ files.items }
         ensures failing { failing_of result ≡ failing.items }
         ensures calls { calls_of result ≡ 0 }
+        ensures whole { piece_of result ≡ 2 ^ 64 - 1 }
+    {
+        Self::in_pieces(alloc, files, failing, u64::MAX)
+    }
+
+    /// The same, of whose reads each gives at most so many bytes, or one where this is 0.
+    pub fn in_pieces(alloc: Global, files: Vec<NamedFile>, failing: Vec<u64>, piece: u64) -> Self
+        ensures bytes { (f : List ℕ) → ⟦<MemHost as Host>⟧.bytes result f ≡ Some (content files.items f) }
+        ensures said { ⟦<MemHost as Host>⟧.said result ≡ Some [] }
+        ensures reads { (f : List ℕ) → ⟦<MemHost as Host>⟧.read_faults result f ≡ 0 }
+        ensures writes { (f : List ℕ) → ⟦<MemHost as Host>⟧.write_faults result f ≡ 0 }
+        ensures says { ⟦<MemHost as Host>⟧.say_faults result ≡ 0 }
+        ensures files { files_of result ≡ files.items }
+        ensures failing { failing_of result ≡ failing.items }
+        ensures calls { calls_of result ≡ 0 }
+        ensures pieces { piece_of result ≡ piece }
     {
         MemHost {
             alloc,
             files,
             failing,
             calls: 0,
+            piece,
             said: Vec::new(alloc),
             failed: Vec::new(alloc),
         }
@@ -161,6 +179,7 @@ impl Host for MemHost {
         ensures reads { HasCause name.now (⟦<MemHost as Host>⟧.bytes self.old) (⟦<MemHost as Host>⟧.read_faults self.old) (⟦<MemHost as Host>⟧.read_faults self.new) result }
         ensures writes { (f : List ℕ) → ⟦<MemHost as Host>⟧.write_faults self.new f ≡ ⟦<MemHost as Host>⟧.write_faults self.old f }
         ensures says { ⟦<MemHost as Host>⟧.say_faults self.new ≡ ⟦<MemHost as Host>⟧.say_faults self.old }
+        ensures pieces { IfOk result (λ n. n ≤ max 1 (piece_of self.old)) }
         ensures fails { IsErr result ↔ (IsDue self.old ⊎ (is_there (files_of self.old) name.now ≡ false)) }
         ensures kept { files_of self.new ≡ files_of self.old }
         ensures counted { CountsCall self.old self.new }
@@ -169,7 +188,7 @@ impl Host for MemHost {
             return Err(self.note(CallKind::Read, name));
         }
         match find(&self.files, name) {
-            Some(bytes) => Ok(copy_part(bytes, at, into)),
+            Some(bytes) => Ok(copy_part(bytes, at, self.piece.max(1) as usize, into)),
             None => Err(self.note(CallKind::Read, name)),
         }
     }

@@ -96,7 +96,7 @@ impl Host for QuietHost {
         ensures kept { files_in self.new ≡ files_in self.old }
     {
         match find(&self.files, name) {
-            Some(bytes) => Ok(copy_part(bytes, at, into)),
+            Some(bytes) => Ok(copy_part(bytes, at, into.len(), into)),
             None => Ok(0),
         }
     }
