@@ -44,12 +44,10 @@ def names_of(names):
     return b"".join(name + b"\0" for name in [b"", *names, b".shstrtab"])
 
 
-def placed(sections, names_at, headers_at):
-    """An executable file whose sections stand where they say, and behind them in number the one that holds their names. Between
-    them are zeros."""
-    names = names_of(section.name for section in sections)
-    sections = [*sections, Section(b".shstrtab", names_at, names, kind=3)]
-    headers = bytes(HEADER_SIZE) + b"".join(it.header(names.index(b"\0" + it.name + b"\0") + 1) for it in sections)
+def assembled(sections, name_places, headers_at):
+    """An executable file whose sections stand where they say, with the places of their names in the last one, which holds these.
+    Between them are zeros."""
+    headers = bytes(HEADER_SIZE) + b"".join(it.header(place) for it, place in zip(sections, name_places))
     head = struct.pack(
         "<16sHHIQQQIHHHHHH", b"\x7fELF\x02\x01\x01", 2, 62, 1, 0, 0, headers_at, 0, 64, 0, 0, 64, len(sections) + 1, len(sections)
     )
@@ -58,6 +56,13 @@ def placed(sections, names_at, headers_at):
     for at, body in parts:
         file[at : at + len(body)] = body
     return bytes(file)
+
+
+def placed(sections, names_at, headers_at):
+    """The same for sections without the one that holds their names, which becomes the last."""
+    names = names_of(section.name for section in sections)
+    sections = [*sections, Section(b".shstrtab", names_at, names, kind=3)]
+    return assembled(sections, [names.index(b"\0" + it.name + b"\0") + 1 for it in sections], headers_at)
 
 
 def elf_file(bodies):

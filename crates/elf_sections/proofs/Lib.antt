@@ -5,4 +5,5 @@ pub mod NameLaws
 pub mod NameSets
 pub mod Reaches
 pub mod SectionLists
+pub mod SumLaws
 pub mod TextLaws

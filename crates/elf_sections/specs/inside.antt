@@ -3,3 +3,4 @@ pub mod Elf
 pub mod Faults
 pub mod Names
 pub mod Sections
+pub mod Sums

@@ -10,6 +10,7 @@ mod names;
 mod numbers;
 mod section;
 mod sound;
+mod sums;
 mod table;
 mod texts;
 

@@ -2,11 +2,13 @@
 ghost use Rattle.std.specs.Prelude.{◌≡◌, ◌≢◌, ◌≤◌, ◌<◌, ◌⊎◌, ◌↔◌, ℕ, Bool, false, length, IsTrue, IfErr, OnOk, MatchOption};
 ghost use Rattle.dw_base.specs.Refusals.{IsRefusedFor};
 ghost use Rattle.elf_sections.specs.Elf.{IsElf64, section_count, offset_of};
+ghost use Rattle.elf_sections.specs.Names.{names_of};
 ghost use Rattle.elf_sections.specs.Faults.{debug_limit, movable_limit, movable_bytes, holds_e_shoff, is_overlapping, is_compressed, is_debug_relocation, is_misplaced, is_companion, is_too_long, is_overaligned, ImageFault, NameFault, HasSection, DoSegmentsOverlap, IsSectionSound, HasDistinctNames, HasKnownSections};
 ghost use Rattle.elf_sections.specs.inside.Faults.{HasFault, HasFaultAnyway, IsArranged};
 
 use crate::names::{is_debug_name, is_listed, is_written, is_zdebug_name};
 use crate::numbers::{u16_at, u64_at};
+use crate::sums::TextSums;
 use crate::table::SectionTable;
 use dw_base::{Fault, Kind, Reach, Refusal};
 use std::alloc::Global;
@@ -188,16 +190,19 @@ fn check_movable_bytes(table: &SectionTable, reach: Reach) -> Result<(), Fault>
     Ok(())
 }
 
-// Debug sections of one name. Names are compared by their lengths first: of those that end at one zero byte no two are as
-// long as one another, so that each byte of the names stands in few comparisons.
-fn check_distinct(alloc: Global, table: &SectionTable) -> Result<(), Refusal>
+// Debug sections of one name, where the numbers of the texts of names are known. Names are compared by their lengths first, then by their
+// numbers, and only then by their bytes.
+fn check_names(alloc: Global, table: &SectionTable, sums: &TextSums<'_>) -> Result<(), Refusal>
+    requires sums { sums.now.0 ≡ names_of table.now }
     ensures fault { IfErr result (IsRefusedFor (HasFaultAnyway table.now)) }
     ensures distinct { OnOk result (HasDistinctNames table.now) }
 {
     let mut names = BTreeSet::new(alloc);
     for i in 0..table.count() {
         let name = table.name(i);
-        if is_debug_name(name) && !names.insert((name.len(), name))? {
+        if is_debug_name(name)
+            && !names.insert((name.len(), sums.sum_at(table.name_place(i)), name))?
+        {
             return Err(Refusal::Refused(Fault {
                 kind: Kind::TwoSections,
                 place: table.offset(i),
@@ -205,6 +210,15 @@ fn check_distinct(alloc: Global, table: &SectionTable) -> Result<(), Refusal>
         }
     }
     Ok(())
+}
+
+// Debug sections of one name.
+fn check_distinct(alloc: Global, table: &SectionTable) -> Result<(), Refusal>
+    ensures fault { IfErr result (IsRefusedFor (HasFaultAnyway table.now)) }
+    ensures distinct { OnOk result (HasDistinctNames table.now) }
+{
+    let sums = TextSums::read(alloc, table.names())?;
+    check_names(alloc, table, &sums)
 }
 
 // What the sections show but for their names.

@@ -1,7 +1,7 @@
 // The sections of a file whose tables, and all that they name, lie in it.
 ghost use Rattle.std.specs.Prelude.{◌≡◌, ◌≢◌, ◌≤◌, ◌<◌, ◌+◌, ◌*◌, ◌^◌, ℕ, List, length, slice_range, IfOk, IfErr, OnOk, MatchOption};
 ghost use Rattle.dw_base.specs.declared.fault.Reach.TheVariants.{Wide};
-ghost use Rattle.elf_sections.specs.Elf.{section_count, names_index, segment_count, segments_at, segments_end, segment_end, section_end, loaded_end, offset_of, body_span, body_of, header_of, fixed_end_of, is_movable};
+ghost use Rattle.elf_sections.specs.Elf.{section_count, names_index, name_offset, segment_count, segments_at, segments_end, segment_end, section_end, loaded_end, offset_of, body_span, body_of, header_of, fixed_end_of, is_movable};
 ghost use Rattle.elf_sections.specs.Names.{names_of, name_of, IsNamed};
 ghost use Rattle.elf_sections.specs.inside.Names.{AreTextEnds};
 ghost use Rattle.elf_sections.specs.Sections.{section_of, name_span, IsFirstNamed, HasNone};
@@ -241,6 +241,24 @@ impl<'a> SectionTable<'a> {
     {
         let name = self.section(i).name;
         &self.file[name.at as usize..(name.at + name.len) as usize]
+    }
+
+    /// Where the name begins in the section that holds the names.
+    pub fn name_place(&self, i: u32) -> usize
+        requires { i < section_count self.now }
+        ensures { result ≡ name_offset self.now i }
+    {
+        u32_at(self.file, header_place(self.file, i)) as usize
+    }
+
+    /// The bytes of the section that holds the names, or none where no section does.
+    pub fn names(&self) -> &[u8]
+        ensures { result.now ≡ names_of self.now }
+    {
+        match self.names_index() {
+            0 => &self.file[..0],
+            index => self.body(index),
+        }
     }
 
     /// The number of the section that holds the names, or 0 where none does.
