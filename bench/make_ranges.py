@@ -1,11 +1,11 @@
 #!/usr/bin/env python3
 """Writes an ELF file with many range lists for the measures.
 
-  bench/make_ranges.py FILE [--items N] [--longest N] [--table N] [--lists N] [--random] [--even]
+  bench/make_ranges.py FILE [--items N] [--longest N] [--table N] [--lists N] [--named N] [--random] [--even]
   bench/make_ranges.py FILE --ends N
 
 One unit, with an entry for each list. Defaults: 1,000,000 items in lists of 1 to 50, without an address table, in order of address.
---lists N gives N lists of --longest items each. --table N gives the unit an address table with the starts of N functions, of which
+--lists N gives N lists of --longest items each, and --named N gives each list N entries that name it. --table N gives the unit an address table with the starts of N functions, of which
 some are items' starts. --even gives items that are functions of the table, evenly spaced and in order: for each item many bases save
 as many bytes, so that the search for the shortest list has the most to keep. --random draws the items of a list in any order. The lists are written as a compiler writes them: a base
 address and offsets, or indexes where there is a table. --ends N gives one list of N items, and N lists that are its ends: values
@@ -67,6 +67,7 @@ def main():
     parser.add_argument("--items", type=int, default=1_000_000)
     parser.add_argument("--longest", type=int, default=50)
     parser.add_argument("--lists", type=int, default=0)
+    parser.add_argument("--named", type=int, default=1)
     parser.add_argument("--table", type=int, default=0)
     parser.add_argument("--random", action="store_true")
     parser.add_argument("--even", action="store_true")
@@ -94,7 +95,7 @@ def main():
     pairs = b"".join(uleb(name) + uleb(form) for name, form in root)
     abbrevs = b"\1\x11\1" + pairs + b"\0\0" + b"\2\x0b\0" + uleb(0x55) + uleb(0x17) + b"\0\0" + b"\0"
     body = struct.pack("<HBBI", 5, 1, 8, 0) + b"\1" + (struct.pack("<I", 8) if functions else b"")
-    body += b"".join(b"\2" + struct.pack("<I", place) for place in places) + b"\0"
+    body += b"".join(b"\2" + struct.pack("<I", place) for place in places * arguments.named) + b"\0"
     info = struct.pack("<I", len(body)) + body
     bodies = [(b".debug_info", info), (b".debug_abbrev", abbrevs), (b".debug_rnglists", bytes(section))]
     if functions:

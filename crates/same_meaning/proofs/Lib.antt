@@ -32,6 +32,7 @@ pub mod ReadUnits
 pub mod ReferredMeanings
 pub mod SameFiles
 pub mod SameOperations
+pub mod SamePairs
 pub mod SameSets
 pub mod SetSpans
 pub mod Stable

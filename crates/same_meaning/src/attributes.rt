@@ -4,13 +4,13 @@ ghost use Rattle.value_links.specs.Links.{held_at};
 ghost use Rattle.value_links.specs.Reading.{unit_at};
 ghost use Rattle.abbrev_tables.specs.Listings.{names_of};
 ghost use Rattle.value_links.specs.Values.{declaration_of};
-ghost use Rattle.same_meaning.specs.inside.Compared.{IsSomeWorld, OfBoth, MeanOne, MeanAttributesAt};
+ghost use Rattle.same_meaning.specs.inside.Compared.{IsSomeWorld, OfBoth, MeanOne, AreSameLists, MeanAttributesAt};
 ghost use Rattle.same_meaning.specs.inside.Values.{OfReading, entry_held, MeansColumn, IsNamedColumn};
 
+use crate::same_lists::SameLists;
 use crate::values::{Attribute, mean_same_value};
 use abbrev_tables::Spec;
 use dw_base::NoMemory;
-use std::alloc::Global;
 use value_links::World;
 
 // The columns of the declaration of an entry.
@@ -55,7 +55,7 @@ fn value_number(world: &World<'_>, unit: u32, id: u32, column: u32) -> u32
 
 // Whether the attribute of an entry with a number means the same in both files, where it has the same name in them.
 fn mean_same_attribute(
-    alloc: Global,
+    lists: &mut SameLists,
     before: &World<'_>,
     after: &World<'_>,
     at: Attribute,
@@ -68,16 +68,18 @@ fn mean_same_attribute(
     requires first { at.id < length (held_at before.now.units at.unit).forest.entries }
     requires second { at.id < length (held_at after.now.units at.unit).forest.entries }
     requires named { OfBoth before.now after.now (λ r s. IsNamedColumn r at.unit at.id column at.name × IsNamedColumn s at.unit at.id column at.name) }
-    ensures { IfOk result (λ same. OfBoth before.now after.now (λ r s. IsTrue same ↔ MeanOne (MeansColumn r at.unit at.id column) (MeansColumn s at.unit at.id column))) }
+    requires lists { AreSameLists before.now after.now lists.old }
+    ensures same { IfOk result (λ same. OfBoth before.now after.now (λ r s. IsTrue same ↔ MeanOne (MeansColumn r at.unit at.id column) (MeansColumn s at.unit at.id column))) }
+    ensures lists { AreSameLists before.now after.now lists.new }
 {
     let first = value_number(before, at.unit, at.id, column);
     let second = value_number(after, at.unit, at.id, column);
-    mean_same_value(alloc, before, after, at, first, second)
+    mean_same_value(lists, before, after, at, first, second)
 }
 
 /// Whether the attributes of an entry have the same names and mean the same in both files.
 pub(crate) fn mean_same_attributes(
-    alloc: Global,
+    lists: &mut SameLists,
     before: &World<'_>,
     after: &World<'_>,
     unit: u32,
@@ -89,7 +91,9 @@ pub(crate) fn mean_same_attributes(
     requires again { unit < length after.now.units }
     requires first { id < length (held_at before.now.units unit).forest.entries }
     requires second { id < length (held_at after.now.units unit).forest.entries }
-    ensures { IfOk result (λ same. OfBoth before.now after.now (λ r s. IsTrue same ↔ MeanOne (MeanAttributesAt r unit id) (MeanAttributesAt s unit id))) }
+    requires lists { AreSameLists before.now after.now lists.old }
+    ensures same { IfOk result (λ same. OfBoth before.now after.now (λ r s. IsTrue same ↔ MeanOne (MeanAttributesAt r unit id) (MeanAttributesAt s unit id))) }
+    ensures lists { AreSameLists before.now after.now lists.new }
 {
     let columns = columns_of(before, unit, id);
     if !have_same_names(columns, columns_of(after, unit, id)) {
@@ -99,7 +103,7 @@ pub(crate) fn mean_same_attributes(
     for column in 0..count {
         let name = columns[column as usize].name;
         let at = Attribute { unit, id, name };
-        if !mean_same_attribute(alloc, before, after, at, column)? {
+        if !mean_same_attribute(lists, before, after, at, column)? {
             return Ok(false);
         }
     }

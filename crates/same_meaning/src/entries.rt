@@ -5,12 +5,12 @@ ghost use Rattle.value_links.specs.Debug.{UnitMeaning};
 ghost use Rattle.value_links.specs.Reading.{unit_at};
 ghost use Rattle.value_links.specs.Values.{described_at};
 ghost use Rattle.same_meaning.specs.Differences.{DifferAt};
-ghost use Rattle.same_meaning.specs.inside.Compared.{IsSomeWorld, OfBoth, OfMeanings, MeanOne, MeansEntryAt, IsFirstFound};
+ghost use Rattle.same_meaning.specs.inside.Compared.{IsSomeWorld, OfBoth, OfMeanings, MeanOne, AreSameLists, MeansEntryAt, IsFirstFound};
 ghost use Rattle.same_meaning.specs.inside.Values.{OfReading, HasShape};
 
 use crate::attributes::mean_same_attributes;
+use crate::same_lists::SameLists;
 use dw_base::NoMemory;
-use std::alloc::Global;
 use value_links::{World, one_meaning, one_reading};
 
 // How deep an entry stands, its tag, and whether it has children.
@@ -27,7 +27,7 @@ fn shape_of(world: &World<'_>, unit: u32, id: u32) -> (u32, u64, bool)
 
 // Whether the entry with a number means the same in both files.
 fn mean_same_entry(
-    alloc: Global,
+    lists: &mut SameLists,
     before: &World<'_>,
     after: &World<'_>,
     unit: u32,
@@ -39,17 +39,19 @@ fn mean_same_entry(
     requires again { unit < length after.now.units }
     requires first { id < length (held_at before.now.units unit).forest.entries }
     requires second { id < length (held_at after.now.units unit).forest.entries }
-    ensures { IfOk result (λ same. OfBoth before.now after.now (λ r s. IsTrue same ↔ MeanOne (MeansEntryAt r unit id) (MeansEntryAt s unit id))) }
+    requires lists { AreSameLists before.now after.now lists.old }
+    ensures same { IfOk result (λ same. OfBoth before.now after.now (λ r s. IsTrue same ↔ MeanOne (MeansEntryAt r unit id) (MeansEntryAt s unit id))) }
+    ensures lists { AreSameLists before.now after.now lists.new }
 {
     if shape_of(before, unit, id) != shape_of(after, unit, id) {
         return Ok(false);
     }
-    mean_same_attributes(alloc, before, after, unit, id)
+    mean_same_attributes(lists, before, after, unit, id)
 }
 
 /// The first entry of the unit with a number by which the unit differs in meaning, where both files have the unit.
 pub(crate) fn first_entry_in(
-    alloc: Global,
+    lists: &mut SameLists,
     before: &World<'_>,
     after: &World<'_>,
     unit: u32,
@@ -58,7 +60,9 @@ pub(crate) fn first_entry_in(
     requires after { IsSomeWorld after.now }
     requires known { unit < length before.now.units }
     requires again { unit < length after.now.units }
-    ensures { IfOk result (λ found. OfMeanings before.now after.now (λ c d. (a b : UnitMeaning) → slice_get c.units unit ≡ Some a → slice_get d.units unit ≡ Some b → IsFirstFound (DifferAt a.forest b.forest) found)) }
+    requires lists { AreSameLists before.now after.now lists.old }
+    ensures first { IfOk result (λ found. OfMeanings before.now after.now (λ c d. (a b : UnitMeaning) → slice_get c.units unit ≡ Some a → slice_get d.units unit ≡ Some b → IsFirstFound (DifferAt a.forest b.forest) found)) }
+    ensures lists { AreSameLists before.now after.now lists.new }
 {
     // A file is read in one way, and a value means one thing.
     one_reading();
@@ -67,7 +71,7 @@ pub(crate) fn first_entry_in(
     let new = after.units()[unit as usize].forest().len();
     let common = old.min(new);
     for id in 0..common {
-        if !mean_same_entry(alloc, before, after, unit, id)? {
+        if !mean_same_entry(lists, before, after, unit, id)? {
             return Ok(Some(id));
         }
     }

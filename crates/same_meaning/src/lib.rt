@@ -18,6 +18,7 @@ mod lists;
 mod parts;
 mod programs;
 mod reason;
+mod same_lists;
 #[cfg(test)]
 mod tests;
 mod units;
@@ -26,6 +27,7 @@ mod values;
 use crate::kept::first_kept;
 use crate::parts::first_part;
 use crate::programs::first_program;
+use crate::same_lists::SameLists;
 use crate::units::first_entry;
 use dw_base::NoMemory;
 pub use laws::reasons_decide;
@@ -58,13 +60,14 @@ pub fn first_difference(
     if let Some(program) = first_program(before, after) {
         return Ok(Some(Reason::Rows(program)));
     }
-    if let Some(part) = first_part(alloc, before, after, ListKind::Ranges)? {
+    let mut lists = SameLists::new(alloc);
+    if let Some(part) = first_part(&mut lists, before, after, ListKind::Ranges)? {
         return Ok(Some(Reason::Table(ListKind::Ranges, part)));
     }
-    if let Some(part) = first_part(alloc, before, after, ListKind::Locations)? {
+    if let Some(part) = first_part(&mut lists, before, after, ListKind::Locations)? {
         return Ok(Some(Reason::Table(ListKind::Locations, part)));
     }
-    match first_entry(alloc, before, after)? {
+    match first_entry(&mut lists, before, after)? {
         Some((unit, entry)) => Ok(Some(Reason::Differs(unit, entry))),
         None => Ok(None),
     }

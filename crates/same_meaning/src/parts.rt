@@ -5,17 +5,16 @@ ghost use Rattle.value_links.specs.World.{contributions_held};
 ghost use Rattle.value_links.specs.Debug.{MeansPart, MeansSlot, parts_of};
 ghost use Rattle.value_links.specs.World.{contribution_at};
 ghost use Rattle.same_meaning.specs.Differences.{DifferAt};
-ghost use Rattle.same_meaning.specs.inside.Compared.{IsSomeWorld, OfBoth, OfMeanings, MeanOne, IsFirstFound};
+ghost use Rattle.same_meaning.specs.inside.Compared.{IsSomeWorld, OfBoth, OfMeanings, MeanOne, AreSameLists, IsFirstFound};
 
-use crate::lists::mean_same_list;
+use crate::same_lists::SameLists;
 use dw_base::NoMemory;
 use list_model::ListKind;
-use std::alloc::Global;
 use value_links::{World, one_debug, one_reading};
 
 // Whether a slot of two contributions names lists of the same meaning.
 fn mean_same_slot(
-    alloc: Global,
+    lists: &mut SameLists,
     before: &World<'_>,
     after: &World<'_>,
     kind: ListKind,
@@ -28,16 +27,18 @@ fn mean_same_slot(
     requires second { part < length (contributions_held after.now kind) }
     requires slot { slot < (contribution_at before.now kind part).slots }
     requires other { slot < (contribution_at after.now kind part).slots }
-    ensures { IfOk result (λ same. OfBoth before.now after.now (λ r s. IsTrue same ↔ MeanOne (MeansSlot r kind part slot) (MeansSlot s kind part slot))) }
+    requires lists { AreSameLists before.now after.now lists.old }
+    ensures same { IfOk result (λ same. OfBoth before.now after.now (λ r s. IsTrue same ↔ MeanOne (MeansSlot r kind part slot) (MeansSlot s kind part slot))) }
+    ensures lists { AreSameLists before.now after.now lists.new }
 {
     let first = before.told(kind, part, slot);
     let second = after.told(kind, part, slot);
-    mean_same_list(alloc, before, after, kind, first, second)
+    lists.mean_same(before, after, kind, first, second)
 }
 
 // Whether two contributions mean the same.
 fn mean_same_part(
-    alloc: Global,
+    lists: &mut SameLists,
     before: &World<'_>,
     after: &World<'_>,
     kind: ListKind,
@@ -47,14 +48,16 @@ fn mean_same_part(
     requires after { IsSomeWorld after.now }
     requires first { part < length (contributions_held before.now kind) }
     requires second { part < length (contributions_held after.now kind) }
-    ensures { IfOk result (λ same. OfBoth before.now after.now (λ r s. IsTrue same ↔ MeanOne (MeansPart r kind part) (MeansPart s kind part))) }
+    requires lists { AreSameLists before.now after.now lists.old }
+    ensures same { IfOk result (λ same. OfBoth before.now after.now (λ r s. IsTrue same ↔ MeanOne (MeansPart r kind part) (MeansPart s kind part))) }
+    ensures lists { AreSameLists before.now after.now lists.new }
 {
     let count = before.contributions(kind)[part as usize].slots;
     if after.contributions(kind)[part as usize].slots != count {
         return Ok(false);
     }
     for slot in 0..count {
-        if !mean_same_slot(alloc, before, after, kind, part, slot)? {
+        if !mean_same_slot(lists, before, after, kind, part, slot)? {
             return Ok(false);
         }
     }
@@ -63,14 +66,16 @@ fn mean_same_part(
 
 /// The first contribution of lists of a kind by which two files differ in meaning.
 pub(crate) fn first_part(
-    alloc: Global,
+    lists: &mut SameLists,
     before: &World<'_>,
     after: &World<'_>,
     kind: ListKind,
 ) -> Result<Option<u32>, NoMemory>
     requires before { IsSomeWorld before.now }
     requires after { IsSomeWorld after.now }
-    ensures { IfOk result (λ found. OfMeanings before.now after.now (λ c d. IsFirstFound (DifferAt (parts_of c kind) (parts_of d kind)) found)) }
+    requires lists { AreSameLists before.now after.now lists.old }
+    ensures first { IfOk result (λ found. OfMeanings before.now after.now (λ c d. IsFirstFound (DifferAt (parts_of c kind) (parts_of d kind)) found)) }
+    ensures lists { AreSameLists before.now after.now lists.new }
 {
     // A file is read in one way and means one thing.
     one_reading();
@@ -81,7 +86,7 @@ pub(crate) fn first_part(
     );
     let common = old.min(new) as u32;
     for part in 0..common {
-        if !mean_same_part(alloc, before, after, kind, part)? {
+        if !mean_same_part(lists, before, after, kind, part)? {
             return Ok(Some(part));
         }
     }

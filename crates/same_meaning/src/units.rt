@@ -2,18 +2,18 @@
 ghost use Rattle.std.specs.Prelude.{◌≡◌, ◌<◌, ℕ, length, slice_get, Some, IfOk};
 ghost use Rattle.value_links.specs.Debug.{UnitMeaning};
 ghost use Rattle.same_meaning.specs.Differences.{UnitsDifferAt};
-ghost use Rattle.same_meaning.specs.inside.Compared.{IsSomeWorld, OfMeanings, IsFirstFound, IsFirstPairFound};
+ghost use Rattle.same_meaning.specs.inside.Compared.{IsSomeWorld, OfMeanings, AreSameLists, IsFirstFound, IsFirstPairFound};
 
 use crate::entries::first_entry_in;
 use crate::headers::have_other_heads;
+use crate::same_lists::SameLists;
 use dw_base::NoMemory;
-use std::alloc::Global;
 use value_links::{World, one_reading};
 
 // The first entry by which the unit with a number differs in meaning, where both files have the unit. What differs of the unit itself does
 // so at entry 0.
 fn first_of_unit(
-    alloc: Global,
+    lists: &mut SameLists,
     before: &World<'_>,
     after: &World<'_>,
     unit: u32,
@@ -22,30 +22,34 @@ fn first_of_unit(
     requires after { IsSomeWorld after.now }
     requires known { unit < length before.now.units }
     requires again { unit < length after.now.units }
-    ensures { IfOk result (λ found. OfMeanings before.now after.now (λ c d. IsFirstFound (UnitsDifferAt (slice_get c.units unit) (slice_get d.units unit)) found)) }
+    requires lists { AreSameLists before.now after.now lists.old }
+    ensures first { IfOk result (λ found. OfMeanings before.now after.now (λ c d. IsFirstFound (UnitsDifferAt (slice_get c.units unit) (slice_get d.units unit)) found)) }
+    ensures lists { AreSameLists before.now after.now lists.new }
 {
     one_reading();
     if have_other_heads(before, after, unit) {
         return Ok(Some(0));
     }
-    first_entry_in(alloc, before, after, unit)
+    first_entry_in(lists, before, after, unit)
 }
 
 /// The first unit and entry by which two files differ in meaning.
 pub(crate) fn first_entry(
-    alloc: Global,
+    lists: &mut SameLists,
     before: &World<'_>,
     after: &World<'_>,
 ) -> Result<Option<(u32, u32)>, NoMemory>
     requires before { IsSomeWorld before.now }
     requires after { IsSomeWorld after.now }
-    ensures { IfOk result (λ found. OfMeanings before.now after.now (λ c d. IsFirstPairFound (λ u e. UnitsDifferAt (slice_get c.units u) (slice_get d.units u) e) found)) }
+    requires lists { AreSameLists before.now after.now lists.old }
+    ensures first { IfOk result (λ found. OfMeanings before.now after.now (λ c d. IsFirstPairFound (λ u e. UnitsDifferAt (slice_get c.units u) (slice_get d.units u) e) found)) }
+    ensures lists { AreSameLists before.now after.now lists.new }
 {
     one_reading();
     let (old, new) = (before.units().len(), after.units().len());
     let common = old.min(new) as u32;
     for unit in 0..common {
-        if let Some(entry) = first_of_unit(alloc, before, after, unit)? {
+        if let Some(entry) = first_of_unit(lists, before, after, unit)? {
             return Ok(Some((unit, entry)));
         }
     }

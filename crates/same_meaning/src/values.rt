@@ -9,17 +9,16 @@ ghost use Rattle.value_links.specs.declared.link.Link.TheVariants.{List as AtLis
 ghost use Rattle.value_links.specs.Links.{held_at};
 ghost use Rattle.value_links.specs.Reading.{unit_at};
 ghost use Rattle.value_links.specs.inside.Checks.{IsNoExpr};
-ghost use Rattle.same_meaning.specs.inside.Compared.{IsSomeWorld, OfBoth, MeanOne, HasListAt, StandsIn, MeansValue};
+ghost use Rattle.same_meaning.specs.inside.Compared.{IsSomeWorld, OfBoth, MeanOne, HasListAt, AreSameLists, StandsIn, MeansValue};
 ghost use Rattle.same_meaning.specs.inside.Values.{OfReading, IsTold, TellSame, HoldsPairs, IsThere, section_at, IsValueOf, MeansHeld};
 
 use crate::expressions::mean_same_expression;
-use crate::lists::mean_same_list;
+use crate::same_lists::SameLists;
 use dw_base::{NoMemory, Span};
 use form_codec::Value;
 use list_arena::Views;
 use list_model::ListKind;
 use loc_lists::ViewPair;
-use std::alloc::Global;
 use value_links::{Link, World, one_meaning, one_reading};
 
 // The place of a value among those of both files: its unit, its entry, and the name of its attribute.
@@ -125,7 +124,7 @@ fn name_same_pairs(before: &World<'_>, after: &World<'_>, list: u64, at: u64, ot
 
 // Whether another link names a list of the same meaning as the list of a kind at a place.
 fn name_same_list(
-    alloc: Global,
+    lists: &mut SameLists,
     before: &World<'_>,
     after: &World<'_>,
     kind: ListKind,
@@ -136,14 +135,16 @@ fn name_same_list(
     requires after { IsSomeWorld after.now }
     requires first { IsThere before.now (AtList kind at) }
     requires second { IsThere after.now other }
-    ensures { IfOk result (TellSame before.now after.now (AtList kind at) other) }
+    requires lists { AreSameLists before.now after.now lists.old }
+    ensures same { IfOk result (TellSame before.now after.now (AtList kind at) other) }
+    ensures lists { AreSameLists before.now after.now lists.new }
 {
     match other {
         Link::List(other_kind, place) => {
             if other_kind != kind {
                 return Ok(false);
             }
-            mean_same_list(alloc, before, after, kind, at, place)
+            lists.mean_same(before, after, kind, at, place)
         }
         _ => Ok(false),
     }
@@ -151,7 +152,7 @@ fn name_same_list(
 
 // Whether another link is that of the same slot of a unit's contribution, and it names a list of the same meaning.
 fn name_same_slot(
-    alloc: Global,
+    lists: &mut SameLists,
     before: &World<'_>,
     after: &World<'_>,
     kind: ListKind,
@@ -163,7 +164,9 @@ fn name_same_slot(
     requires after { IsSomeWorld after.now }
     requires first { IsThere before.now (Slot kind part slot) }
     requires second { IsThere after.now other }
-    ensures { IfOk result (TellSame before.now after.now (Slot kind part slot) other) }
+    requires lists { AreSameLists before.now after.now lists.old }
+    ensures same { IfOk result (TellSame before.now after.now (Slot kind part slot) other) }
+    ensures lists { AreSameLists before.now after.now lists.new }
 {
     match other {
         Link::Slot(other_kind, other_part, other_slot) => {
@@ -172,7 +175,7 @@ fn name_same_slot(
             }
             let first = before.told(kind, part, slot);
             let second = after.told(kind, other_part, slot);
-            mean_same_list(alloc, before, after, kind, first, second)
+            lists.mean_same(before, after, kind, first, second)
         }
         _ => Ok(false),
     }
@@ -205,7 +208,7 @@ fn are_same_links(first: Link, second: Link) -> bool
 
 // Whether two values that are no expressions refer to the same, or are the same.
 fn refer_to_same(
-    alloc: Global,
+    lists: &mut SameLists,
     before: &World<'_>,
     after: &World<'_>,
     at: Attribute,
@@ -220,16 +223,18 @@ fn refer_to_same(
     requires second { IsValueOf after.now at.unit at.id at.name new.now }
     requires plain { IsNoExpr old.now }
     requires other { IsNoExpr new.now }
-    ensures { IfOk result (λ same. OfBoth before.now after.now (λ r s. IsTrue same ↔ MeanOne (MeansHeld r at.unit at.id at.name old.now) (MeansHeld s at.unit at.id at.name new.now))) }
+    requires lists { AreSameLists before.now after.now lists.old }
+    ensures same { IfOk result (λ same. OfBoth before.now after.now (λ r s. IsTrue same ↔ MeanOne (MeansHeld r at.unit at.id at.name old.now) (MeansHeld s at.unit at.id at.name new.now))) }
+    ensures lists { AreSameLists before.now after.now lists.new }
 {
     let first = link_of(before, at, old);
     let second = link_of(after, at, new);
     let is_same = are_same_links(first, second);
     match first {
         Link::Plain => Ok(is_same && are_same_plain(before, after, at.unit, old, new)),
-        Link::List(kind, place) => name_same_list(alloc, before, after, kind, place, second),
+        Link::List(kind, place) => name_same_list(lists, before, after, kind, place, second),
         Link::Slot(kind, part, slot) => {
-            name_same_slot(alloc, before, after, kind, part, slot, second)
+            name_same_slot(lists, before, after, kind, part, slot, second)
         }
         Link::Views(list, place) => Ok(name_same_pairs(before, after, list, place, second)),
         // An entry, a program, a contribution or a place that is kept.
@@ -240,7 +245,7 @@ fn refer_to_same(
 /// Whether two values mean the same that stand in the same entry of both files as that of an attribute with the same name. `first` and
 /// `second` are their numbers among the values of the unit.
 pub(crate) fn mean_same_value(
-    alloc: Global,
+    lists: &mut SameLists,
     before: &World<'_>,
     after: &World<'_>,
     at: Attribute,
@@ -252,7 +257,9 @@ pub(crate) fn mean_same_value(
     requires known { at.unit < length before.now.units }
     requires again { at.unit < length after.now.units }
     requires stands { OfBoth before.now after.now (λ r s. StandsIn r at.unit at.id at.name first × StandsIn s at.unit at.id at.name second) }
-    ensures { IfOk result (λ same. OfBoth before.now after.now (λ r s. IsTrue same ↔ MeanOne (MeansValue r at.unit at.id at.name first) (MeansValue s at.unit at.id at.name second))) }
+    requires lists { AreSameLists before.now after.now lists.old }
+    ensures same { IfOk result (λ same. OfBoth before.now after.now (λ r s. IsTrue same ↔ MeanOne (MeansValue r at.unit at.id at.name first) (MeansValue s at.unit at.id at.name second))) }
+    ensures lists { AreSameLists before.now after.now lists.new }
 {
     let old = before.units()[at.unit as usize].forest().value(first);
     let new = after.units()[at.unit as usize].forest().value(second);
@@ -263,7 +270,7 @@ pub(crate) fn mean_same_value(
         },
         _ => match new {
             Value::Expr(_) => Ok(false),
-            _ => refer_to_same(alloc, before, after, at, &old, &new),
+            _ => refer_to_same(lists, before, after, at, &old, &new),
         },
     }
 }

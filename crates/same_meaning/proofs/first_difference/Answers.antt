@@ -43,7 +43,7 @@ returns-in-Some-2-clause-first c =
     let w = c.requires.after in
     let kept = past_kept a b v w c.in_default.ensures in
     let rows = past_rows a b v w kept c.in_default-first_program.ensures in
-    ranges_found a b v w rows c.in_ok-part.field-0 c.in_ok-part.ensures c.in-Some-2.part c.in-Some-2.is
+    ranges_found a b v w rows c.in_ok-part.field-0 c.in_ok-part.ensures.first c.in-Some-2.part c.in-Some-2.is
 
 pub returns-in-Some-2-clause-same : goal.returns-in-Some-2-clause-same
 returns-in-Some-2-clause-same c =
@@ -53,7 +53,7 @@ returns-in-Some-2-clause-same c =
     let w = c.requires.after in
     let kept = past_kept a b v w c.in_default.ensures in
     let rows = past_rows a b v w kept c.in_default-first_program.ensures in
-    not_same a b v w _ (ranges_found a b v w rows c.in_ok-part.field-0 c.in_ok-part.ensures c.in-Some-2.part c.in-Some-2.is)
+    not_same a b v w _ (ranges_found a b v w rows c.in_ok-part.field-0 c.in_ok-part.ensures.first c.in-Some-2.part c.in-Some-2.is)
 
 pub returns-in-Some-3-clause-first : goal.returns-in-Some-3-clause-first
 returns-in-Some-3-clause-first c =
@@ -63,8 +63,8 @@ returns-in-Some-3-clause-first c =
     let w = c.requires.after in
     let kept = past_kept a b v w c.in_default.ensures in
     let rows = past_rows a b v w kept c.in_default-first_program.ensures in
-    let ranges = past_ranges a b v w rows c.in_ok-part.field-0 c.in_ok-part.ensures c.in_default-2.is in
-    locations_found a b v w ranges c.in_ok-part-2.field-0 c.in_ok-part-2.ensures c.in-Some-3.part c.in-Some-3.is
+    let ranges = past_ranges a b v w rows c.in_ok-part.field-0 c.in_ok-part.ensures.first c.in_default-2.is in
+    locations_found a b v w ranges c.in_ok-part-2.field-0 c.in_ok-part-2.ensures.first c.in-Some-3.part c.in-Some-3.is
 
 pub returns-in-Some-3-clause-same : goal.returns-in-Some-3-clause-same
 returns-in-Some-3-clause-same c =
@@ -74,8 +74,8 @@ returns-in-Some-3-clause-same c =
     let w = c.requires.after in
     let kept = past_kept a b v w c.in_default.ensures in
     let rows = past_rows a b v w kept c.in_default-first_program.ensures in
-    let ranges = past_ranges a b v w rows c.in_ok-part.field-0 c.in_ok-part.ensures c.in_default-2.is in
-    not_same a b v w _ (locations_found a b v w ranges c.in_ok-part-2.field-0 c.in_ok-part-2.ensures c.in-Some-3.part c.in-Some-3.is)
+    let ranges = past_ranges a b v w rows c.in_ok-part.field-0 c.in_ok-part.ensures.first c.in_default-2.is in
+    not_same a b v w _ (locations_found a b v w ranges c.in_ok-part-2.field-0 c.in_ok-part-2.ensures.first c.in-Some-3.part c.in-Some-3.is)
 
 pub returns-in-Some-4-clause-first : goal.returns-in-Some-4-clause-first
 returns-in-Some-4-clause-first c =
@@ -85,9 +85,9 @@ returns-in-Some-4-clause-first c =
     let w = c.requires.after in
     let kept = past_kept a b v w c.in_default.ensures in
     let rows = past_rows a b v w kept c.in_default-first_program.ensures in
-    let ranges = past_ranges a b v w rows c.in_ok-part.field-0 c.in_ok-part.ensures c.in_default-2.is in
-    let locations = past_locations a b v w ranges c.in_ok-part-2.field-0 c.in_ok-part-2.ensures c.in_default-3.is in
-    units_found a b v w locations c.in_ok-unit.field-0 c.in_ok-unit.ensures c.in-Some-4.unit c.in-Some-4.entry c.in-Some-4.is
+    let ranges = past_ranges a b v w rows c.in_ok-part.field-0 c.in_ok-part.ensures.first c.in_default-2.is in
+    let locations = past_locations a b v w ranges c.in_ok-part-2.field-0 c.in_ok-part-2.ensures.first c.in_default-3.is in
+    units_found a b v w locations c.in_ok-unit.field-0 c.in_ok-unit.ensures.first c.in-Some-4.unit c.in-Some-4.entry c.in-Some-4.is
 
 pub returns-in-Some-4-clause-same : goal.returns-in-Some-4-clause-same
 returns-in-Some-4-clause-same c =
@@ -97,18 +97,21 @@ returns-in-Some-4-clause-same c =
     let w = c.requires.after in
     let kept = past_kept a b v w c.in_default.ensures in
     let rows = past_rows a b v w kept c.in_default-first_program.ensures in
-    let ranges = past_ranges a b v w rows c.in_ok-part.field-0 c.in_ok-part.ensures c.in_default-2.is in
-    let locations = past_locations a b v w ranges c.in_ok-part-2.field-0 c.in_ok-part-2.ensures c.in_default-3.is in
-    not_same a b v w _ (units_found a b v w locations c.in_ok-unit.field-0 c.in_ok-unit.ensures c.in-Some-4.unit c.in-Some-4.entry c.in-Some-4.is)
+    let ranges = past_ranges a b v w rows c.in_ok-part.field-0 c.in_ok-part.ensures.first c.in_default-2.is in
+    let locations = past_locations a b v w ranges c.in_ok-part-2.field-0 c.in_ok-part-2.ensures.first c.in_default-3.is in
+    not_same a b v w _ (units_found a b v w locations c.in_ok-unit.field-0 c.in_ok-unit.ensures.first c.in-Some-4.unit c.in-Some-4.entry c.in-Some-4.is)
 
-pub returns-in-None-clause-same : goal.returns-in-None-clause-same
-returns-in-None-clause-same c =
+pub returns-clause-same : goal.returns-clause-same
+returns-clause-same c =
     let a = c.args.before.now in
     let b = c.args.after.now in
     let v = c.requires.before in
     let w = c.requires.after in
     let kept = past_kept a b v w c.in_default.ensures in
     let rows = past_rows a b v w kept c.in_default-first_program.ensures in
-    let ranges = past_ranges a b v w rows c.in_ok-part.field-0 c.in_ok-part.ensures c.in_default-2.is in
-    let locations = past_locations a b v w ranges c.in_ok-part-2.field-0 c.in_ok-part-2.ensures c.in_default-3.is in
-    all_same a b v w (past_units a b v w locations c.in_ok-unit.field-0 c.in_ok-unit.ensures c.in-None.is)
+    let ranges = past_ranges a b v w rows c.in_ok-part.field-0 c.in_ok-part.ensures.first c.in_default-2.is in
+    let locations = past_locations a b v w ranges c.in_ok-part-2.field-0 c.in_ok-part-2.ensures.first c.in_default-3.is in
+    all_same a b v w (past_units a b v w locations c.in_ok-unit.field-0 c.in_ok-unit.ensures.first c.in-None.is)
+
+pub first_part-requires-clause-lists : goal.first_part-requires-clause-lists
+first_part-requires-clause-lists c = c.new-lists.ensures c.args.before.now c.args.after.now

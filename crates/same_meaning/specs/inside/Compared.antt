@@ -1,11 +1,12 @@
 -- What the parts of two files are compared by.
 use Rattle.std.specs.Prelude.{◌≡◌, ◌<◌, ◌⊎◌, ℕ, List, length, slice_index_or, Option, MatchOption}
-use Rattle.std.specs.List.{AllZip, Contains}
+use Rattle.std.specs.List.{All, AllZip, Contains}
 use Rattle.dw_base.specs.declared.fault.Reach.{Reach}
 use Rattle.expr_ops.specs.declared.op.Op.{Op}
 use Rattle.expr_ops.specs.Ops.{all_meant}
 use Rattle.form_codec.specs.Forms.{Meaning}
 use Rattle.list_model.specs.declared.entry.ListKind.{ListKind}
+use Rattle.list_model.specs.declared.entry.ListKind.TheVariants.{Ranges, Locations}
 use Rattle.form_codec.specs.Values.{meant_in}
 use Rattle.loc_lists.specs.Locations.{expressions_of}
 use Rattle.entry_arena.specs.Arena.{value_at}
@@ -16,8 +17,9 @@ use Rattle.value_links.specs.Reading.{Reading, Linkable, unit_at}
 use Rattle.value_links.specs.Values.{HasValueAt, described_at}
 use Rattle.value_links.specs.Whole.{IsReading}
 use Rattle.value_links.specs.Operations.{LinkedOperation, LinksOperation, LinksExpression}
-use Rattle.value_links.specs.Resolved.{Resolved, Resolves}
+use Rattle.value_links.specs.Resolved.{Resolved, MeansList, Resolves}
 use Rattle.value_links.specs.Debug.{Debug, Means, EntryMeaning, MeansEntry, MeansAttribute, MeansType, described}
+use Rattle.same_meaning.specs.declared.same_lists.SameLists.{SameLists}
 
 -- what the header of a unit means
 pub record HeadMeaning : Type 0 where
@@ -79,6 +81,15 @@ IsLinkedSomehow r u bytes = (linked : List LinkedOperation) × LinksExpression r
 -- a list of a kind that something names begins at a place
 abbrev pub HasListAt : World → ListKind → ℕ → Type 0
 HasListAt world kind at = (list : HeldList) × Contains (lists_held world kind) list × (list.at ≡ at)
+
+-- the lists of a kind at two places, the first of one file and the second of another, mean the same
+abbrev pub MeanSameList : World → World → ListKind → ℕ × ℕ → Type 0
+MeanSameList a b kind at = OfBoth a b (λ r s. MeanOne (MeansList r kind at.0) (MeansList s kind at.1))
+
+-- so do all that are kept
+pub record AreSameLists (a b : World) (lists : SameLists) : Type 0 where
+  pub ranges : All (MeanSameList a b Ranges) lists.ranges.keys
+  pub locations : All (MeanSameList a b Locations) lists.locations.keys
 
 -- the expressions of the items of a held list, in the bytes of its section
 abbrev pub held_expressions : List ℕ → HeldList → List (List ℕ)

@@ -14,8 +14,8 @@ all_counted c =
     ∙ ap (λ (f : Arena). (entry_at f.entries c.args.id).count) forest
     ∙ count_held c.args.before.now c.requires.before c.args.unit c.args.id c.requires.known c.requires.first c.columns_of-columns.result.now c.columns_of-columns.ensures
 
-pub returns-then-not-have_same_names : goal.returns-then-not-have_same_names
-returns-then-not-have_same_names c =
+pub returns-then-not-have_same_names-clause-same : goal.returns-then-not-have_same_names-clause-same
+returns-then-not-have_same_names-clause-same c =
     other_names c.args.before.now c.args.after.now c.args.unit c.args.id c.requires.known c.requires.again c.requires.first c.requires.second c.columns_of-columns.result.now c.columns_of.result.now c.columns_of-columns.ensures c.columns_of.ensures c.have_same_names.result c.if-not-have_same_names.true c.have_same_names.ensures
 
 pub bounds-columns-column : goal.bounds-columns-column
@@ -25,15 +25,18 @@ pub mean_same_attribute-requires-clause-named : goal.mean_same_attribute-require
 mean_same_attribute-requires-clause-named c =
     column_named c.args.before.now c.args.after.now c.args.unit c.args.id c.requires.known c.requires.again c.requires.first c.requires.second c.columns_of-columns.result.now c.columns_of.result.now c.columns_of-columns.ensures c.columns_of.ensures (c.have_same_names.ensures.0 c.if-not-have_same_names.false) c.loop-column.column _ (omega (arith, all_counted (goal.at.mean_same_attribute-requires-clause-named c).After-entry-count, c.loop-column-test.true)) refl
 
-pub returns-then-not-branch : goal.returns-then-not-branch
-returns-then-not-branch c =
-    other_column c.args.before.now c.args.after.now c.args.unit c.args.id c.requires.known c.requires.again c.requires.first c.requires.second c.columns_of-columns.result.now c.columns_of.result.now c.columns_of-columns.ensures c.columns_of.ensures c.loop-column.column (omega (arith, all_counted (goal.at.returns-then-not-branch c).After-entry-count, c.loop-column-test.true)) c.in_ok-mean_same_attribute.field-0 c.if-not-branch.true c.in_ok-mean_same_attribute.ensures
+pub returns-then-not-branch-clause-same : goal.returns-then-not-branch-clause-same
+returns-then-not-branch-clause-same c =
+    other_column c.args.before.now c.args.after.now c.args.unit c.args.id c.requires.known c.requires.again c.requires.first c.requires.second c.columns_of-columns.result.now c.columns_of.result.now c.columns_of-columns.ensures c.columns_of.ensures c.loop-column.column (omega (arith, all_counted (goal.at.returns-then-not-branch-clause-same c).After-entry-count, c.loop-column-test.true)) c.in_ok-mean_same_attribute.field-0 c.if-not-branch.true c.in_ok-mean_same_attribute.ensures.same
 
 pub loop-column-preserved : goal.loop-column-preserved
 loop-column-preserved c =
-    earlier_more c.args.before.now c.args.after.now c.args.unit c.args.id c.requires.known c.requires.again c.requires.first c.requires.second c.columns_of-columns.result.now c.columns_of.result.now c.columns_of-columns.ensures c.columns_of.ensures c.loop-column.column c.loop-column.invariant c.in_ok-mean_same_attribute.field-0 c.if-not-branch.false c.in_ok-mean_same_attribute.ensures
+    record {
+      columns = earlier_more c.args.before.now c.args.after.now c.args.unit c.args.id c.requires.known c.requires.again c.requires.first c.requires.second c.columns_of-columns.result.now c.columns_of.result.now c.columns_of-columns.ensures c.columns_of.ensures c.loop-column.column c.loop-column.invariant.columns c.in_ok-mean_same_attribute.field-0 c.if-not-branch.false c.in_ok-mean_same_attribute.ensures.same;
+      lists = c.mean_same_attribute.ensures.lists;
+    }
 
-pub returns : goal.returns
-returns c =
-    let past : length c.columns_of-columns.result.now ≤ c.loop-column.column = omega (arith, all_counted (goal.at.returns c).After-entry-count, c.loop-column-test.false) in
-    all_columns c.args.before.now c.args.after.now c.args.unit c.args.id c.requires.known c.requires.again c.requires.first c.requires.second c.columns_of-columns.result.now c.columns_of.result.now c.columns_of-columns.ensures c.columns_of.ensures (c.have_same_names.ensures.0 c.if-not-have_same_names.false) c.loop-column.column past c.loop-column.invariant
+pub returns-clause-same : goal.returns-clause-same
+returns-clause-same c =
+    let past : length c.columns_of-columns.result.now ≤ c.loop-column.column = omega (arith, all_counted (goal.at.returns-clause-same c).After-entry-count, c.loop-column-test.false) in
+    all_columns c.args.before.now c.args.after.now c.args.unit c.args.id c.requires.known c.requires.again c.requires.first c.requires.second c.columns_of-columns.result.now c.columns_of.result.now c.columns_of-columns.ensures c.columns_of.ensures (c.have_same_names.ensures.0 c.if-not-have_same_names.false) c.loop-column.column past c.loop-column.invariant.columns

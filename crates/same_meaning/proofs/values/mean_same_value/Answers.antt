@@ -33,18 +33,19 @@ refer_to_same-requires c =
       again = c.requires.again;
       first = record { number = c.args.first; is = c.value-old.ensures ∙ ap (λ (f : Arena). value_at f.values c.args.first) forest; stands = λ x first second. (c.requires.stands x s first second also held).0 };
       second = record { number = c.args.second; is = c.value-new.ensures ∙ ap (λ (f : Arena). value_at f.values c.args.second) other; stands = λ x first second. (c.requires.stands r x read holds first second).1 };
+      lists = c.requires.lists;
       plain = not_expr c.value-old.result c.in_default.not-Expr;
       other = not_expr c.value-new.result c.in_default-new-2.not-Expr;
     }
 
-pub returns-in-Expr-new : goal.returns-in-Expr-new
-returns-in-Expr-new c =
+pub returns-in-Expr-new-clause-same : goal.returns-in-Expr-new-clause-same
+returns-in-Expr-new-clause-same c =
     let forest = forest_is c.args.before.now c.args.at.unit c.units.result.now.items c.index.result.now c.forest.result.now c.requires.known c.units.ensures c.index.ensures c.forest.ensures in
     let other = forest_is c.args.after.now c.args.at.unit c.units-2.result.now.items c.index-2.result.now c.forest-2.result.now c.requires.again c.units-2.ensures c.index-2.ensures c.forest-2.ensures in
     expr_mean c.args.before.now c.args.after.now c.args.at.unit c.args.at.id c.args.at.name c.args.first c.args.second c.value-old.result c.value-new.result c.in-Expr.a c.in-Expr-new.b c.mean_same_expression.result (c.value-old.ensures ∙ ap (λ (f : Arena). value_at f.values c.args.first) forest) (c.value-new.ensures ∙ ap (λ (f : Arena). value_at f.values c.args.second) other) c.in-Expr.is c.in-Expr-new.is c.mean_same_expression.ensures
 
-pub returns-in_default-new-2 : goal.returns-in_default-new-2
-returns-in_default-new-2 c =
+pub returns-in_default-new-2-clause-same : goal.returns-in_default-new-2-clause-same
+returns-in_default-new-2-clause-same c =
     let forest = forest_is c.args.before.now c.args.at.unit c.units.result.now.items c.index.result.now c.forest.result.now c.requires.known c.units.ensures c.index.ensures c.forest.ensures in
     let other = forest_is c.args.after.now c.args.at.unit c.units-2.result.now.items c.index-2.result.now c.forest-2.result.now c.requires.again c.units-2.ensures c.index-2.ensures c.forest-2.ensures in
-    if_ok _ _ c.refer_to_same.result (λ same all. held_mean c.args.before.now c.args.after.now c.args.at.unit c.args.at.id c.args.at.name c.args.first c.args.second c.value-old.result c.value-new.result same (c.value-old.ensures ∙ ap (λ (f : Arena). value_at f.values c.args.first) forest) (c.value-new.ensures ∙ ap (λ (f : Arena). value_at f.values c.args.second) other) all) c.refer_to_same.ensures
+    if_ok _ _ c.refer_to_same.result (λ same all. held_mean c.args.before.now c.args.after.now c.args.at.unit c.args.at.id c.args.at.name c.args.first c.args.second c.value-old.result c.value-new.result same (c.value-old.ensures ∙ ap (λ (f : Arena). value_at f.values c.args.first) forest) (c.value-new.ensures ∙ ap (λ (f : Arena). value_at f.values c.args.second) other) all) c.refer_to_same.ensures.same

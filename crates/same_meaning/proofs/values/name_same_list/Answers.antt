@@ -16,11 +16,11 @@ kinds_alike Ranges Locations e = absurd (true≢false (sym e))
 kinds_alike Locations Ranges e = absurd (true≢false (sym e))
 kinds_alike Locations Locations e = refl
 
-pub mean_same_list-requires-clause-second : goal.mean_same_list-requires-clause-second
-mean_same_list-requires-clause-second c =
+pub mean_same-requires-clause-second : goal.mean_same-requires-clause-second
+mean_same-requires-clause-second c =
     subst (λ (k : ListKind). HasListAt c.args.after.now k c.in-List.place) (kinds_alike c.in-List.other_kind c.args.kind (sym c.if-ne.false ∙ c.ne.ensures)) (subst (IsThere c.args.after.now) c.in-List.is c.requires.second)
 
-pub returns-else-ne : goal.returns-else-ne
-returns-else-ne c =
+pub returns-else-ne-clause-same : goal.returns-else-ne-clause-same
+returns-else-ne-clause-same c =
     let same : c.in-List.other_kind ≡ c.args.kind = kinds_alike c.in-List.other_kind c.args.kind (sym c.if-ne.false ∙ c.ne.ensures) in
-    if_ok _ _ c.mean_same_list.result (λ same_list all. list_told c.args.before.now c.args.after.now c.args.kind c.args.at c.in-List.place c.args.other same_list (c.in-List.is ∙ ap (λ (k : ListKind). AtList k c.in-List.place) same) all) c.mean_same_list.ensures
+    if_ok _ _ c.mean_same.result (λ same_list all. list_told c.args.before.now c.args.after.now c.args.kind c.args.at c.in-List.place c.args.other same_list (c.in-List.is ∙ ap (λ (k : ListKind). AtList k c.in-List.place) same) all) c.mean_same.ensures.same
