@@ -5,7 +5,7 @@ use Rattle.std.proofs.lemmas.Bool.Decides.{eqb_tells, nat_tests}
 use Rattle.std.specs.Prelude.{nat_eq, nat_le, if◌then◌else◌}
 use Rattle.expr_ops.specs.Expressions.{Operation}
 use Rattle.expr_ops.specs.Sizes.{own_size}
-use Rattle.expr_ops.specs.Drafts.{is_typed, is_generic, has_reference, is_slot, first_or, rest_of, with_a, with_ref, with_refs}
+use Rattle.expr_ops.specs.Drafts.{is_typed, is_conversion, is_generic, has_reference, is_slot, first_or, rest_of, with_a, with_ref, with_refs}
 use Rattle.expr_ops.proofs.PlaceLaws.{ref_code}
 
 -- OPCODES
@@ -116,7 +116,7 @@ rest_small [] a = a
 rest_small (n ∷ ns) a = λ k d lt. a (suc k) d (omega (arith, lt))
 
 here_small : (g : Bool) (n : ℕ) (o : Operation) → is_generic o.code o.a ≡ g → n < 2 ^ 32 → (if g then o else with_a n o).a < 2 ^ 32
-here_small true n o e small = let h = is_code o.a 0 (both_true (nat_le 168 o.code) (nat_eq o.a 0) e).1 in omega (arith, h)
+here_small true n o e small = let h = is_code o.a 0 (both_true (is_conversion o.code) (nat_eq o.a 0) e).1 in omega (arith, h)
 here_small false n o e small = small
 
 ref_inner : (g : Bool) (n : ℕ) (o : Operation) → (if g then o else with_a n o).inner ≡ o.inner

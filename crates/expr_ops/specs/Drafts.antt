@@ -18,9 +18,13 @@ is_typed code = if nat_le 164 code then nat_le code 169 else false
 abbrev pub has_reference : ℕ → Bool
 has_reference code = if is_typed code then true else (if nat_eq code 153 then true else (if nat_eq code 250 then true else (if nat_eq code 154 then true else (if nat_eq code 253 then true else nat_eq code 160))))
 
+-- convert and reinterpret (DWARF 5 section 2.5.1.6)
+abbrev pub is_conversion : ℕ → Bool
+is_conversion code = if nat_eq code 168 then true else nat_eq code 169
+
 -- the generic type, which is the 0 of convert and reinterpret
 abbrev pub is_generic : ℕ → ℕ → Bool
-is_generic code a = if nat_le 168 code then nat_eq a 0 else false
+is_generic code a = if is_conversion code then nat_eq a 0 else false
 
 -- the length of an entry_value, a call, or a typed reference but for the generic type
 abbrev pub is_slot : ℕ → ℕ → Bool

@@ -38,4 +38,4 @@ pub use read::{push_expr, read_expr};
 pub use shortest::{lengths_split, shortest_len, write_shortest};
 pub use slots::{fixed_len, needed_are_shortest, slot_count, slots_are_few};
 pub use table::{Operands, Shape, Width, operands_of};
-pub use write::{has_reference, has_slot, write_expr};
+pub use write::{has_reference, has_slot, is_generic, write_expr};

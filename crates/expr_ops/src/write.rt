@@ -13,6 +13,7 @@ use crate::put::put_op;
 use crate::segment::is_branch;
 use crate::size::own_size;
 use dw_base::NoMemory;
+use dw_base::constants::{DW_OP_CONVERT, DW_OP_REINTERPRET};
 use std::alloc::Global;
 
 /// The opcodes of references to base types in unsigned LEB128, which are slots.
@@ -41,11 +42,12 @@ pub fn has_reference(op: &Op) -> bool
     }
 }
 
-// Whether an operation converts to the generic type, where its opcode is a typed one.
-fn is_generic(op: &Op) -> bool
+/// Whether the reference of an operation is the 0 of convert or reinterpret, which is the generic type and names no entry (DWARF 5
+/// section 2.5.1.6).
+pub fn is_generic(op: &Op) -> bool
     ensures { result ≡ is_generic op.now.code op.now.a }
 {
-    if op.code >= 0xa8 { op.a == 0 } else { false }
+    (op.code == DW_OP_CONVERT || op.code == DW_OP_REINTERPRET) && op.a == 0
 }
 
 /// Whether an operation has a slot: the length of an entry_value, a call, or a typed reference other than the generic

@@ -19,7 +19,7 @@ fn rewritten(
 
 #[test]
 fn references_are_written(rt: HostRuntime) -> Result<(), Refusal> {
-    let rows: [(&[u8], u32, u32, &[u8]); 14] = [
+    let rows: [(&[u8], u32, u32, &[u8]); 16] = [
         // a call is a call2 where its number fits
         (&[0x98, 0x34, 0x12], 0x0403_0201, 0, &[0x99, 1, 2, 3, 4]),
         (&[0x99, 1, 2, 3, 4], 7, 0, &[0x98, 7, 0]),
@@ -39,6 +39,14 @@ fn references_are_written(rt: HostRuntime) -> Result<(), Refusal> {
             &[0xfa, 0x0d, 0x0c, 0x0b, 0x0a],
         ),
         (&[0xfd, 1, 0, 0, 0], 256, 0, &[0xfd, 0, 1, 0, 0]),
+        // in these a 0 is a reference as any other
+        (
+            &[0xfa, 0, 0, 0, 0],
+            0x0a0b_0c0d,
+            0,
+            &[0xfa, 0x0d, 0x0c, 0x0b, 0x0a],
+        ),
+        (&[0xfd, 0, 0, 0, 0], 256, 0, &[0xfd, 0, 1, 0, 0]),
         // the bytes of const_type stay
         (&[0xa4, 0x83, 0x80, 0, 2, 7, 8], 3, 0, &[0xa4, 3, 2, 7, 8]),
         (

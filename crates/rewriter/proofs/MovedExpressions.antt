@@ -1,6 +1,6 @@
 -- An expression that is written anew has its operations, and they name what they named.
 use Rattle.std.proofs.Common.{◌≡◌, ◌≢◌, ◌≤◌, ◌<◌, ◌+◌, ◌*◌, ◌^◌, ◌⊎◌, ◌∙◌, inl, inr, true≢false, ℕ, zero, suc, List, [], ◌∷◌, length, sym, ap, subst, refl, arith}
-use Rattle.std.specs.Prelude.{Bool, true, false, nat_eq, nat_le, if◌then◌else◌, slice_index}
+use Rattle.std.specs.Prelude.{Bool, true, false, nat_eq, if◌then◌else◌, slice_index}
 use Rattle.std.specs.List.{AllZip, Contains}
 use Rattle.std.proofs.lemmas.Bool.{ne_eqb}
 use Rattle.std.proofs.lemmas.List.Elements.{All-nil, All-cons, All-head, All-tail}
@@ -12,7 +12,7 @@ use Rattle.expr_ops.specs.declared.names.Named.{Named}
 use Rattle.expr_ops.specs.declared.names.Named.TheVariants.{Nothing, BaseType, UnitEntry, SectionEntry}
 use Rattle.expr_ops.specs.Expressions.{Operation, IsExpression}
 use Rattle.expr_ops.specs.Ops.{meant, all_meant}
-use Rattle.expr_ops.specs.Drafts.{has_reference, is_generic, first_or, rest_of, with_a, with_ref, with_refs, op_at}
+use Rattle.expr_ops.specs.Drafts.{has_reference, is_conversion, is_generic, first_or, rest_of, with_a, with_ref, with_refs, op_at}
 use Rattle.expr_ops.specs.Names.{named_by}
 use Rattle.expr_ops.specs.Shortest.{shortest_length}
 use Rattle.expr_ops.proofs.Levels.{expression_once}
@@ -60,7 +60,7 @@ not_generic true n some = ne_eqb n 0 (λ none. omega (arith, none, some))
 not_generic false n some = refl
 
 never_generic : (code n : ℕ) → 0 < n → is_generic code n ≡ true → ⊥
-never_generic code n some is = true≢false (sym is ∙ not_generic (nat_le 168 code) n some)
+never_generic code n some is = true≢false (sym is ∙ not_generic (is_conversion code) n some)
 
 -- what stands behind a header isn't where the header begins
 behind : (at size n : ℕ) → at + size ≤ at + n → 0 < size → 0 < n
@@ -204,13 +204,13 @@ module _ {file : List ℕ} {world : World} {tables : List NewTable} {places : Li
 
   -- the generic type stays it, and another type doesn't become it
   type_entry : (u code n new : ℕ) (aim : OpTarget) → IsNewReference r.links places u BaseType code n new → NamesType r.links u code n aim → NamesType s.links u code new aim
-  type_entry u code n new aim (inl (is, none)) (inl (also, e)) = inl (subst (λ (z : ℕ). is_generic code z ≡ true) (sym none) (generic_stays (nat_le 168 code) n is), e)
+  type_entry u code n new aim (inl (is, none)) (inl (also, e)) = inl (subst (λ (z : ℕ). is_generic code z ≡ true) (sym none) (generic_stays (is_conversion code) n is), e)
   type_entry u code n new aim (inl (is, none)) (inr (isnt, names)) = absurd (true≢false (sym is ∙ isnt))
   type_entry u code n new aim (inr (isnt, m)) (inl (is, e)) = absurd (true≢false (sym is ∙ isnt))
   type_entry u code n new aim (inr (isnt, m)) (inr (neither, names)) =
       let inside : u < length r.links.units = unit_known r.links u names.0 ((unit_at r.links u).head.at + n) names.1 in
       let (id, here, e) = unit_entry u n new aim m names in
-      inr (not_generic (nat_le 168 code) new (behind_header u id new inside here), (id, here, e))
+      inr (not_generic (is_conversion code) new (behind_header u id new inside here), (id, here, e))
 
   reference_follows : (u : ℕ) (named : Named) (code n new : ℕ) (aim : OpTarget) → IsNewReference r.links places u named code n new → LinksReference r.links u named code n aim → LinksReference s.links u named code new aim
   reference_follows u Nothing code n new aim is links = links

@@ -1,6 +1,6 @@
 -- The slots of a unit that is written anew: each tells what it told, with its new number. So they are as many, and have the same forms.
 use Rattle.std.proofs.Common.{◌≡◌, ◌<◌, ◌+◌, ◌∙◌, ◌++◌, ◌⊎◌, inl, inr, true≢false, ℕ, zero, suc, List, [], ◌∷◌, length, get_or, take, cond, sym, ap, subst, refl, arith}
-use Rattle.std.specs.Prelude.{Bool, true, false, nat_eq, nat_le, if◌then◌else◌, slice_index}
+use Rattle.std.specs.Prelude.{Bool, true, false, nat_eq, if◌then◌else◌, slice_index}
 use Rattle.std.specs.List.{AllZip}
 use Rattle.std.proofs.lemmas.Bool.Decides.{eqb_tells}
 use Rattle.std.proofs.lemmas.List.Sums.{sum_by-cons}
@@ -12,7 +12,7 @@ use Rattle.expr_ops.specs.Expressions.{Operation}
 use Rattle.expr_ops.specs.Ops.{meant, all_meant}
 use Rattle.expr_ops.specs.Names.{named_by}
 use Rattle.expr_ops.specs.Sizes.{own_size}
-use Rattle.expr_ops.specs.Drafts.{is_typed, is_generic, is_slot, has_reference, with_a, with_ref, with_refs, op_at}
+use Rattle.expr_ops.specs.Drafts.{is_typed, is_conversion, is_generic, is_slot, has_reference, with_a, with_ref, with_refs, op_at}
 use Rattle.expr_ops.specs.Shortest.{fixed_size, fixed_length}
 use Rattle.expr_ops.specs.Slots.{Aim, slots_among, length_aim, slot_form, op_aim, op_aims, expression_aims}
 use Rattle.expr_ops.specs.Slots.Aim.{Place, Length}
@@ -114,7 +114,7 @@ module _ (r : Linkable) (places : List Places) (u : ℕ) (later : (k : ℕ) → 
   stays_other code n new isnt (inr (_, m)) =
       let behind = later m.id m.inside in
       let there = m.to in
-      not_generic (nat_le 168 code) new (omega (arith, behind, there))
+      not_generic (is_conversion code) new (omega (arith, behind, there))
 
   -- the reference of a slot moves
   slot_moves : (code n new : ℕ) → IsNewReference r places u (named_by code) code n new → (nat_eq code 153 ≡ true) ⊎ ((is_typed code ≡ true) × (is_generic code n ≡ false)) → Moves n new

@@ -11,11 +11,12 @@ ghost use Rattle.value_links.specs.inside.ListExpressions.{IsOwnerBy, IsTorn, Op
 ghost use Rattle.list_model.specs.declared.entry.ListKind.TheVariants.{Locations};
 
 use crate::namings::{Naming, SLOT};
-use crate::operations::{is_astray, is_generic, section_entry};
+use crate::operations::{is_astray, section_entry};
 use crate::parts::Parts;
 use dw_base::{Fault, Kind, Reach, Refusal};
 use expr_ops::{
-    Named, Op, named_by, push_expr, reference_place, references_inside, references_named,
+    Named, Op, is_generic, named_by, push_expr, reference_place, references_inside,
+    references_named,
 };
 use list_model::RawEntry;
 use loc_lists::{bytes_of, is_item};
@@ -47,7 +48,7 @@ fn counts_in_unit(op: &Op) -> bool
     ensures { IsTrue result ↔ OpCounts op.now }
 {
     match named_by(op.code) {
-        Named::BaseType => !is_generic(op.code, op.a),
+        Named::BaseType => !is_generic(op),
         Named::UnitEntry => true,
         Named::Nothing | Named::SectionEntry => false,
     }

@@ -2,7 +2,7 @@
 ghost use Rattle.std.specs.Prelude.{◌≡◌, ◌≤◌, ◌<◌, ◌+◌, ◌^◌, ℕ, List, length, true, IsTrue, OnOk, IfOk, IfErr};
 ghost use Rattle.dw_base.specs.Refusals.{IsFaultOf, IsRefusedFor};
 ghost use Rattle.dw_base.specs.declared.fault.Reach.TheVariants.{Wide};
-ghost use Rattle.expr_ops.specs.Drafts.{has_reference as is_reference, is_generic as is_generic_type};
+ghost use Rattle.expr_ops.specs.Drafts.{has_reference as is_reference};
 ghost use Rattle.entry_read.specs.Expressions.{IsExprAt};
 ghost use Rattle.value_links.specs.Reading.{Linkable};
 ghost use Rattle.value_links.specs.Operations.{NamesUnitEntry, NamesSectionEntry, NamesType};
@@ -15,12 +15,12 @@ ghost use Rattle.value_links.specs.inside.Checks.{AreSomeUnits, InEach, IsAstray
 use crate::link::{Link, local_target, section_target, unit_of};
 use crate::parts::Parts;
 use crate::units::Units;
-use dw_base::constants::DW_OP_CONVERT;
 use dw_base::{Fault, Kind, Reach, Refusal, Span};
 use entry_arena::{Operations, Target};
 use entry_read::read_expressions;
 use expr_ops::{
-    Named, Op, has_reference, named_by, reference_place, references_inside, references_named,
+    Named, Op, has_reference, is_generic, named_by, reference_place, references_inside,
+    references_named,
 };
 use std::alloc::Global;
 
@@ -65,22 +65,15 @@ pub(crate) fn section_entry(parts: &Parts<'_>, place: u64) -> Option<OpLink>
     }
 }
 
-// Whether the reference of an operation that names a base type is the 0 of convert and reinterpret.
-pub(crate) fn is_generic(code: u8, offset: u64) -> bool
-    ensures { result ≡ is_generic_type code offset }
-{
-    code >= DW_OP_CONVERT && offset == 0
-}
-
-// The base type of a unit that stands at a place, counted from the unit's first byte, or the generic type.
-fn base_type(parts: &Parts<'_>, unit: u32, code: u8, offset: u64) -> Option<OpLink>
+// The base type of a unit that an operation names by its place, counted from the unit's first byte, or the generic type.
+fn base_type(parts: &Parts<'_>, unit: u32, op: &Op) -> Option<OpLink>
     requires unit { unit < length parts.now.units.units.items }
-    ensures { InEach parts.now (λ r. IsNamedThing (NamesType r unit code offset) result) }
+    ensures { InEach parts.now (λ r. IsNamedThing (NamesType r unit op.now.code op.now.a) result) }
 {
-    if is_generic(code, offset) {
+    if is_generic(op) {
         Some(OpLink::Generic)
     } else {
-        unit_entry(parts, unit, offset)
+        unit_entry(parts, unit, op.a)
     }
 }
 
@@ -92,7 +85,7 @@ pub fn resolve_op(parts: &Parts<'_>, unit: u32, op: &Op) -> Option<OpLink>
 {
     match named_by(op.code) {
         Named::Nothing => Some(OpLink::Plain),
-        Named::BaseType => base_type(parts, unit, op.code, op.a),
+        Named::BaseType => base_type(parts, unit, op),
         Named::UnitEntry => unit_entry(parts, unit, op.a),
         Named::SectionEntry => section_entry(parts, op.a),
     }
