@@ -18,6 +18,9 @@ use rounds::{grow_fully, smallest_sizes};
 pub use slots::{Slot, SlotKind};
 use std::alloc::Global;
 
+/// The most slots that are laid out together. With five bytes for each, and fixed parts below 2^31, each number is below 2^32.
+pub const MOST_SLOTS: usize = 17 << 24;
+
 /// The least sizes of a unit's slots, and a record that shows why no slot can be smaller.
 #[derive(Debug, Drop)]
 pub struct Layout {

@@ -4,14 +4,15 @@ use Rattle.std.specs.Prelude.{if◌then◌else◌, nat_lt}
 use Rattle.std.proofs.lemmas.Bool.{both_ways}
 use Rattle.std.proofs.lemmas.List.{get_or_default, length-take, take_all}
 use Rattle.std.proofs.lemmas.List.Elements.{All-take, All-drop}
-use Rattle.dw_base.specs.declared.fault.Reach.TheVariants.{Narrow}
+use Rattle.dw_base.specs.declared.fault.Reach.{Reach}
 use Rattle.leb_codec.specs.Layout.{SlotForm, SlotRow, uleb, call, row_at, slot_number, need, HasNarrowNumbers}
 use Rattle.leb_codec.proofs.Lens.{unsigned_lens}
 use Rattle.slot_layout.specs.Rows.{IsTight}
 use Rattle.expr_ops.specs.Expressions.{Operation}
 use Rattle.expr_ops.specs.Ops.{all_meant}
 use Rattle.expr_ops.specs.Shortest.{fixed_length}
-use Rattle.expr_ops.specs.Slots.{slots_among, SlotsHaveOpcodes, SlotsAreFew}
+use Rattle.expr_ops.specs.Slots.{slots_among, SlotsHaveOpcodes}
+use Rattle.expr_ops.proofs.PlainLaws.{expression_sized}
 use Rattle.form_codec.specs.declared.value.Value.{Value}
 use Rattle.form_codec.specs.Forms.{Meaning}
 use Rattle.form_codec.specs.Forms.Meaning.{InUnit}
@@ -87,7 +88,7 @@ local_few : (meaning : Meaning) (os : List Operation) → is_local meaning ≡ t
 local_few (InUnit n) os local = refl
 local_few meaning os local = absurd (cc (local))
 
-module _ (f : Arena) (held : HeldOps) (has : HasOperations Narrow f held) (few : SlotsAreFew) (measured : Measured) (h : AreMeasured f (operations_in f held) measured) where
+module _ (f : Arena) (held : HeldOps) (has : (reach : Reach) × HasOperations reach f held) (measured : Measured) (h : AreMeasured f (operations_in f held) measured) where
   -- so an expression gets at most three times its bytes and five for its length, and a reference five
   pub lens_laid : (sizes lens : List ℕ) → AreLensUnder f (operations_in f held) sizes lens → All (λ (size : ℕ). size ≤ 5) sizes → AreLensFor f lens
   lens_laid sizes lens under small = record {
@@ -97,7 +98,7 @@ module _ (f : Arena) (held : HeldOps) (has : HasOperations Narrow f held) (few :
         let os : List Operation = all_meant bytes (ops_of held k) in
         let most = len_most f (operations_in f held) measured h sizes lens k under small is.inside in
         let size = length-take span.len (drop span.at f.section) in
-        let thrice = few os bytes (has.spelled k span is) in
+        let thrice : fixed_length os + 5 * slots_among os ≤ 3 * length bytes = (expression_sized has.0 os bytes (has.1.spelled k span is)).fives in
         let same : operations_in f held k ≡ os = expr_ops_are f held has k span is in
         let fixed : fixed_length (operations_in f held k) ≡ fixed_length os = ap fixed_length same in
         let slots : length (value_aims (meaning_at f k) (operations_in f held k)) ≡ suc (slots_among os) = ap (λ (v : Value). length (value_aims (meant_in f.section v) (operations_in f held k))) is.is ∙ ap suc (op_aims_length (operations_in f held k) ∙ ap slots_among same) in
@@ -111,10 +112,10 @@ module _ (f : Arena) (held : HeldOps) (has : HasOperations Narrow f held) (few :
   }
 
 -- the numbers that are added to are small
-pub fixed_room : (f : Arena) (held : HeldOps) → HasOperations Narrow f held → SlotsHaveOpcodes → SlotsAreFew → AreShort f → (measured : Measured) → AreMeasured f (operations_in f held) measured → All (λ (len : ℕ). len < 2 ^ 31) measured.fixed.items
-fixed_room f held has opcodes few short measured h k d lt =
+pub fixed_room : (f : Arena) (held : HeldOps) → (reach : Reach) × HasOperations reach f held → SlotsHaveOpcodes → AreShort f → (measured : Measured) → AreMeasured f (operations_in f held) measured → All (λ (len : ℕ). len < 2 ^ 31) measured.fixed.items
+fixed_room f held has opcodes short measured h k d lt =
     let count : length measured.fixed.items ≡ length f.values = h.fixed_count in
-    let small = fixed_small f held has opcodes few short k (omega (arith, count, lt)) in
+    let small = fixed_small f held has opcodes short k (omega (arith, count, lt)) in
     let same : get_or measured.fixed.items k d ≡ get_or measured.fixed.items k 0 = get_or_default measured.fixed.items k d 0 lt in
     let own = h.fixed k (omega (arith, count, lt)) in
     omega (arith, small, same, own)

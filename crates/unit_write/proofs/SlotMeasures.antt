@@ -3,12 +3,13 @@ use Rattle.std.proofs.Common.{◌≡◌, ◌≤◌, ◌<◌, ◌+◌, ◌*◌, �
 use Prim.Native.Nat.{min}
 use Rattle.std.proofs.lemmas.Bool.{cases_lt, both_ways}
 use Rattle.std.proofs.lemmas.List.{length_push, get_or_push, get_or_append_left, get_or_default, length-take}
-use Rattle.dw_base.specs.declared.fault.Reach.TheVariants.{Narrow}
+use Rattle.dw_base.specs.declared.fault.Reach.{Reach}
 use Rattle.dw_base.specs.declared.fault.Span.{Span}
 use Rattle.expr_ops.specs.Expressions.{Operation}
 use Rattle.expr_ops.specs.Ops.{all_meant}
 use Rattle.expr_ops.specs.Shortest.{fixed_length}
-use Rattle.expr_ops.specs.Slots.{slots_among, SlotsHaveOpcodes, SlotsAreFew}
+use Rattle.expr_ops.specs.Slots.{slots_among, SlotsHaveOpcodes}
+use Rattle.expr_ops.proofs.PlainLaws.{expression_sized}
 use Rattle.form_codec.specs.declared.value.Value.{Value}
 use Rattle.form_codec.specs.declared.value.Value.TheVariants as value
 use Rattle.form_codec.specs.Values.{bytes_in, meant_in}
@@ -58,20 +59,20 @@ measured_next f ops old new number fixed slots h first second fixed_is slots_is 
       ];
 }
 
-module _ (f : Arena) (held : HeldOps) (operations : HasOperations Narrow f held) where
+module _ (f : Arena) (held : HeldOps) (operations : (reach : Reach) × HasOperations reach f held) where
   -- the operations of an expression
   pub expr_ops_are : (k : ℕ) (span : Span) → IsExprAt f k span → operations_in f held k ≡ all_meant (bytes_in f.section span) (ops_of held k)
   expr_ops_are k span is = ap (λ (v : Value). all_meant (expression_bytes (meant_in f.section v)) (ops_of held k)) is.is
 
   -- another value has none
   pub other_ops : (k : ℕ) → ((span : Span) → IsExprAt f k span → ⊥) → operations_in f held k ≡ []
-  other_ops k none = ap (all_meant (expression_bytes (meaning_at f k))) (operations.only k none)
+  other_ops k none = ap (all_meant (expression_bytes (meaning_at f k))) (operations.1.only k none)
 
-  module _ (opcodes : SlotsHaveOpcodes) (few : SlotsAreFew) where
+  module _ (opcodes : SlotsHaveOpcodes) where
     pub expr_fixed : (k : ℕ) (span : Span) → IsExprAt f k span → fixed_length (all_meant (bytes_in f.section span) (ops_of held k)) ≤ 3 * span.len
     expr_fixed k span is =
         let os : List Operation = all_meant (bytes_in f.section span) (ops_of held k) in
-        let less : fixed_length os + 5 * slots_among os ≤ 3 * length (bytes_in f.section span) = few os (bytes_in f.section span) (operations.spelled k span is) in
+        let less : fixed_length os + 5 * slots_among os ≤ 3 * length (bytes_in f.section span) = (expression_sized operations.0 os (bytes_in f.section span) (operations.1.spelled k span is)).fives in
         let part : length (bytes_in f.section span) ≤ span.len = (let part : length (bytes_in f.section span) ≡ min span.len (length (drop span.at f.section)) = length-take span.len (drop span.at f.section) in omega arith) in
         omega (arith, less, part)
 
@@ -115,7 +116,7 @@ pub record MeasuresNext (f : Arena) (held : HeldOps) (k : ℕ) (new : Measured) 
   pub expr : (span : Span) → value_at f.values k ≡ value.Expr span → (fixed slots : ℕ) → fixed ≡ fixed_length (all_meant (bytes_in f.section span) (ops_of held k)) → slots ≡ slots_among (all_meant (bytes_in f.section span) (ops_of held k)) → pair ≡ (fixed, 1 + slots) → IsMeasured f (operations_in f held) new (k + 1)
   pub other : ((span : Span) → value_at f.values k ≡ value.Expr span → ⊥) → ((n : ℕ) → value_at f.values k ≡ value.LocalRef n → ⊥) → pair ≡ (0, 0) → IsMeasured f (operations_in f held) new (k + 1)
 
-pub value_measured : (f : Arena) (held : HeldOps) → HasOperations Narrow f held → (k : ℕ) → k < length f.values → (old new : Measured) → IsMeasured f (operations_in f held) old k → (pair : ℕ × ℕ) → new.fixed.items ≡ old.fixed.items ++ pair.0 ∷ [] → new.slots.items ≡ old.slots.items ++ pair.1 ∷ [] → MeasuresNext f held k new pair
+pub value_measured : (f : Arena) (held : HeldOps) → (reach : Reach) × HasOperations reach f held → (k : ℕ) → k < length f.values → (old new : Measured) → IsMeasured f (operations_in f held) old k → (pair : ℕ × ℕ) → new.fixed.items ≡ old.fixed.items ++ pair.0 ∷ [] → new.slots.items ≡ old.slots.items ++ pair.1 ∷ [] → MeasuresNext f held k new pair
 value_measured f held operations k lt old new h pair first second = record {
   local = λ n is e.
       let none : (span : Span) → IsExprAt f k span → ⊥ = λ span here. other_value n span (sym is ∙ here.is) in

@@ -13,6 +13,7 @@ mod parts;
 #[cfg(test)]
 mod place_tests;
 mod places;
+mod room;
 mod slots;
 mod values;
 mod write;

@@ -1,6 +1,6 @@
 // What the values of a unit take beside their slots, and how many slots each has.
 ghost use Rattle.std.specs.Prelude.{◌≡◌, ◌<◌, ◌+◌, ℕ, length, IfOk};
-ghost use Rattle.dw_base.specs.declared.fault.Reach.TheVariants.{Narrow};
+ghost use Rattle.dw_base.specs.declared.fault.Reach.{Reach};
 ghost use Rattle.entry_read.specs.Expressions.{HasOperations};
 ghost use Rattle.entry_read.specs.Slots.{operations_in};
 ghost use Rattle.unit_write.specs.inside.Marks.{IsMeasured, AreMeasured, AreShort};
@@ -28,7 +28,7 @@ fn measure_value(
     operations: &Operations,
     number: u32,
 ) -> Result<(), NoMemory>
-    requires operations { HasOperations Narrow unit.now.forest operations.now }
+    requires operations { (reach : Reach) × HasOperations reach unit.now.forest operations.now }
     requires short { AreShort unit.now.forest }
     requires number { number < length unit.now.forest.values }
     requires before { IsMeasured unit.now.forest (operations_in unit.now.forest operations.now) measured.old number }
@@ -59,7 +59,7 @@ pub(crate) fn measure(
     unit: &Unit<'_>,
     operations: &Operations,
 ) -> Result<Measured, NoMemory>
-    requires operations { HasOperations Narrow unit.now.forest operations.now }
+    requires operations { (reach : Reach) × HasOperations reach unit.now.forest operations.now }
     requires short { AreShort unit.now.forest }
     ensures measured { IfOk result (AreMeasured unit.now.forest (operations_in unit.now.forest operations.now)) }
 {

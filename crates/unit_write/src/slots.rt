@@ -1,7 +1,7 @@
 // The slots of a unit.
 ghost use Rattle.std.specs.Prelude.{◌≡◌, ◌≤◌, ◌<◌, ◌+◌, ◌*◌, ◌++◌, ◌^◌, ℕ, suc, List, length, map, true, IfOk, OnOk};
 ghost use Rattle.std.specs.List.{All};
-ghost use Rattle.dw_base.specs.declared.fault.Reach.TheVariants.{Narrow};
+ghost use Rattle.dw_base.specs.declared.fault.Reach.{Reach};
 ghost use Rattle.expr_ops.specs.Expressions.{Operation};
 ghost use Rattle.expr_ops.specs.Ops.{meant, all_meant};
 ghost use Rattle.expr_ops.specs.Drafts.{is_slot};
@@ -19,6 +19,7 @@ ghost use Rattle.unit_write.specs.inside.Marks.{slot_for, HasSpotFor, HaveSpots,
 use crate::laws::one_size;
 use crate::marks::Marks;
 use crate::measure::{Measured, measure};
+use crate::room::has_room;
 use abbrev_tables::{Spec, Table};
 use dw_base::NoMemory;
 use entry_arena::Operations;
@@ -117,7 +118,7 @@ fn push_value_slots(
     spots: &Vec<Spot>,
     number: u32,
 ) -> Result<(), NoMemory>
-    requires operations { HasOperations Narrow unit.now.forest operations.now }
+    requires operations { (reach : Reach) × HasOperations reach unit.now.forest operations.now }
     requires fits { (k : ℕ) → k < length unit.now.forest.values → fixed_length (operations_in unit.now.forest operations.now k) < 2 ^ 31 }
     requires number { number < length unit.now.forest.values }
     requires spots { HaveSpots marks.now 0 (aims_of unit.now.forest (operations_in unit.now.forest operations.now)) spots.now.items }
@@ -185,7 +186,7 @@ pub(crate) fn measured_slots(
     spots: &Vec<Spot>,
     lists: &[ListSlot],
 ) -> Result<Vec<Slot>, NoMemory>
-    requires operations { HasOperations Narrow unit.now.forest operations.now }
+    requires operations { (reach : Reach) × HasOperations reach unit.now.forest operations.now }
     requires writable { (lens : List ℕ) → AreLensFor unit.now.forest lens → IsWritable unit.now decls.now specs.now.items numbers.now.items lens }
     requires room { most_bytes unit.now < 2 ^ 31 }
     requires measured { AreMeasured unit.now.forest (operations_in unit.now.forest operations.now) measured.now }
@@ -215,8 +216,8 @@ pub(crate) fn measured_slots(
 /// These are its references within itself, the lengths of expressions, and in expressions the calls and the references to base types. A
 /// reference counts the bytes from the unit's first one up to what it names, and a length those of the expression, whatever sizes the
 /// slots get. `spots` says for each slot what it names. Behind them stand the slots of the location lists that the unit owns, of which
-/// `lists` says what they tell. There are at most 17 * 2^24 together, as every unit within the narrow limits has. The only error is want of
-/// memory.
+/// `lists` says what they tell. The only error is want of memory, which is also the answer where there are more than 17 * 2^24 together,
+/// or where the unit may get 2^31 bytes.
 pub fn slots_of(
     alloc: Global,
     unit: &Unit<'_>,
@@ -227,16 +228,17 @@ pub fn slots_of(
     spots: &Vec<Spot>,
     lists: &[ListSlot],
 ) -> Result<Vec<Slot>, NoMemory>
-    requires operations { HasOperations Narrow unit.now.forest operations.now }
+    requires operations { (reach : Reach) × HasOperations reach unit.now.forest operations.now }
     requires writable { (lens : List ℕ) → AreLensFor unit.now.forest lens → IsWritable unit.now decls.now specs.now.items numbers.now.items lens }
-    requires room { most_bytes unit.now < 2 ^ 31 }
-    requires few { length spots.now.items + length lists.now ≤ most_slots }
     requires spots { AreSpotsOf unit.now (operations_in unit.now.forest operations.now) spots.now.items }
     requires lists { (more : List Aim) × AreListSlots unit.now more lists.now }
     ensures slots { IfOk result (λ slots. (more : List Aim) → AreListSlots unit.now more lists.now → AreSlots unit.now decls.now specs.now.items numbers.now.items (operations_in unit.now.forest operations.now) more (all_spots spots.now.items lists.now) (rows_of slots.items)) }
     ensures inside { IfOk result (λ slots. HasRangesInside (rows_of slots.items)) }
     ensures small { IfOk result (λ slots. HasSmallFixed (rows_of slots.items)) }
 {
+    if !has_room(unit, spots, lists) {
+        return Err(NoMemory);
+    }
     let measured = measure(alloc, unit, operations)?;
     measured_slots(
         alloc, unit, operations, decls, specs, numbers, &measured, spots, lists,

@@ -1,6 +1,7 @@
 use Rattle.std.proofs.Common.{◌≡◌, ◌≤◌, ◌+◌, ◌∙◌, ℕ, List, All, length, sum, sym, ap, subst, arith}
 use Rattle.std.proofs.lemmas.List.{length-append, length-map}
 use Rattle.std.proofs.lemmas.Slice.Zip.{AllZip-long}
+use Rattle.dw_base.specs.declared.fault.Reach.TheVariants.{Narrow}
 use Rattle.leb_codec.specs.Layout.{SlotRow}
 use Rattle.slot_layout.specs.Rows.{rows_of, row_of}
 use Rattle.expr_ops.specs.Slots.{Aim}
@@ -12,6 +13,12 @@ use Rattle.unit_write.proofs.ListSlots.{lists_many}
 use Rattle.unit_write.proofs.ShortSpans.{short_of}
 use Rattle.unit_write.proofs.Lengths.{sizes_small, all_slots, lens_under, lens_laid, fixed_room}
 use Rattle.unit_write.proofs.layout.lay_out.Goals as goal
+
+pub measure-requires-clause-operations : goal.measure-requires-clause-operations
+measure-requires-clause-operations c = (Narrow, c.requires.operations)
+
+pub measured_slots-requires-clause-operations : goal.measured_slots-requires-clause-operations
+measured_slots-requires-clause-operations c = (Narrow, c.requires.operations)
 
 pub measure-requires-clause-short : goal.measure-requires-clause-short
 measure-requires-clause-short c = short_of c.args.unit.now c.args.decls.now c.args.specs.now.items c.args.numbers.now.items c.requires.writable c.requires.room
@@ -60,7 +67,7 @@ add_sizes-requires-clause-few c =
 pub add_sizes-requires-clause-room : goal.add_sizes-requires-clause-room
 add_sizes-requires-clause-room c =
     let short = short_of c.args.unit.now c.args.decls.now c.args.specs.now.items c.args.numbers.now.items c.requires.writable c.requires.room in
-    fixed_room c.args.unit.now.forest c.args.operations.now c.requires.operations c.slots_are_few.ensures.opcodes c.slots_are_few.ensures.few short c.in_ok-measured.measured c.in_ok-measured.ensures.measured
+    fixed_room c.args.unit.now.forest c.args.operations.now (Narrow, c.requires.operations) c.slots_are_few.ensures.opcodes short c.in_ok-measured.measured c.in_ok-measured.ensures.measured
 
 pub returns-clause-laid_out : goal.returns-clause-laid_out
 returns-clause-laid_out c = λ more listed.
@@ -88,4 +95,4 @@ returns-clause-lens c =
     let added = subst (λ (z : List ℕ). AreLensWith c.in_ok-measured.measured.fixed.items c.in_ok-measured.measured.slots.items z c.add_sizes.new.lens.items) c.deref-2.ensures.value counts in
     let under = lens_under f (operations_in f c.args.operations.now) c.in_ok-measured.measured c.in_ok-measured.ensures.measured sizes c.add_sizes.new.lens.items added in
     let small = sizes_small rows sizes c.in_ok-layout.ensures.member.same_length c.in_ok-layout.ensures.tight c.in_ok-layout.ensures.narrow in
-    lens_laid f c.args.operations.now c.requires.operations c.slots_are_few.ensures.few c.in_ok-measured.measured c.in_ok-measured.ensures.measured sizes c.add_sizes.new.lens.items under small
+    lens_laid f c.args.operations.now (Narrow, c.requires.operations) c.in_ok-measured.measured c.in_ok-measured.ensures.measured sizes c.add_sizes.new.lens.items under small

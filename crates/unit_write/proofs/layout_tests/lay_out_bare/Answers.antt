@@ -1,6 +1,10 @@
 use Rattle.std.proofs.Common.{rules, ◌≡◌, length, refl}
+use Rattle.dw_base.specs.declared.fault.Reach.TheVariants.{Narrow}
 use Rattle.unit_write.proofs.Bare.{bare_always, one_reference}
 use Rattle.unit_write.proofs.layout_tests.lay_out_bare.Goals as goal
+
+pub slots_of-requires-clause-operations : goal.slots_of-requires-clause-operations
+slots_of-requires-clause-operations c = (Narrow, c.requires.operations)
 
 pub slots_of-requires-clause-writable : goal.slots_of-requires-clause-writable
 slots_of-requires-clause-writable c =

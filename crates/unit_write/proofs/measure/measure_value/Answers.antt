@@ -32,7 +32,7 @@ fixed_len-fixed-requires c =
     let here : IsExprAt f k span = record { inside = c.requires.number; is = is } in
     let bytes : c.bytes.result.now ≡ bytes_in f.section span = c.bytes.ensures ∙ ap (λ (z : Arena). bytes_in z.section span) c.forest-forest.ensures in
     let same : fixed_length (all_meant c.bytes.result.now c.of_value-ops.result.now) ≡ fixed_length (all_meant (bytes_in f.section span) (ops_of c.args.operations.now k)) = ap (λ (z : List ℕ). fixed_length (all_meant z c.of_value-ops.result.now)) bytes ∙ ap (λ (z : List Op). fixed_length (all_meant (bytes_in f.section span) z)) c.of_value-ops.ensures in
-    let most = expr_fixed f c.args.operations.now c.requires.operations c.slots_are_few.ensures.opcodes c.slots_are_few.ensures.few k span here in
+    let most = expr_fixed f c.args.operations.now c.requires.operations c.slots_are_few.ensures.opcodes k span here in
     let room = c.requires.short k span here in
     record { fits = omega (arith, same, most, room) }
 
@@ -45,7 +45,7 @@ overflow_cast-fixed c =
     let here : IsExprAt f k span = record { inside = c.requires.number; is = is } in
     let bytes : c.bytes.result.now ≡ bytes_in f.section span = c.bytes.ensures ∙ ap (λ (z : Arena). bytes_in z.section span) c.forest-forest.ensures in
     let same : c.fixed_len-fixed.result ≡ fixed_length (all_meant (bytes_in f.section span) (ops_of c.args.operations.now k)) = c.fixed_len-fixed.ensures ∙ ap (λ (z : List ℕ). fixed_length (all_meant z c.of_value-ops.result.now)) bytes ∙ ap (λ (z : List Op). fixed_length (all_meant (bytes_in f.section span) z)) c.of_value-ops.ensures in
-    let most = expr_fixed f c.args.operations.now c.requires.operations c.slots_are_few.ensures.opcodes c.slots_are_few.ensures.few k span here in
+    let most = expr_fixed f c.args.operations.now c.requires.operations c.slots_are_few.ensures.opcodes k span here in
     let room = c.requires.short k span here in
     omega (arith, same, most, room)
 
@@ -57,7 +57,7 @@ overflow_cast-fixed-in-Expr c =
     let is : value_at f.values k ≡ value.Expr span = value_read f c.forest-forest.result.now k c.value.result _ c.forest-forest.ensures c.value.ensures c.in-Expr.is in
     let here : IsExprAt f k span = record { inside = c.requires.number; is = is } in
     let same : c.slot_count.result ≡ slots_among (all_meant (bytes_in f.section span) (ops_of c.args.operations.now k)) = c.slot_count.ensures (bytes_in f.section span) ∙ ap (λ (z : List Op). slots_among (all_meant (bytes_in f.section span) z)) c.of_value-ops.ensures in
-    let most = expr_slots f c.args.operations.now c.requires.operations c.slots_are_few.ensures.opcodes c.slots_are_few.ensures.few k span here in
+    let most = expr_slots f c.args.operations.now c.requires.operations c.slots_are_few.ensures.opcodes k span here in
     let room = c.requires.short k span here in
     omega (arith, same, most, room)
 
@@ -69,7 +69,7 @@ overflow_add-fixed c =
     let is : value_at f.values k ≡ value.Expr span = value_read f c.forest-forest.result.now k c.value.result _ c.forest-forest.ensures c.value.ensures c.in-Expr.is in
     let here : IsExprAt f k span = record { inside = c.requires.number; is = is } in
     let same : c.slot_count.result ≡ slots_among (all_meant (bytes_in f.section span) (ops_of c.args.operations.now k)) = c.slot_count.ensures (bytes_in f.section span) ∙ ap (λ (z : List Op). slots_among (all_meant (bytes_in f.section span) z)) c.of_value-ops.ensures in
-    let most = expr_slots f c.args.operations.now c.requires.operations c.slots_are_few.ensures.opcodes c.slots_are_few.ensures.few k span here in
+    let most = expr_slots f c.args.operations.now c.requires.operations c.slots_are_few.ensures.opcodes k span here in
     let room = c.requires.short k span here in
     omega (arith, same, most, room)
 

@@ -14,7 +14,7 @@ use Rattle.unit_write.proofs.TakenUnits.{have_values}
 use Rattle.unit_write.proofs.slots.measured_slots.Goals as goal
 
 pub of-requires-clause-lens : goal.of-requires-clause-lens
-of-requires-clause-lens c = fixed_lens c.args.unit.now.forest c.args.operations.now c.requires.operations c.slots_are_few.ensures.opcodes c.slots_are_few.ensures.few c.args.measured.now c.requires.measured
+of-requires-clause-lens c = fixed_lens c.args.unit.now.forest c.args.operations.now c.requires.operations c.slots_are_few.ensures.opcodes c.args.measured.now c.requires.measured
 
 pub of-requires-clause-few : goal.of-requires-clause-few
 of-requires-clause-few c =
@@ -31,7 +31,7 @@ of-requires-clause-few c =
 pub push_value_slots-requires-clause-fits : goal.push_value_slots-requires-clause-fits
 push_value_slots-requires-clause-fits c =
     let short : AreShort c.args.unit.now.forest = short_of c.args.unit.now c.args.decls.now c.args.specs.now.items c.args.numbers.now.items c.requires.writable c.requires.room in
-    fixed_small c.args.unit.now.forest c.args.operations.now c.requires.operations c.slots_are_few.ensures.opcodes c.slots_are_few.ensures.few short
+    fixed_small c.args.unit.now.forest c.args.operations.now c.requires.operations c.slots_are_few.ensures.opcodes short
 
 pub push_value_slots-requires-clause-spots : goal.push_value_slots-requires-clause-spots
 push_value_slots-requires-clause-spots c =
@@ -82,7 +82,7 @@ returns-clause-inside c =
     let made = both_made unit ops c.in_ok-marks.marks c.args.spots.now.items c.args.lists.now c.loop-number.number c.loop-number.slots.items c.push_list_slots.new.slots.items c.requires.spots all c.loop-number.invariant c.in_ok-push_list_slots.ensures more listed in
     let valued = have_values unit c.args.decls.now (held_of unit c.args.decls.now c.args.specs.now.items c.args.numbers.now.items c.requires.writable) in
     let short : AreShort f = short_of unit c.args.decls.now c.args.specs.now.items c.args.numbers.now.items c.requires.writable c.requires.room in
-    let within = aims_within (2 ^ 31) f ops (length f.values) (fixed_small f c.args.operations.now c.requires.operations c.slots_are_few.ensures.opcodes c.slots_are_few.ensures.few short) in
+    let within = aims_within (2 ^ 31) f ops (length f.values) (fixed_small f c.args.operations.now c.requires.operations c.slots_are_few.ensures.opcodes short) in
     ranges_inside unit c.args.decls.now c.args.specs.now.items c.args.numbers.now.items ops c.in_ok-marks.marks (c.in_ok-marks.ensures ops c.requires.measured) more c.args.spots.now.items c.args.lists.now c.requires.spots listed c.push_list_slots.new.slots.items made within valued
 
 pub returns-clause-small : goal.returns-clause-small
@@ -95,5 +95,5 @@ returns-clause-small c =
     let all : c.loop-number.number ≡ length f.values = omega (arith, count, c.loop-number-test.false, c.loop-number.auto.number-end) in
     let made = both_made unit ops c.in_ok-marks.marks c.args.spots.now.items c.args.lists.now c.loop-number.number c.loop-number.slots.items c.push_list_slots.new.slots.items c.requires.spots all c.loop-number.invariant c.in_ok-push_list_slots.ensures more listed in
     let short : AreShort f = short_of unit c.args.decls.now c.args.specs.now.items c.args.numbers.now.items c.requires.writable c.requires.room in
-    let within = aims_within (2 ^ 31) f ops (length f.values) (fixed_small f c.args.operations.now c.requires.operations c.slots_are_few.ensures.opcodes c.slots_are_few.ensures.few short) in
+    let within = aims_within (2 ^ 31) f ops (length f.values) (fixed_small f c.args.operations.now c.requires.operations c.slots_are_few.ensures.opcodes short) in
     small_fixed unit c.args.decls.now c.args.specs.now.items c.args.numbers.now.items ops c.in_ok-marks.marks (c.in_ok-marks.ensures ops c.requires.measured) more c.args.spots.now.items c.args.lists.now c.requires.spots listed c.push_list_slots.new.slots.items made within
