@@ -166,7 +166,7 @@ signed_back Four m h = ap (signed_of Four) (low_mod 4 (cast_unsigned w64 (cast_s
 signed_back Eight m h = ap (signed_of Eight) (low_mod 8 (cast_unsigned w64 (cast_signed w64 m)) ∙ ap (λ (y : ℕ). y % 256 ^ 8) (of_z-to_z w64 m h) ∙ mod-eq_of_lt h)
 
 -- a short distance has its two low bytes
-distance_by : (v : ℤ) (x y : ℕ) → x ≤ 20480 → y ≤ 20480 → pos x ≡ pos y +ℤ v → cast_signed w16 (cast_unsigned w64 v % 65536) ≡ v
+distance_by : (v : ℤ) (x y : ℕ) → x ≤ y + 32767 → y ≤ x + 32768 → pos x ≡ pos y +ℤ v → cast_signed w16 (cast_unsigned w64 v % 65536) ≡ v
 distance_by (pos n) x y p q e =
     let small : n < 32768 = omega (arith, ints) in
     let f : n % 65536 ≡ n = omega arith in
@@ -179,7 +179,7 @@ distance_by (negsuc n) x y p q e =
     let back : 65536 - suc (65536 - suc n) ≡ n = omega arith in
     ap (cast_signed w16) f ∙ g ∙ ap negsuc back
 
-pub distance_back : (v : ℤ) (x y : ℕ) → x ≤ 20480 → y ≤ 20480 → pos x ≡ pos y +ℤ v → FitsPart (shape.Signed Two) 0 v []
+pub distance_back : (v : ℤ) (x y : ℕ) → x ≤ y + 32767 → y ≤ x + 32768 → pos x ≡ pos y +ℤ v → FitsPart (shape.Signed Two) 0 v []
 distance_back v x y p q e = ap (cast_signed w16) (low_mod 2 (cast_unsigned w64 v)) ∙ distance_by v x y p q e
 
 -- WHAT WAS READ FITS

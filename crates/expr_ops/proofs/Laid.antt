@@ -5,6 +5,9 @@ use Rattle.std.specs.Prelude.{pos, ◌+ℤ◌}
 use Rattle.expr_ops.specs.declared.op.Op.{Op}
 use Rattle.expr_ops.specs.Expressions.{Operation, IsBranch}
 use Rattle.expr_ops.specs.Puts.{PutsOwn}
+use Rattle.expr_ops.specs.Fits.{FitsPart}
+use Rattle.expr_ops.specs.declared.table.Shape.TheVariants as shape
+use Rattle.expr_ops.specs.declared.table.Width.TheVariants.{Two}
 use Rattle.expr_ops.specs.Drafts.{with_a, op_at, IsFirst}
 use Rattle.expr_ops.specs.Writing.{IsRange}
 use Rattle.expr_ops.proofs.HeadsKept.{Refers}
@@ -38,7 +41,7 @@ pub record IsItem (ops : List Op) (places firsts : List ℕ) (k : ℕ) (old name
   pub other : (¬ IsBranch old.code) → old.code ≢ 163 → written ≡ named
   pub long : old.code ≡ 163 → written.a + place_of places (k + 1) ≡ place_of places (k + 1 + old.inner)
   pub distance : IsBranch old.code → pos (place_of places (get_or firsts k 0 + old.jump)) ≡ pos (place_of places (k + 1)) +ℤ written.s
-  pub few : IsBranch old.code → (base count : ℕ) → IsOwn ops base count k (get_or firsts k 0) → place_of places (base + count) ≤ place_of places base + 20480
+  pub near : IsBranch old.code → (base count : ℕ) → IsOwn ops base count k (get_or firsts k 0) → old.jump ≤ count → FitsPart (shape.Signed Two) 0 written.s []
   pub size : place_of places k + length own ≡ place_of places (k + 1)
 
 -- the operations from k on

@@ -16,12 +16,10 @@ use Rattle.expr_ops.specs.Heads.{Head, SpellsHead, SpellsOperands, holding}
 use Rattle.expr_ops.specs.Expressions.{Operation, Segment, IsBranch, IsEntryValue, IsLevel, IsJump, EndsAt, SpellsSegment, flat, count_of, head_at, operation_of, plain_code, kept_sign, kept_block}
 use Rattle.expr_ops.specs.Puts.{PutsNumber, PutsOwn}
 use Rattle.expr_ops.specs.Drafts.{op_at, with_a, has_reference}
-use Rattle.expr_ops.specs.Fits.{FitsPart}
 use Rattle.expr_ops.specs.Writing.{IsRange}
-use Rattle.expr_ops.specs.declared.table.Width.TheVariants.{Two}
 use Rattle.expr_ops.proofs.HeadLaws.{some_same}
 use Rattle.expr_ops.proofs.PutSpells.{entry_spelled}
-use Rattle.expr_ops.proofs.HeadsKept.{read_as, distance_back}
+use Rattle.expr_ops.proofs.HeadsKept.{read_as}
 use Rattle.expr_ops.proofs.HeadsWritten.{with_s, IsRewritten, head_rewritten, operation_as}
 use Rattle.expr_ops.proofs.Nested.{Nests, nests_one, segment_nests, EndsBefore, first_there}
 use Rattle.expr_ops.proofs.Laid.{place_of, IsOwn, IsItem, Laid, laid_split, laid_long, laid_count, laid_inside, laid_inner}
@@ -30,18 +28,18 @@ use Rattle.expr_ops.proofs.Laid.{place_of, IsOwn, IsItem, Laid, laid_split, laid
 
 -- A segment that is written begins at operation k and ends where the operations behind it begin. As a branch it goes to the place of
 -- an operation, counted from the first one of the level.
-record IsPutSegment (places : List ℕ) (deep base count k jump : ℕ) (h : Segment) (own : List ℕ) : Type 0 where
-  spelled : SpellsSegment 20480 deep h own
+record IsPutSegment (most : ℕ) (places : List ℕ) (deep base count k jump : ℕ) (h : Segment) (own : List ℕ) : Type 0 where
+  spelled : SpellsSegment most deep h own
   size : place_of places k + length own ≡ place_of places (k + suc (length h.inner))
   distance : IsBranch h.head.code → pos (place_of places (base + jump)) ≡ pos (place_of places (k + suc (length h.inner))) +ℤ h.head.s
-  few : IsBranch h.head.code → place_of places (base + count) ≤ place_of places base + 20480
+  few : IsBranch h.head.code → place_of places (base + count) ≤ place_of places base + most
 
-abbrev PutSegments : List ℕ → ℕ → ℕ → ℕ → ℕ → List ℕ → List Segment → List ℕ → Type 0
-PutSegments places deep base count k [] [] own = own ≡ []
-PutSegments places deep base count k [] (h ∷ hs) own = ⊥
-PutSegments places deep base count k (j ∷ js) [] own = ⊥
-PutSegments places deep base count k (j ∷ js) (h ∷ hs) own =
-    (first : List ℕ) × (rest : List ℕ) × IsPutSegment places deep base count k j h first × PutSegments places deep base count (k + suc (length h.inner)) js hs rest × (own ≡ first ++ rest)
+abbrev PutSegments : ℕ → List ℕ → ℕ → ℕ → ℕ → ℕ → List ℕ → List Segment → List ℕ → Type 0
+PutSegments most places deep base count k [] [] own = own ≡ []
+PutSegments most places deep base count k [] (h ∷ hs) own = ⊥
+PutSegments most places deep base count k (j ∷ js) [] own = ⊥
+PutSegments most places deep base count k (j ∷ js) (h ∷ hs) own =
+    (first : List ℕ) × (rest : List ℕ) × IsPutSegment most places deep base count k j h first × PutSegments most places deep base count (k + suc (length h.inner)) js hs rest × (own ≡ first ++ rest)
 
 -- new segments hold as many operations as the old, and are branches where these are
 abbrev Like : List Segment → List Segment → Type 0
@@ -82,22 +80,22 @@ front_and a b n =
     take_sum (length a) n (a ++ b) ∙ ap (λ z. z ++ take n (drop (length a) (a ++ b))) (take_at a b (length a) refl) ∙ ap (λ z. a ++ take n z) (drop_at a b (length a) refl)
 
 -- where the first m segments end
-record EndsThere (places : List ℕ) (deep k : ℕ) (hs : List Segment) (own : List ℕ) (m : ℕ) : Type 0 where
+record EndsThere (most : ℕ) (places : List ℕ) (deep k : ℕ) (hs : List Segment) (own : List ℕ) (m : ℕ) : Type 0 where
   place : ℕ
-  ends : EndsAt (SpellsSegment 20480 deep) hs own m place
+  ends : EndsAt (SpellsSegment most deep) hs own m place
   is : place_of places k + place ≡ place_of places (k + count_of (take m hs))
 
-module _ (places : List ℕ) (deep base count : ℕ) where
-  put_joined : (k : ℕ) (js : List ℕ) (hs : List Segment) (own : List ℕ) → PutSegments places deep base count k js hs own → Joined (SpellsSegment 20480 deep) hs own
+module _ (most : ℕ) (places : List ℕ) (deep base count : ℕ) where
+  put_joined : (k : ℕ) (js : List ℕ) (hs : List Segment) (own : List ℕ) → PutSegments most places deep base count k js hs own → Joined (SpellsSegment most deep) hs own
   put_joined k [] [] own p = p
   put_joined k [] (h ∷ hs) own p = absurd p
   put_joined k (j ∷ js) [] own p = absurd p
   put_joined k (j ∷ js) (h ∷ hs) own (first, rest, i, p, e) = (first, rest, i.spelled, put_joined (k + suc (length h.inner)) js hs rest p, e)
 
-  none_ends : (k : ℕ) (hs : List Segment) (own : List ℕ) → EndsThere places deep k hs own 0
+  none_ends : (k : ℕ) (hs : List Segment) (own : List ℕ) → EndsThere most places deep k hs own 0
   none_ends k hs own = record { place = 0; ends = (omega arith, omega arith, refl); is = let e : k + 0 ≡ k = omega arith in let f = ap (place_of places) e in omega (arith, f) }
 
-  put_ends : (k : ℕ) (js : List ℕ) (hs : List Segment) (own : List ℕ) (m : ℕ) → PutSegments places deep base count k js hs own → m ≤ length hs → EndsThere places deep k hs own m
+  put_ends : (k : ℕ) (js : List ℕ) (hs : List Segment) (own : List ℕ) (m : ℕ) → PutSegments most places deep base count k js hs own → m ≤ length hs → EndsThere most places deep k hs own m
   put_ends k [] [] own zero p le = none_ends k [] own
   put_ends k [] [] own (suc m) p le = absurd (omega (arith, le))
   put_ends k [] (h ∷ hs) own m p le = absurd p
@@ -117,7 +115,7 @@ module _ (places : List ℕ) (deep base count : ℕ) where
         is = omega (arith, there, size, same);
       }
 
-  put_goes : (k : ℕ) (js : List ℕ) (hs : List Segment) (own : List ℕ) (i : ℕ) → PutSegments places deep base count k js hs own → i < length hs → IsBranch (head_at hs i).code → pos (place_of places (base + get_or js i 0)) ≡ pos (place_of places (k + count_of (take (suc i) hs))) +ℤ (head_at hs i).s
+  put_goes : (k : ℕ) (js : List ℕ) (hs : List Segment) (own : List ℕ) (i : ℕ) → PutSegments most places deep base count k js hs own → i < length hs → IsBranch (head_at hs i).code → pos (place_of places (base + get_or js i 0)) ≡ pos (place_of places (k + count_of (take (suc i) hs))) +ℤ (head_at hs i).s
   put_goes k [] [] own i p lt b = absurd (omega (arith, lt))
   put_goes k [] (h ∷ hs) own i p lt b = absurd p
   put_goes k (j ∷ js) [] own i p lt b = absurd p
@@ -128,7 +126,7 @@ module _ (places : List ℕ) (deep base count : ℕ) where
       let same : k + suc (length h.inner) + count_of (take (suc n) hs) ≡ k + suc (length h.inner + count_of (take (suc n) hs)) = omega arith in
       put_goes (k + suc (length h.inner)) js hs rest n p (omega (arith, lt)) b ∙ ap (λ z. pos (place_of places z) +ℤ (head_at hs n).s) same
 
-  put_few : (k : ℕ) (js : List ℕ) (hs : List Segment) (own : List ℕ) (i : ℕ) → PutSegments places deep base count k js hs own → i < length hs → IsBranch (head_at hs i).code → place_of places (base + count) ≤ place_of places base + 20480
+  put_few : (k : ℕ) (js : List ℕ) (hs : List Segment) (own : List ℕ) (i : ℕ) → PutSegments most places deep base count k js hs own → i < length hs → IsBranch (head_at hs i).code → place_of places (base + count) ≤ place_of places base + most
   put_few k [] [] own i p lt b = absurd (omega (arith, lt))
   put_few k [] (h ∷ hs) own i p lt b = absurd p
   put_few k (j ∷ js) [] own i p lt b = absurd p
@@ -147,13 +145,13 @@ joined_small most deep (g ∷ gs) bytes (first, rest, s, j, e) =
 
 -- ONE SEGMENT
 
-record IsNewSegment (places : List ℕ) (deep base count k jump : ℕ) (g : Segment) (named : List Operation) (own : List ℕ) : Type 0 where
+record IsNewSegment (most : ℕ) (places : List ℕ) (deep base count k jump : ℕ) (g : Segment) (named : List Operation) (own : List ℕ) : Type 0 where
   new : Segment
   listed : named ≡ operation_of new.head jump (length new.inner) ∷ new.inner
   held : length new.inner ≡ length g.inner
   was : IsBranch new.head.code → IsBranch g.head.code
   stays : IsBranch g.head.code → IsBranch new.head.code
-  put : IsPutSegment places deep base count k jump new own
+  put : IsPutSegment most places deep base count k jump new own
 
 pub no_entry_plain : (code : ℕ) → code ≢ 163 → plain_code code ≢ 163
 no_entry_plain code h e = elim (eqb_tells code 152) [
@@ -169,9 +167,9 @@ no_branch_entry : (code : ℕ) → code ≡ 163 → ¬ IsBranch code
 no_branch_entry code e (inl f) = omega (arith, e, f)
 no_branch_entry code e (inr f) = omega (arith, e, f)
 
-plain_spells : (deep : ℕ) (head : Head) (bytes : List ℕ) → SpellsHead head bytes → (¬ IsEntryValue head.code) → SpellsSegment 20480 deep (record { head = head; inner = [] }) bytes
-plain_spells zero head bytes s n = (s, n, refl)
-plain_spells (suc deep) head bytes s n = (s, inr (n, refl))
+plain_spells : (most deep : ℕ) (head : Head) (bytes : List ℕ) → SpellsHead head bytes → (¬ IsEntryValue head.code) → SpellsSegment most deep (record { head = head; inner = [] }) bytes
+plain_spells most zero head bytes s n = (s, n, refl)
+plain_spells most (suc deep) head bytes s n = (s, inr (n, refl))
 
 -- an entry_value has nothing but bytes
 entry_bare : (head : Head) (old : List ℕ) → SpellsHead head old → head.code ≡ 163 → (head.a ≡ 0) × (head.s ≡ pos 0)
@@ -194,10 +192,10 @@ entry_puts slot o own e (inr (inl (entry, p))) = p
 entry_puts slot o own e (inr (inr (a, plain, p))) = absurd (plain e)
 
 -- all segments of a level
-record AreNewSegments (places : List ℕ) (deep base count k : ℕ) (js : List ℕ) (gs : List Segment) (named : List Operation) (own : List ℕ) : Type 0 where
+record AreNewSegments (most : ℕ) (places : List ℕ) (deep base count k : ℕ) (js : List ℕ) (gs : List Segment) (named : List Operation) (own : List ℕ) : Type 0 where
   news : List Segment
   like : Like gs news
-  put : PutSegments places deep base count k js news own
+  put : PutSegments most places deep base count k js news own
   listed : named ≡ flat js news
 
 flat_count : (js : List ℕ) (gs : List Segment) → length js ≡ length gs → length (flat js gs) ≡ count_of gs
@@ -217,11 +215,6 @@ listed_more o held named front behind more e f g = e ∙ ap (λ z. z ++ behind) 
 same_distance : (c to from x y : ℕ) (s : ℤ) → c + to ≡ x → c + from ≡ y → pos x ≡ pos y +ℤ s → pos to ≡ pos from +ℤ s
 same_distance c to from x y s e f g = omega (arith, ints)
 
--- places of one expression of few bytes are near one another
-near : (v : ℤ) (c end x y : ℕ) → c ≤ x → x ≤ end → c ≤ y → y ≤ end → end ≤ c + 20480 → pos x ≡ pos y +ℤ v → FitsPart (shape.Signed Two) 0 v []
-near v c end x y a p b q few e =
-    distance_back v (x - c) (y - c) (omega (arith, p, few)) (omega (arith, q, few)) (same_distance c (x - c) (y - c) x y v (omega (arith, a)) (omega (arith, b)) e)
-
 count_take : (gs : List Segment) (m : ℕ) → count_of (take m gs) ≤ count_of gs
 count_take [] zero = omega arith
 count_take [] (suc m) = omega arith
@@ -237,27 +230,19 @@ range_inside : (ops : List Op) (base count : ℕ) → IsRange ops base count →
 range_inside ops base count (inl (e, whole)) = omega (arith, e)
 range_inside ops base count (inr (e, lt, code, is, long)) = omega (arith, lt, is)
 
-module _ (ops : List Op) (places firsts : List ℕ) where
+module _ (was most : ℕ) (ops : List Op) (places firsts : List ℕ) where
   abbrev pub LevelPut : ℕ → Type 0
-  LevelPut deep = (base : ℕ) (os named : List Operation) (old own : List ℕ) → IsLevel 20480 (SpellsSegment 20480 deep) os old → Laid ops places firsts base os named own → IsRange ops base (length os) → IsLevel 20480 (SpellsSegment 20480 deep) named own
+  LevelPut deep = (base : ℕ) (os named : List Operation) (old own : List ℕ) → IsLevel was (SpellsSegment was deep) os old → Laid ops places firsts base os named own → IsRange ops base (length os) → IsLevel most (SpellsSegment most deep) named own
 
   abbrev SegmentPut : ℕ → Type 0
-  SegmentPut deep = (base count k jump : ℕ) (g : Segment) (old : List ℕ) (named : List Operation) (own : List ℕ) → SpellsSegment 20480 deep g old → Laid ops places firsts k (operation_of g.head jump (length g.inner) ∷ g.inner) named own → IsOwn ops base count k (get_or firsts k 0) → jump ≤ count → IsNewSegment places deep base count k jump g named own
+  SegmentPut deep = (base count k jump : ℕ) (g : Segment) (old : List ℕ) (named : List Operation) (own : List ℕ) → SpellsSegment was deep g old → Laid ops places firsts k (operation_of g.head jump (length g.inner) ∷ g.inner) named own → IsOwn ops base count k (get_or firsts k 0) → jump ≤ count → IsNewSegment most places deep base count k jump g named own
 
-  module _ (low : (j : ℕ) → place_of places j < 2 ^ 63) (rise : (i j : ℕ) → i ≤ j → j ≤ length ops → place_of places i ≤ place_of places j) where
-    item_near : (base count k jump : ℕ) (o n : Operation) (own : List ℕ) → IsOwn ops base count k (get_or firsts k 0) → jump ≤ count → o.jump ≡ jump → (i : IsItem ops places firsts k o n own) → IsBranch o.code → FitsPart (shape.Signed Two) 0 i.written.s []
-    item_near base count k jump o n own w goes is i b =
-        let inside = w.inside in
-        let from = w.low in
-        let to = w.high in
-        let first = w.is in
-        near i.written.s (place_of places base) (place_of places (base + count)) (place_of places (get_or firsts k 0 + o.jump)) (place_of places (k + 1)) (rise base (get_or firsts k 0 + o.jump) (omega (arith, first)) (omega (arith, first, goes, is, inside))) (rise (get_or firsts k 0 + o.jump) (base + count) (omega (arith, first, goes, is)) inside) (rise base (k + 1) (omega (arith, from)) (omega (arith, to, inside))) (rise (k + 1) (base + count) (omega (arith, to)) inside) (i.few b base count w) (i.distance b)
-
+  module _ (low : (j : ℕ) → place_of places j < 2 ^ 63) (few : (base count k : ℕ) → IsBranch (op_at ops k).code → IsOwn ops base count k (get_or firsts k 0) → place_of places (base + count) ≤ place_of places base + most) where
     item_rewritten : (base count k jump : ℕ) (head : Head) (old : List ℕ) (n : Operation) (own : List ℕ) → SpellsHead head old → head.code ≢ 163 → IsOwn ops base count k (get_or firsts k 0) → jump ≤ count → (i : IsItem ops places firsts k (operation_of head jump 0) n own) → IsRewritten head jump (with_a n.a (operation_of head jump 0)) i.written own
     item_rewritten base count k jump head old n own s plain w goes i =
-        head_rewritten head old jump i.slot n.a i.written own s plain i.refers i.puts (λ b. (i.branch b ∙ ap (with_s i.written.s) i.renamed, item_near base count k jump (operation_of head jump 0) n own w goes refl i b)) (λ b. i.other b (no_entry_plain head.code plain) ∙ i.renamed)
+        head_rewritten head old jump i.slot n.a i.written own s plain i.refers i.puts (λ b. (i.branch b ∙ ap (with_s i.written.s) i.renamed, i.near b base count w goes)) (λ b. i.other b (no_entry_plain head.code plain) ∙ i.renamed)
 
-    plain_put : (deep base count k jump : ℕ) (g : Segment) (old : List ℕ) (named : List Operation) (own : List ℕ) → SpellsHead g.head old → g.head.code ≢ 163 → g.inner ≡ [] → Laid ops places firsts k (operation_of g.head jump (length g.inner) ∷ g.inner) named own → IsOwn ops base count k (get_or firsts k 0) → jump ≤ count → IsNewSegment places deep base count k jump g named own
+    plain_put : (deep base count k jump : ℕ) (g : Segment) (old : List ℕ) (named : List Operation) (own : List ℕ) → SpellsHead g.head old → g.head.code ≢ 163 → g.inner ≡ [] → Laid ops places firsts k (operation_of g.head jump (length g.inner) ∷ g.inner) named own → IsOwn ops base count k (get_or firsts k 0) → jump ≤ count → IsNewSegment most places deep base count k jump g named own
     plain_put deep base count k jump g old named own s plain none laid w goes =
         let (n, ns, first, rest, i, (empty, nothing), list, whole) : Laid ops places firsts k (operation_of g.head jump 0 ∷ []) named own = subst (λ (z : List Operation). Laid ops places firsts k (operation_of g.head jump (length z) ∷ z) named own) none laid in
         let same : own ≡ first = whole ∙ ap (λ z. first ++ z) nothing ∙ append-nil first in
@@ -274,15 +259,15 @@ module _ (ops : List Op) (places firsts : List ℕ) where
           was = r.was;
           stays = r.stays;
           put = record {
-            spelled = subst (λ (z : List ℕ). SpellsSegment 20480 deep new z) (sym same) (plain_spells deep r.new first r.spelled r.plain);
+            spelled = subst (λ (z : List ℕ). SpellsSegment most deep new z) (sym same) (plain_spells most deep r.new first r.spelled r.plain);
             size = omega (arith, size, long, there);
             distance = λ b.
                 sym (ap (λ z. pos (place_of places (z + jump))) w.is) ∙ i.distance (branch_plain g.head.code (r.was b)) ∙ ap (λ z. pos z +ℤ i.written.s) there ∙ ap (λ z. pos (place_of places (k + suc 0)) +ℤ z) (sym (r.sign b));
-            few = λ b. i.few (branch_plain g.head.code (r.was b)) base count w;
+            few = λ b. few base count k (subst (λ (z : ℕ). IsBranch z) (sym i.code) (branch_plain g.head.code (r.was b))) w;
           };
         }
 
-    entry_put : (deep : ℕ) → LevelPut deep → (base count k jump : ℕ) (g : Segment) (old : List ℕ) (named : List Operation) (own : List ℕ) → SpellsHead g.head old → g.head.code ≡ 163 → IsLevel 20480 (SpellsSegment 20480 deep) g.inner g.head.block → Laid ops places firsts k (operation_of g.head jump (length g.inner) ∷ g.inner) named own → IsNewSegment places (suc deep) base count k jump g named own
+    entry_put : (deep : ℕ) → LevelPut deep → (base count k jump : ℕ) (g : Segment) (old : List ℕ) (named : List Operation) (own : List ℕ) → SpellsHead g.head old → g.head.code ≡ 163 → IsLevel was (SpellsSegment was deep) g.inner g.head.block → Laid ops places firsts k (operation_of g.head jump (length g.inner) ∷ g.inner) named own → IsNewSegment most places (suc deep) base count k jump g named own
     entry_put deep level base count k jump g old named own s entry l laid =
         let (n, ns, first, rest, i, below, list, whole) = laid in
         let o = operation_of g.head jump (length g.inner) in
@@ -295,8 +280,8 @@ module _ (ops : List Op) (places firsts : List ℕ) where
         let high = low (k + 1 + length g.inner) in
         let fits : i.written.a < 2 ^ 64 = omega (arith, counted, high) in
         let held : length ns ≡ length g.inner = laid_count ops places firsts (k + 1) g.inner ns rest below in
-        let inner : IsLevel 20480 (SpellsSegment 20480 deep) ns rest = level (k + 1) g.inner ns g.head.block rest l below (inr (k, i.inside, i.code ∙ code, refl, sym i.inner)) in
-        let small : AreBytes rest = joined_small 20480 deep inner.segments rest inner.spelled in
+        let inner : IsLevel most (SpellsSegment most deep) ns rest = level (k + 1) g.inner ns g.head.block rest l below (inr (k, i.inside, i.code ∙ code, refl, sym i.inner)) in
+        let small : AreBytes rest = joined_small most deep inner.segments rest inner.spelled in
         let head : Head = record { code = 163; a = 0; s = pos 0; block = rest } in
         let new : Segment = record { head = head; inner = ns } in
         let spelled : SpellsHead head (163 ∷ (tail ++ rest)) = entry_spelled i.slot i.written.a tail rest long fits small puts in
@@ -343,7 +328,7 @@ module _ (ops : List Op) (places firsts : List ℕ) where
               omega (arith, held, h, same, is)
         ]
 
-    segments_put : (deep : ℕ) → SegmentPut deep → (base count : ℕ) → IsRange ops base count → base + count ≤ length ops → (k : ℕ) (js : List ℕ) (gs : List Segment) (old : List ℕ) (named : List Operation) (own : List ℕ) → length js ≡ length gs → Joined (SpellsSegment 20480 deep) gs old → Laid ops places firsts k (flat js gs) named own → base ≤ k → k + count_of gs ≤ base + count → EndsBefore ops base k → ((i : ℕ) → i < length gs → get_or js i 0 ≤ count) → AreNewSegments places deep base count k js gs named own
+    segments_put : (deep : ℕ) → SegmentPut deep → (base count : ℕ) → IsRange ops base count → base + count ≤ length ops → (k : ℕ) (js : List ℕ) (gs : List Segment) (old : List ℕ) (named : List Operation) (own : List ℕ) → length js ≡ length gs → Joined (SpellsSegment was deep) gs old → Laid ops places firsts k (flat js gs) named own → base ≤ k → k + count_of gs ≤ base + count → EndsBefore ops base k → ((i : ℕ) → i < length gs → get_or js i 0 ≤ count) → AreNewSegments most places deep base count k js gs named own
     segments_put deep put base count b within k [] [] old named own e j (list, whole) low high before goes = record { news = []; like = tt; put = whole; listed = list }
     segments_put deep put base count b within k [] (g ∷ gs) old named own e j laid low high before goes = absurd (omega (arith, e))
     segments_put deep put base count b within k (j ∷ js) [] old named own e i laid low high before goes = absurd (omega (arith, e))
@@ -355,24 +340,24 @@ module _ (ops : List Op) (places firsts : List ℕ) where
         let there : get_or firsts k 0 ≡ base = first_there ops base count k (get_or firsts k 0) b low (omega (arith, high)) inside before i.first in
         let w : IsOwn ops base count k (get_or firsts k 0) = record { range = b; inside = within; low = low; high = omega (arith, high); is = there } in
         let n = put base count k j g first s.front s.first spelled s.before w (goes 0 (omega arith)) in
-        let nests = segment_nests 20480 deep g first spelled in
+        let nests = segment_nests was deep g first spelled in
         let next = ends_more base k g o g.inner s.front s.first refl nests s.before before in
         let r = segments_put deep put base count b within (k + suc (length g.inner)) js gs rest s.behind s.rest (omega (arith, e)) joined s.after (omega (arith, low)) (omega (arith, high)) next (λ i lt. goes (suc i) (omega (arith, lt))) in
         record {
           news = n.new ∷ r.news;
           like = (n.held, n.was, n.stays, r.like);
-          put = (s.first, s.rest, n.put, subst (λ (z : ℕ). PutSegments places deep base count (k + suc z) js r.news s.rest) (sym n.held) r.put, s.whole);
+          put = (s.first, s.rest, n.put, subst (λ (z : ℕ). PutSegments most places deep base count (k + suc z) js r.news s.rest) (sym n.held) r.put, s.whole);
           listed = listed_more (operation_of n.new.head j (length n.new.inner)) n.new.inner named s.front s.behind (flat js r.news) s.listed n.listed r.listed;
         }
 
-    new_jump : (deep base count : ℕ) (S : Segment → List ℕ → Type 0) (js : List ℕ) (gs hs : List Segment) (old own : List ℕ) (i : ℕ) → Like gs hs → PutSegments places deep base count base js hs own → i < length hs → IsJump S gs old i (get_or js i 0) → IsJump (SpellsSegment 20480 deep) hs own i (get_or js i 0)
+    new_jump : (deep base count : ℕ) (S : Segment → List ℕ → Type 0) (js : List ℕ) (gs hs : List Segment) (old own : List ℕ) (i : ℕ) → Like gs hs → PutSegments most places deep base count base js hs own → i < length hs → IsJump S gs old i (get_or js i 0) → IsJump (SpellsSegment most deep) hs own i (get_or js i 0)
     new_jump deep base count S js gs hs old own i like put lt (inl (b, (m, x, e))) =
         let long = like_long gs hs like in
         let few = x.there.0 in
         let new = like_stays gs hs i like b in
-        let from = put_ends places deep base count base js hs own (i + 1) put (omega (arith, lt)) in
-        let to = put_ends places deep base count base js hs own m put (omega (arith, few, long)) in
-        let goes = put_goes places deep base count base js hs own i put lt new in
+        let from = put_ends most places deep base count base js hs own (i + 1) put (omega (arith, lt)) in
+        let to = put_ends most places deep base count base js hs own m put (omega (arith, few, long)) in
+        let goes = put_goes most places deep base count base js hs own i put lt new in
         let jump : get_or js i 0 ≡ count_of (take m hs) = e ∙ sym (like_count gs hs m like) in
         let one : suc i ≡ i + 1 = omega arith in
         let left : pos (place_of places (base + count_of (take m hs))) ≡ pos (place_of places (base + count_of (take (i + 1) hs))) +ℤ (head_at hs i).s =
@@ -398,17 +383,17 @@ module _ (ops : List Op) (places firsts : List ℕ) where
         let flats : Laid ops places firsts base (flat l.jumps l.segments) named own = subst (λ (z : List Operation). Laid ops places firsts base z named own) l.listed laid in
         let count : length os ≡ count_of l.segments = ap length l.listed ∙ flat_count l.jumps l.segments l.each in
         let within = laid_inside ops places firsts base os named own laid (range_inside ops base (length os) b) in
-        let n = segments_put deep put base (length os) b within base l.jumps l.segments old named own l.each l.spelled flats (omega arith) (omega (arith, count)) (λ e from less. absurd (omega (arith, from, less))) (λ i lt. let h = jump_inside (SpellsSegment 20480 deep) l.segments old i (get_or l.jumps i 0) (l.jumping i lt) in omega (arith, h, count)) in
+        let n = segments_put deep put base (length os) b within base l.jumps l.segments old named own l.each l.spelled flats (omega arith) (omega (arith, count)) (λ e from less. absurd (omega (arith, from, less))) (λ i lt. let h = jump_inside (SpellsSegment was deep) l.segments old i (get_or l.jumps i 0) (l.jumping i lt) in omega (arith, h, count)) in
         let long = like_long l.segments n.news n.like in
         let all = laid_long ops places firsts base os named own laid in
         record {
           segments = n.news;
           jumps = l.jumps;
-          spelled = put_joined places deep base (length os) base l.jumps n.news own n.put;
+          spelled = put_joined most places deep base (length os) base l.jumps n.news own n.put;
           each = l.each ∙ sym long;
           listed = n.listed;
-          jumping = λ i lt. new_jump deep base (length os) (SpellsSegment 20480 deep) l.jumps l.segments n.news old own i n.like n.put lt (l.jumping i (omega (arith, lt, long)));
-          few = λ (i, lt, x). let h = put_few places deep base (length os) base l.jumps n.news own i n.put lt x in omega (arith, h, all);
+          jumping = λ i lt. new_jump deep base (length os) (SpellsSegment was deep) l.jumps l.segments n.news old own i n.like n.put lt (l.jumping i (omega (arith, lt, long)));
+          few = λ (i, lt, x). let h = put_few most places deep base (length os) base l.jumps n.news own i n.put lt x in omega (arith, h, all);
         }
 
     -- what is written of a level is one

@@ -8,20 +8,21 @@ use Rattle.expr_ops.specs.declared.op.Op.{Op}
 use Rattle.expr_ops.specs.declared.write.Draft.{Draft}
 use Rattle.expr_ops.specs.Ops.{meant, all_meant}
 use Rattle.expr_ops.specs.Expressions.{Operation, IsBranch, IsExpression, SpellsSegment}
+use Rattle.expr_ops.specs.Sizes.{own_size}
 use Rattle.expr_ops.specs.Puts.{call_size, Adds}
 use Rattle.expr_ops.specs.Drafts.{is_typed, has_reference, is_slot, with_refs, sizes_in, total, op_at, AreDrafts}
 use Rattle.expr_ops.specs.Shortest.{needed_size, needed_slot, needed_own, shortest_length, shortest_sizes, IsWrittenShortest}
 use Rattle.expr_ops.proofs.PlainBytes.{plain_own, plain_length}
 use Rattle.expr_ops.proofs.NextRefs.{AreSmall, at_code, coded}
+use Rattle.expr_ops.proofs.Sums.{range_sum}
 use Rattle.expr_ops.proofs.SizeSplits.{less_take, less_drop, less_total, needed_less}
-use Rattle.expr_ops.specs.Writing.{reference_limit, IsRange, HasOwnBranch, CanBeWritten, IsWrittenExpression}
-use Rattle.expr_ops.proofs.DraftLaws.{no_draft}
+use Rattle.expr_ops.specs.Writing.{reference_limit, IsRange, HasOwnBranch, DistancesFit, CanBeWritten, IsSpelledAnew}
+use Rattle.expr_ops.proofs.DraftLaws.{no_draft, starts_rise}
 use Rattle.expr_ops.proofs.NestLaws.{nest_closed, own_drop, own_take}
 use Rattle.expr_ops.proofs.PlainLaws.{IsSized, segment_sized, level_sized, expression_sized}
 use Rattle.expr_ops.proofs.HeldLevels.{IsHeldLevel, IsFree, held_levels, levels_at, few_held}
 use Rattle.expr_ops.proofs.NeededSizes.{sizes_needed, put_length}
-use Rattle.expr_ops.proofs.NeededFits.{closed_at, draft_small, draft_code, draft_slot, needed_put}
-use Rattle.expr_ops.proofs.Reaches.{narrow_wide}
+use Rattle.expr_ops.proofs.NeededFits.{closed_at, drafts_count, draft_small, draft_code, draft_slot, needed_put}
 
 -- the operations of one expression among all
 record IsPart (bytes : List ℕ) (ops : List Op) (first count : ℕ) : Type 0 where
@@ -63,7 +64,7 @@ module _ (bytes : List ℕ) (ops : List Op) (old : IsExpression Narrow (all_mean
 
   -- at most three times the narrow limit
   few_plain : (first count : ℕ) → IsRange ops first count → HasOwnBranch ops first count → total (take count (drop first (plain_own (all_meant bytes ops)))) ≤ 12288
-  few_plain first count range (k, low, high, branch, own) =
+  few_plain first count range (k, (low, high, branch, own)) =
       let os = all_meant bytes ops in
       let d = meant bytes no_draft.op in
       let p = range_part first count range in
@@ -135,23 +136,48 @@ module _ (refs bytes : List ℕ) (ops : List Op) (old : IsExpression Narrow (all
       let same : total (take count (drop first (sizes_in bytes drafts))) ≡ total (take count (drop first needed)) = ap (λ (z : List ℕ). total (take count (drop first z))) (sizes_needed refs bytes ops drafts a) in
       omega (arith, h, same, less)
 
+  -- so its places are near one another
+  here_near : (drafts : List Draft) → AreDrafts refs (shortest_sizes refs (all_meant bytes ops)) bytes ops drafts → DistancesFit bytes drafts ops
+  here_near drafts a first count k range own goes =
+      let sizes = sizes_in bytes drafts in
+      let (low, high, branch, is) = own in
+      let jump = (op_at ops k).jump in
+      let inside = (range_part bytes ops old first count range).inside in
+      let many : length sizes ≡ length drafts = length-map drafts (λ (d : Draft). own_size d.slot (meant bytes d.op)) in
+      let all : length drafts ≡ length (all_meant bytes ops) = drafts_count refs bytes ops drafts a in
+      let each : length (all_meant bytes ops) ≡ length ops = length-map ops (meant bytes) in
+      let end : first + count ≤ length sizes = omega (arith, inside, many, all, each) in
+      let few = here_few drafts a first count range (k, own) in
+      let up = range_sum sizes first count end in
+      let from_first = starts_rise 0 sizes first (k + 1) (omega (arith, low)) (omega (arith, high, end)) in
+      let from_last = starts_rise 0 sizes (k + 1) (first + count) (omega (arith, high)) end in
+      let to_first = starts_rise 0 sizes first (first + jump) (omega arith) (omega (arith, goes, end)) in
+      let to_last = starts_rise 0 sizes (first + jump) (first + count) (omega (arith, goes)) end in
+      (omega (arith, few, up, from_first, to_last), omega (arith, few, up, from_last, to_first))
+
   -- an expression within the narrow limits can be written with references below 2^32
   pub shortest_written : CanBeWritten refs (shortest_sizes refs (all_meant bytes ops)) bytes ops
   shortest_written =
       let os = all_meant bytes ops in
       record {
-        old = narrow_wide os bytes old;
+        old = (4096, 8, old);
         put = λ drafts a. needed_put refs bytes ops drafts a (length bytes) (expression_sized Narrow os bytes old) fits;
         fits = here_fits;
-        few = here_few;
+        distances = here_near;
       }
+
+  -- what is written of it is within the wide ones
+  pub shortest_made : (made : List ℕ) → IsSpelledAnew refs (shortest_sizes refs (all_meant bytes ops)) bytes ops made → IsWrittenShortest refs bytes ops made
+  shortest_made made w = record {
+    written = record { put = w.put; expression = w.within 4096 20480 8 old here_few };
+    long = put_length refs bytes ops made w.put;
+  }
+
+  -- and has as many bytes as were foretold
+  pub shortest_added : (sizes old_out new_out : List ℕ) → sizes ≡ shortest_sizes refs (all_meant bytes ops) → Adds (IsSpelledAnew refs sizes bytes ops) old_out new_out → Adds (IsWrittenShortest refs bytes ops) old_out new_out
+  shortest_added sizes old_out new_out same (made, w, e) =
+      (made, shortest_made made (subst (λ (z : List ℕ). IsSpelledAnew refs z bytes ops made) same w), e)
 
 -- it has no more bytes than where each reference has five or four
 pub shortest_less : (refs : List ℕ) (os : List Operation) → AreSmall refs → shortest_length refs os ≤ plain_length os
 shortest_less refs os small = less_total (needed_own os (with_refs refs os)) (plain_own os) (needed_less refs os small)
-
--- what is written of it has as many bytes as were foretold
-pub shortest_added : (refs bytes : List ℕ) (ops : List Op) (sizes old new : List ℕ) → sizes ≡ shortest_sizes refs (all_meant bytes ops) → Adds (IsWrittenExpression refs sizes bytes ops) old new → Adds (IsWrittenShortest refs bytes ops) old new
-shortest_added refs bytes ops sizes old new same (made, w, e) =
-    let written : IsWrittenExpression refs (shortest_sizes refs (all_meant bytes ops)) bytes ops made = subst (λ (z : List ℕ). IsWrittenExpression refs z bytes ops made) same w in
-    (made, record { written = written; long = put_length refs bytes ops made written.put }, e)

@@ -20,9 +20,9 @@ use Rattle.expr_ops.proofs.DraftLaws.{no_draft}
 use Rattle.expr_ops.proofs.PlainLaws.{expression_sized}
 use Rattle.expr_ops.proofs.NextRefs.{AreSmall}
 use Rattle.expr_ops.proofs.NeededLaws.{IsRenamed, refs_count}
-use Rattle.expr_ops.proofs.NeededSizes.{needed_slots, slots_needed, put_length}
+use Rattle.expr_ops.proofs.NeededSizes.{needed_slots, slots_needed}
 use Rattle.expr_ops.proofs.NeededFits.{known_at, holds_needed, draft_code, drafts_count}
-use Rattle.expr_ops.proofs.NeededFew.{shortest_written}
+use Rattle.expr_ops.proofs.NeededFew.{shortest_written, shortest_made}
 use Rattle.expr_ops.proofs.Written.{written}
 
 -- WHAT WAS WRITTEN SO FAR
@@ -154,4 +154,4 @@ module _ (refs bytes : List ℕ) (ops : List Op) (simple : AreSimple ops) where
   simple_written old new i r was small fits le p =
       let (own, put, e) = all_put old new i r le p in
       let sizes = shortest_sizes refs (all_meant bytes ops) in
-      (own, record { written = record { put = put; expression = written refs sizes bytes ops own (shortest_written refs bytes ops was small fits) put }; long = put_length refs bytes ops own put }, e)
+      (own, shortest_made refs bytes ops was small fits own (written refs sizes bytes ops own (shortest_written refs bytes ops was small fits) put), e)

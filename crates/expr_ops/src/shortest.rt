@@ -82,7 +82,12 @@ pub(crate) fn fixed_own(op: &Op, bytes: &[u8]) -> u64
 }
 
 // The bytes of each slot, in the order of the operations.
-fn sizes_of(alloc: Global, ops: &[Op], refs: &[u64], bytes: &[u8]) -> Result<Vec<u8>, NoMemory>
+pub(crate) fn sizes_of(
+    alloc: Global,
+    ops: &[Op],
+    refs: &[u64],
+    bytes: &[u8],
+) -> Result<Vec<u8>, NoMemory>
     requires nest { Nest (all_meant bytes.now ops.now) }
     requires fits { shortest_length refs.now (all_meant bytes.now ops.now) < 2 ^ 64 }
     ensures { IfOk result (λ sizes. sizes.items ≡ shortest_sizes refs.now (all_meant bytes.now ops.now)) }

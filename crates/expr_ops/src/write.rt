@@ -6,7 +6,7 @@ ghost use Rattle.expr_ops.specs.Expressions.{Operation};
 ghost use Rattle.expr_ops.specs.Puts.{Adds};
 ghost use Rattle.expr_ops.specs.Ops.{meant, all_meant};
 ghost use Rattle.expr_ops.specs.Drafts.{is_typed as is_base_typed, is_generic, has_reference as is_reference, is_slot, first_or, rest_of, with_refs, slots_of, PutsDraft, IsPuttable, all_ops, all_slots, sizes_in, total, starts_from, IsAimed, AreAimed, AreFirsts};
-ghost use Rattle.expr_ops.specs.Writing.{CanBeWritten, IsWrittenExpression};
+ghost use Rattle.expr_ops.specs.Writing.{CanBeWritten, IsSpelledAnew};
 
 use crate::op::{CALL4, ENTRY_VALUE, Op};
 use crate::put::put_op;
@@ -276,9 +276,10 @@ fn append(out: &mut Vec<u8>, bytes: &[u8]) -> Result<(), NoMemory>
 /// slot, in the order of the operations; the generic type keeps its 0, whatever number stands for it. `bytes` are those of
 /// the expression from which the operations were read, of which their spans tell.
 ///
-/// What is appended is an expression again, of the same operations with the new references: each slot has its size, and all
-/// other numbers are in their shortest form; the length of an entry_value counts the bytes of the operations that it holds,
-/// and a branch goes to the operation to which it went.
+/// What is appended spells the same operations with the new references: each slot has its size, and all other numbers are in
+/// their shortest form; the length of an entry_value counts the bytes of the operations that it holds, and a branch goes to the
+/// operation to which it went. For that each number has to fit its slot or operand, and each distance 16 bits. Limits of depth and of
+/// bytes beside a branch are kept where the operations keep the first and the new bytes the second.
 ///
 /// An Err leaves `out` as it was.
 pub fn write_expr(
@@ -290,7 +291,7 @@ pub fn write_expr(
 ) -> Result<(), NoMemory>
     requires few { length ops.now < 2 ^ 32 }
     requires fits { CanBeWritten refs.now sizes.now bytes.now ops.now }
-    ensures ok { OnOk result (Adds (IsWrittenExpression refs.now sizes.now bytes.now ops.now) out.old.items out.new.items) }
+    ensures ok { OnOk result (Adds (IsSpelledAnew refs.now sizes.now bytes.now ops.now) out.old.items out.new.items) }
     ensures err { OnErr result (out.new.items ≡ out.old.items) }
 {
     let alloc = *out.allocator();

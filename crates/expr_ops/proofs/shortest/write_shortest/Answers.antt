@@ -18,4 +18,6 @@ write_expr-requires-clause-fits c =
 
 pub returns-clause-ok : goal.returns-clause-ok
 returns-clause-ok c =
-    on_ok_weaker c.write_expr.result (shortest_added c.args.refs.now c.args.bytes.now c.args.ops.now c.deref.result.now c.args.out.now.items c.write_expr.new.out.items (c.deref.ensures.value ∙ c.in_ok-sizes.ensures)) c.write_expr.ensures.ok
+    let len = c.shortest_len.ensures.len in
+    let short = c.if-shortest_len.false in
+    on_ok_weaker c.write_expr.result (shortest_added c.args.refs.now c.args.bytes.now c.args.ops.now c.requires.old c.requires.refs (omega (arith, len, short)) c.deref.result.now c.args.out.now.items c.write_expr.new.out.items (c.deref.ensures.value ∙ c.in_ok-sizes.ensures)) c.write_expr.ensures.ok
