@@ -6,9 +6,6 @@ ghost use Rattle.std.specs.Prelude.{◌≡◌, ◌<◌, ◌≤◌, ◌^◌, ◌�
 ghost use Rattle.leb_codec.specs.Numbering.{IsLeastNumbering, RiseByFallingUses, AreFirstNumbers, IsUsed};
 ghost use Rattle.abbrev_numbering.specs.inside.Order.{used_among, ArePlaces, AreNumbered};
 
-#[cfg(test)]
-mod tests;
-
 use dw_base::NoMemory;
 use leb_codec::least_lens;
 use std::alloc::Global;

@@ -5,8 +5,6 @@ mod decl;
 mod laws;
 mod read;
 mod table;
-#[cfg(test)]
-mod tests;
 mod write;
 
 pub use decl::{Decl, Spec};

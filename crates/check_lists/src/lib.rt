@@ -11,8 +11,6 @@ ghost use Rattle.list_least.specs.Plans.{bounds_of};
 ghost use Rattle.check_lists.specs.Laws.{NeverBoth, OneRefused};
 ghost use Rattle.check_lists.specs.Refused.{IsFirstRefused};
 
-#[cfg(test)]
-mod tests;
 mod walk;
 
 use dw_base::NoMemory;

@@ -16,8 +16,6 @@ mod holding;
 mod kinds;
 mod steps;
 mod sums;
-#[cfg(test)]
-mod tests;
 
 use dealing::{deal, first_misdealt};
 use dw_base::NoMemory;

@@ -5,8 +5,6 @@ mod choice;
 mod declaration;
 mod tallies;
 mod tally;
-#[cfg(test)]
-mod tests;
 
 pub use declaration::choose;
 pub use tallies::Tallies;

@@ -4,8 +4,6 @@
 mod laws;
 mod patch;
 mod set;
-#[cfg(test)]
-mod tests;
 
 pub use laws::sets_tile;
 pub use patch::patch_aranges;

@@ -4,11 +4,7 @@
 mod entry;
 mod forest;
 mod laws;
-#[cfg(test)]
-mod operation_tests;
 mod operations;
-#[cfg(test)]
-mod tests;
 mod values;
 
 pub use entry::{ChainEnd, Entry, Target};

@@ -26,7 +26,7 @@ use Rattle.entry_arena.specs.Trees.{bytes_between, declared_at, SpellsBetween, V
 use Rattle.entry_arena.proofs.Between.{between_split, spells_once}
 use Rattle.entry_arena.proofs.StepLaws.{values_front}
 use Rattle.entry_read.specs.declared.head.UnitHead.{UnitHead}
-use Rattle.entry_read.specs.Units.{HeadAndForest, IsUnitHeld}
+use Rattle.entry_read.specs.Units.{IsUnitHeld}
 use Rattle.entry_read.specs.Places.{StandsAtColumn, HaveOwners}
 use Rattle.entry_read.proofs.OwnerLaws.{values_belong}
 use Rattle.entry_read.proofs.PlaceLaws.{entry_stands}
@@ -101,11 +101,6 @@ pub stands_to : (info : List ℕ) (columns : List Spec) (from at : ℕ) → Stan
 stands_to info columns from at on values to valued =
     let there = on values to valued in
     ended info there.0 at to (subst (λ (z : List Spec). ValuesBetween info z there.0 at to) (drop-length columns) there.1)
-
--- a unit that was read is held of its own section, by its own head
-pub held_by_itself : (info : List ℕ) (head : UnitHead) (ds : List Declared) (u : HeadAndForest) → IsUnitHeld info head ds u.forest → u.head ≡ head → u.forest.section ≡ info → IsUnitHeld u.forest.section u.head ds u.forest
-held_by_itself info head ds u held same_head same_info =
-    subst (λ (z : List ℕ). IsUnitHeld z u.head ds u.forest) (sym same_info) (subst (λ (z : UnitHead). IsUnitHeld info z ds u.forest) (sym same_head) held)
 
 -- the same values, by other names of the same
 values_moved : (info section : List ℕ) (columns cs : List Spec) (from at column : ℕ) (values : List Value) (to : ℕ) → info ≡ section → columns ≡ cs → from ≡ at → ValuesBetween section (take column cs) values at to → ValuesBetween info (take column columns) values from to

@@ -2,14 +2,10 @@
 #![tactic(auto)]
 
 mod entries;
-#[cfg(test)]
-mod expression_tests;
 mod expressions;
 mod head;
 mod laws;
 mod place;
-#[cfg(test)]
-mod tests;
 mod unit;
 
 pub use entries::columns_of;

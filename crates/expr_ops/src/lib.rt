@@ -16,15 +16,9 @@ mod shortest;
 mod simple;
 mod size;
 mod slots;
-#[cfg(test)]
-mod slots_tests;
 mod start;
 mod table;
-#[cfg(test)]
-mod tests;
 mod write;
-#[cfg(test)]
-mod write_tests;
 
 pub use bounds::shortest_is_few;
 pub use laws::{
@@ -35,7 +29,7 @@ pub use names::{Named, named_by, reference_place};
 pub use op::{CALL4, ENTRY_VALUE, Op};
 pub use place_laws::{few_operations, operations_have_places, references_inside};
 pub use read::{push_expr, read_expr};
-pub use shortest::{lengths_split, shortest_len, write_shortest};
+pub use shortest::{lengths_split, shortest_len, sizes_of, write_shortest};
 pub use slots::{fixed_len, needed_are_shortest, slot_count, slots_are_few};
 pub use table::{Operands, Shape, Width, operands_of};
 pub use write::{has_reference, has_slot, is_generic, write_expr};

@@ -81,13 +81,9 @@ pub(crate) fn fixed_own(op: &Op, bytes: &[u8]) -> u64
     own_size(op, slot, bytes)
 }
 
-// The bytes of each slot, in the order of the operations.
-pub(crate) fn sizes_of(
-    alloc: Global,
-    ops: &[Op],
-    refs: &[u64],
-    bytes: &[u8],
-) -> Result<Vec<u8>, NoMemory>
+/// How many bytes each slot needs for the new references, in the order of the operations: those with which [`write_shortest`] writes
+/// them, for [`write_expr`](crate::write_expr). An Err is want of memory.
+pub fn sizes_of(alloc: Global, ops: &[Op], refs: &[u64], bytes: &[u8]) -> Result<Vec<u8>, NoMemory>
     requires nest { Nest (all_meant bytes.now ops.now) }
     requires fits { shortest_length refs.now (all_meant bytes.now ops.now) < 2 ^ 64 }
     ensures { IfOk result (λ sizes. sizes.items ≡ shortest_sizes refs.now (all_meant bytes.now ops.now)) }

@@ -5,8 +5,6 @@ mod encoding;
 mod form;
 mod laws;
 mod read;
-#[cfg(test)]
-mod tests;
 mod value;
 mod whole;
 mod write;

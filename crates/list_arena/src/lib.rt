@@ -3,8 +3,6 @@
 
 mod lists;
 mod read;
-#[cfg(test)]
-mod tests;
 mod views;
 mod words;
 

@@ -15,8 +15,6 @@ mod plan;
 mod potentials;
 mod runs;
 mod tail;
-#[cfg(test)]
-mod tests;
 
 pub use item_costs::{base_cost, item_cost};
 pub use laws::{few_bases, no_shorter, shortest_lists};

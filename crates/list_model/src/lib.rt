@@ -11,8 +11,6 @@ mod item;
 mod laws;
 mod read;
 mod tables;
-#[cfg(test)]
-mod tests;
 mod walk;
 
 pub use context::Context;

@@ -3,7 +3,7 @@ use Rattle.std.proofs.Common.{◌≡◌, ◌≤◌, ◌<◌, ◌+◌, ◌∙◌,
 use Rattle.std.specs.Prelude.{filter, not, Bool, true, false}
 use Rattle.std.specs.List.{sum_by}
 use Rattle.std.proofs.Math.Bool.{cond}
-use Rattle.std.proofs.lemmas.List.{append_assoc, append-nil, length-append, map-append, take_all, take_more, length-take-le, take-append-drop, nil_from_length}
+use Rattle.std.proofs.lemmas.List.{append_assoc, append-nil, length-append, map-append, take_all, take_more, length-take-le, take-append-drop}
 use Rattle.std.proofs.lemmas.List.Elements.{filter-append}
 use Rattle.std.proofs.lemmas.List.Sums.{sum_by-cons, length-filter, count_by-le-length}
 use Rattle.spelled.specs.Spelled.{Joined, Appends}
@@ -100,10 +100,6 @@ none_carried (entry ∷ entries) = none_carried entries
 pub carried_all : (kind : ListKind) (entries : List Entry) (expressions : List (List ℕ)) → HasExpressions kind entries expressions → carried_count kind entries ≡ length expressions
 carried_all Ranges entries expressions has = none_carried entries ∙ sym (ap length has)
 carried_all Locations entries expressions has = sym has
-
-pub has_all : (kind : ListKind) (entries : List Entry) (expressions : List (List ℕ)) → length expressions ≡ carried_count kind entries → HasExpressions kind entries expressions
-has_all Ranges entries expressions count = nil_from_length expressions (count ∙ none_carried entries)
-has_all Locations entries expressions count = count
 
 -- those of a front are no more
 counted_rises : (kind : ListKind) (entries : List Entry) (n : ℕ) → carried_count kind (take n entries) ≤ carried_count kind entries

@@ -9,6 +9,5 @@ pub mod Putting
 pub mod Ready
 pub mod Runs
 pub mod Standing
-pub mod TestLists
 pub mod Whole
 pub mod Written

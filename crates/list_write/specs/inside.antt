@@ -2,4 +2,3 @@
 pub mod Pieces
 pub mod Places
 pub mod Puts
-pub mod TestLists

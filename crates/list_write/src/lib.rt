@@ -8,8 +8,6 @@ mod named;
 mod part;
 mod pieces;
 mod places;
-#[cfg(test)]
-mod tests;
 mod write;
 
 pub use image::{ListImage, Moved};

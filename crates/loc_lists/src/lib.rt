@@ -5,8 +5,6 @@ mod fault;
 mod items;
 mod laws;
 mod read;
-#[cfg(test)]
-mod tests;
 mod views;
 
 pub use items::{bytes_of, is_item, location_items};

@@ -4,8 +4,6 @@
 mod items;
 mod laws;
 mod read;
-#[cfg(test)]
-mod tests;
 
 pub use items::range_items;
 pub use laws::{ranges_end, ranges_mean, ranges_written};

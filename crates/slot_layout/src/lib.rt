@@ -9,8 +9,6 @@ ghost use Rattle.slot_layout.specs.Rows.{rows_of, HasRangesInside, HasSmallFixed
 mod ranking;
 mod rounds;
 mod slots;
-#[cfg(test)]
-mod tests;
 
 use dw_base::NoMemory;
 use ranking::{StepRanks, in_slot_order};

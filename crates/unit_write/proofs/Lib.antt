@@ -1,5 +1,4 @@
 pub mod TakenUnits
-pub mod Bare
 pub mod ValueLaws
 pub mod EndLaws
 pub mod LensLaws
@@ -17,7 +16,6 @@ pub mod ShortLaws
 pub mod Anew
 pub mod HeadLaws
 pub mod UnitLaws
-pub mod TestUnits
 pub mod SlotLists
 pub mod SlotAims
 pub mod SlotMeasures

@@ -1,4 +1,4 @@
--- Values that are written in place of those that were read, and a unit that is held with those that were read.
+-- Values that are written in place of those that were read.
 use Rattle.std.proofs.Common.{◌≡◌, ◌<◌, ◌⊎◌, ℕ, zero, suc, List, [], ◌∷◌, length, take, drop, ◌∙◌, sym, refl, subst, inl, inr, arith}
 use Rattle.std.specs.List.{All, AllZip}
 use Rattle.std.proofs.lemmas.List.Elements.{AllZip-get_or, All-from_get_or}
@@ -11,24 +11,9 @@ use Rattle.abbrev_tables.specs.Listings.{Listing}
 use Rattle.entry_arena.specs.Arena.{value_at, with_values}
 use Rattle.entry_arena.specs.Order.{HaveValues, IsInOrder}
 use Rattle.entry_read.specs.declared.head.UnitHead.{UnitHead}
-use Rattle.entry_read.specs.Units.{HeadAndForest, declarations_of, IsUnitHeld}
+use Rattle.entry_read.specs.Units.{HeadAndForest, declarations_of}
 use Rattle.entry_read.proofs.PlaceLaws.{units_lie}
 use Rattle.unit_write.specs.Taken.{StandsFor, IsHeldFor}
-
--- A UNIT AS IT IS READ
-
-stands_for_itself : (head : UnitHead) (v : Value) → StandsFor head v v
-stands_for_itself head (value.SectionRef n) = inl refl
-stands_for_itself head v = refl
-
-stand_for_themselves : (head : UnitHead) (vs : List Value) → AllZip (StandsFor head) vs vs
-stand_for_themselves head [] = tt
-stand_for_themselves head (v ∷ vs) = (stands_for_itself head v, stand_for_themselves head vs)
-
-pub held_as_read : (unit : HeadAndForest) (table : Listing) → IsUnitHeld unit.forest.section unit.head (declarations_of table) unit.forest → IsHeldFor unit table
-held_as_read unit table held = record { values = unit.forest.values; taken = stand_for_themselves unit.head unit.forest.values; held = held }
-
--- VALUES
 
 -- a reference within the unit is written in place of one in the section
 abbrev pub IsTakenRef : Value → Value → Type 0

@@ -5,20 +5,14 @@ mod expressions;
 mod items;
 mod laws;
 mod layout;
-#[cfg(test)]
-mod layout_tests;
 mod marks;
 mod measure;
 mod parts;
-#[cfg(test)]
-mod place_tests;
 mod places;
 mod room;
 mod slots;
 mod values;
 mod write;
-#[cfg(test)]
-mod write_tests;
 
 pub use expressions::{NewExpressions, write_expressions};
 pub use laws::{

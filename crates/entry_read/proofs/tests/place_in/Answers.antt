@@ -1,7 +1,0 @@
-use Rattle.entry_read.proofs.ColumnPlaces.{held_by_itself}
-use Rattle.entry_read.proofs.tests.place_in.Goals as goal
-
-pub place_of_value-requires-clause-unit : goal.place_of_value-requires-clause-unit
-place_of_value-requires-clause-unit c =
-    let read = c.in-Ok-read_unit.ensures in
-    held_by_itself _ _ _ c.in-Ok-read_unit.unit read.unit read.head read.section

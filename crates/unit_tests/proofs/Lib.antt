@@ -1,0 +1,3 @@
+pub mod BareUnits
+pub mod HeldUnits
+pub mod WritableUnits
