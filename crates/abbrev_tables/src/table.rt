@@ -3,7 +3,7 @@ ghost use Rattle.std.specs.Prelude.{◌≡◌, ◌≢◌, ◌≤◌, ◌<◌, �
 ghost use Rattle.std.specs.Ordering.{nat_cmp};
 ghost use Rattle.std.specs.BTreeMap.{get};
 ghost use Rattle.abbrev_tables.specs.Faults.{FaultTable};
-ghost use Rattle.abbrev_tables.specs.Listings.{decl_at, declared_in, IsTableAt};
+ghost use Rattle.abbrev_tables.specs.Listings.{decl_at, spec_at, declared_in, IsTableAt};
 ghost use Rattle.abbrev_tables.specs.Index.{IsIndex, HasCode};
 ghost use Rattle.abbrev_tables.specs.inside.Index.{IsAdded, IsReadFrom};
 ghost use Rattle.abbrev_tables.specs.Readings.{IsRefusal};
@@ -212,6 +212,14 @@ impl Table {
         ensures { result.now ≡ (declared_in self.now.specs (decl_at self.now.decls i)).columns }
     {
         columns_of(&self.specs, self.decl(i))
+    }
+
+    /// The column with a number, counted from 0 over all declarations in the order of the table.
+    pub fn spec(&self, i: u32) -> Spec
+        requires { i < length self.now.specs }
+        ensures { result ≡ spec_at self.now.specs i }
+    {
+        self.specs[i as usize]
     }
 
     /// The columns of all declarations, in the order of the table.
