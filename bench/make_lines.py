@@ -56,12 +56,16 @@ def program(rng, size, padding, wide):
     return bytes(out)
 
 
-def unit(rng, size, padding, wide):
+def contribution(body):
+    """A program of these opcodes behind its head."""
     counts = bytes([0, 1, 1, 1, 1, 0, 0, 0, 1, 0, 0, 1])
     entries = bytes(4)
-    body = program(rng, size, padding, wide)
     head = bytes([1, 1, 1, 0xFB, 14, 13]) + counts + entries
     return struct.pack("<IHBBI", 8 + len(head) + len(body), 5, 8, 0, len(head)) + head + body
+
+
+def unit(rng, size, padding, wide):
+    return contribution(program(rng, size, padding, wide))
 
 
 def main():

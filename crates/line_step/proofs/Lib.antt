@@ -1,4 +1,6 @@
 pub mod Parts
+pub mod Reaches
+pub mod Giving
 pub mod Forms
 pub mod Costs
 pub mod Powers

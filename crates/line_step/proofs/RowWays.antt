@@ -72,11 +72,10 @@ line_long base range scale line d part special left bytes limit best is long s n
     omega (arith, low.2, long)
 
 -- where a limit is no more than the line part and the address part
-pub both_long : (base : ℤ) (range scale : ℕ) (line : ℤ) (d part special : ℕ) (left : ℤ) (bytes far limit : ℕ) (address : AddressWay) → IsLinePart (line -ℤ base) range part special left → bytes ≡ advance_line_bytes left → far ≡ address_distance (part * scale) d → IsAddressWay range scale far address → limit ≤ 1 + bytes + address.bytes → (s n : ℕ) → s ≤ 242 → s / range ≡ part → SpecialWithin base range scale line d s n → limit ≤ n
-both_long base range scale line d part special left bytes far limit address best is far_is way long s n few same w =
-    let way' : IsAddressWay range scale (address_distance (part * scale) d) address = subst (λ (x : ℕ). IsAddressWay range scale x address) far_is way in
+pub both_long : (base : ℤ) (range scale : ℕ) (line : ℤ) (d part special : ℕ) (left : ℤ) (bytes far address limit : ℕ) → IsLinePart (line -ℤ base) range part special left → bytes ≡ advance_line_bytes left → far ≡ address_distance (part * scale) d → IsLeastCost (AdvanceWithin range scale far) address → limit ≤ 1 + bytes + address → (s n : ℕ) → s ≤ 242 → s / range ≡ part → SpecialWithin base range scale line d s n → limit ≤ n
+both_long base range scale line d part special left bytes far address limit best is far_is least long s n few same w =
     let low = part_low base range scale line d part special left bytes best is s n few same w in
-    omega (arith, low.2, long, way'.least.least low.0 low.1)
+    omega (arith, low.2, long, least.least low.0 (subst (λ (x : ℕ). AdvanceWithin range scale x low.0) (sym far_is) low.1))
 
 -- the distance before a special opcode, as the program computes it
 pub far_is : (d part scale x y : ℕ) → x ≡ part → y ≡ scale → part ≤ 255 → scale ≤ 255 → (d + (18446744073709551616 - x * y)) % 18446744073709551616 ≡ address_distance (part * scale) d

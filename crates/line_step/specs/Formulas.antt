@@ -28,6 +28,11 @@ pub record IsStepCost (advance : ℕ → ℕ) (base : ℤ) (range scale : ℕ) (
   pub special : (s : ℕ) → s ≤ 242 → n ≤ special_bytes advance base range scale dl d s
   pub taken : (n ≡ 1 + advance_line_bytes dl + advance d) ⊎ ((s : ℕ) × (s ≤ 242) × (n ≡ special_bytes advance base range scale dl d s))
 
+-- n bytes are enough to advance the address before a special opcode that itself advances it by some instructions,
+-- fewer than `parts`
+abbrev pub PartWithin : ℕ → ℕ → ℕ → ℕ → ℕ → Type 0
+PartWithin range scale distance parts n = (part : ℕ) × (part < parts) × AdvanceWithin range scale (address_distance (part * scale) distance) n
+
 -- the costs are these formulas
 pub record CostFormulas : Type 0 where
   pub advance : (range scale d n : ℕ) → IsLeastCost (AdvanceWithin range scale d) n ↔ IsAdvanceCost range scale d n

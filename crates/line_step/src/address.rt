@@ -1,7 +1,9 @@
 // The least bytes that advance an address.
-ghost use Rattle.std.specs.Prelude.{◌≡◌, ◌≢◌, ◌≤◌, ◌<◌, ◌+◌, ◌*◌, ◌/◌, ◌^◌, ℕ, IfSome, IsNone};
+ghost use Rattle.std.specs.Prelude.{◌≡◌, ◌≤◌, ◌<◌, ◌+◌, ◌*◌, ◌/◌, ◌^◌, ℕ, IfSome, IsNone};
 ghost use Rattle.leb_codec.specs.LineCosts.{IsLeastCost, AdvanceWithin, AdvanceForm, advance_pc_bytes};
+ghost use Rattle.line_step.specs.Formulas.{PartWithin};
 ghost use Rattle.line_step.specs.Ways.{IsAddressWay};
+ghost use Rattle.line_step.specs.inside.Reaching.{ReachWithin, ReachFixedWithin};
 ghost use Rattle.line_step.specs.inside.Search.{IsOperandFor, IsBestWith, IsBestBefore};
 
 use crate::way::{AddressOpcodes, AddressWay, Advance};
@@ -146,20 +148,65 @@ pub fn advance_way(range: u8, min: u8, distance: u64) -> AddressWay
     best
 }
 
-// The least bytes of a distance of so few instructions that the operand of advance_pc has one byte.
-fn near_bytes(range: u8, instructions: u64) -> u32
-    requires { 0 < range }
-    ensures none { instructions ≡ 0 → result ≡ 0 }
-    ensures once { instructions ≡ 242 / range → instructions ≢ 0 → result ≡ 1 }
-    ensures short { instructions ≢ 242 / range → instructions ≢ 0 → result ≡ 2 }
+// The least bytes of opcodes that advance the address by a distance or more, where each fixed_advance_pc may have its greatest
+// operand; or those of set_address.
+fn reach_bytes(range: u8, min: u8, distance: u64) -> u32
+    requires range { 0 < range }
+    requires scale { 0 < min }
+    ensures least { IsLeastCost (ReachWithin range min distance) result }
+    ensures few { result ≤ 11 }
 {
-    if instructions == 0 {
-        0
-    } else if instructions == u64::from(LAST_SPECIAL / range) {
-        1
-    } else {
-        2
+    let scale = u64::from(min);
+    let once = u64::from(LAST_SPECIAL / range) * scale;
+    if distance == 0 {
+        return 0;
     }
+    if distance <= once {
+        return 1;
+    }
+    if distance <= (2 * once).max(127 * scale) {
+        return 2;
+    }
+    if distance <= u64::from(FIXED_LIMIT).max(16_383 * scale) {
+        return 3;
+    }
+    // From here on advance_pc alone reaches as far as anything of as many bytes.
+    1 + len_u((distance - 1) / scale + 1)
+}
+
+// The same with one fixed_advance_pc or more.
+fn reach_bytes_with_fixed(range: u8, min: u8, distance: u64) -> u32
+    requires range { 0 < range }
+    requires scale { 0 < min }
+    ensures least { IsLeastCost (ReachFixedWithin range min distance) result }
+    ensures few { result ≤ 11 }
+{
+    let rest = distance.saturating_sub(u64::from(FIXED_LIMIT));
+    SET_ADDRESS.bytes.min(3 + reach_bytes(range, min, rest))
+}
+
+// The least bytes of a distance of whole instructions.
+fn whole_bytes(range: u8, min: u8, distance: u64, instructions: u64) -> u32
+    requires range { 0 < range }
+    requires scale { 0 < min }
+    requires whole { distance ≡ instructions * min }
+    ensures least { IsLeastCost (AdvanceWithin range min distance) result }
+    ensures few { result ≤ 11 }
+{
+    let once = u64::from(LAST_SPECIAL / range);
+    if instructions == 0 {
+        return 0;
+    }
+    if instructions == once {
+        return 1;
+    }
+    if instructions < 128 || instructions == 2 * once {
+        return 2;
+    }
+    if distance <= u64::from(FIXED_LIMIT) {
+        return 3;
+    }
+    1 + len_u(instructions)
 }
 
 /// The least number of bytes that advance the address by a distance `d`, in bytes, modulo 2^64. `range` is line_range and
@@ -171,9 +218,30 @@ pub fn advance(range: u8, min: u8, d: u64) -> u32
     ensures few { result ≤ 11 }
 {
     let scale = u64::from(min);
-    let instructions = d / scale;
-    if d % scale == 0 && instructions < 128 {
-        return near_bytes(range, instructions);
+    if d % scale == 0 {
+        whole_bytes(range, min, d, d / scale)
+    } else {
+        // Of the opcodes other than set_address fixed_advance_pc alone advances by a part of an instruction.
+        reach_bytes_with_fixed(range, min, d)
     }
-    advance_way(range, min, d).bytes
+}
+
+/// The least number of bytes that advance the address by a distance `d` before a special opcode that itself advances it by any
+/// number of instructions below what const_add_pc does (DWARF 5 section 6.2.5). `range` is line_range, at most 242, and `min` is
+/// minimum_instruction_length, neither of them 0.
+pub fn advance_before(range: u8, min: u8, d: u64) -> u32
+    requires range { 0 < range }
+    requires parts { range ≤ 242 }
+    requires scale { 0 < min }
+    ensures least { IsLeastCost (PartWithin range min d (242 / range)) result }
+    ensures few { result ≤ 11 }
+{
+    let scale = u64::from(min);
+    let taken = u64::from(LAST_SPECIAL / range - 1) * scale;
+    let left = d.saturating_sub(taken);
+    if d % scale == 0 {
+        reach_bytes(range, min, left)
+    } else {
+        reach_bytes_with_fixed(range, min, left)
+    }
 }

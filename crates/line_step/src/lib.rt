@@ -10,7 +10,7 @@ mod address;
 mod row;
 mod way;
 
-pub use address::{advance, advance_way};
+pub use address::{advance, advance_before, advance_way};
 pub use row::{step, step_way};
 pub use way::{AddressOpcodes, AddressWay, Advance, RowOpcode, RowWay};
 

@@ -4,7 +4,7 @@ ghost use Rattle.leb_codec.specs.LineCosts.{IsLeastCost, StepWithin, SpecialWith
 ghost use Rattle.line_step.specs.Ways.{IsRowWay};
 ghost use Rattle.line_step.specs.inside.Search.{IsRemainderFor, IsLinePart, IsBestOfPart, IsBestOfParts};
 
-use crate::address::{LAST_SPECIAL, advance_way};
+use crate::address::{LAST_SPECIAL, advance, advance_way};
 use crate::way::{AddressOpcodes, AddressWay, Advance, RowOpcode, RowWay};
 use leb_codec::len_s;
 
@@ -109,20 +109,17 @@ fn special_way(
     if line_bytes >= limit {
         return None;
     }
-    let address = advance_way(
-        range,
-        min,
-        distance.wrapping_sub(u64::from(part) * u64::from(min)),
-    );
-    let bytes = line_bytes + address.bytes;
-    if bytes >= limit {
+    let left = distance.wrapping_sub(u64::from(part) * u64::from(min));
+    // How many bytes the address takes is told without a search for its opcodes.
+    if line_bytes + advance(range, min, left) >= limit {
         return None;
     }
+    let address = advance_way(range, min, left);
     Some(RowWay {
         address,
         line: row.left,
         opcode: RowOpcode::Special(row.special),
-        bytes,
+        bytes: line_bytes + address.bytes,
     })
 }
 

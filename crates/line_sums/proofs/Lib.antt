@@ -1,6 +1,5 @@
 pub mod Bound
 pub mod Counted
-pub mod Farthest
 pub mod Firsts
 pub mod FixedBytes
 pub mod Keeping

@@ -5,10 +5,10 @@ use Rattle.std.proofs.lemmas.Bool.{cases_lt}
 use Rattle.std.proofs.lemmas.Nat.{div-mul-add, mod-mul-add}
 use Rattle.std.proofs.Math.Nat.{div-add-mod, mul-le-mul_right, div-mul-le_self}
 use Rattle.leb_codec.specs.LineCosts.{IsLeastCost, AdvanceWithin, RowWithin, StepWithin, address_distance, advance_line_bytes, line_left}
-use Rattle.line_step.proofs.NearWays.{nowhere}
+use Rattle.line_step.specs.Formulas.{PartWithin}
 use Rattle.line_step.proofs.RowWays.{div_rises, opcode_is}
 use Rattle.line_sums.specs.declared.window.Windows.{Windows}
-use Rattle.line_sums.specs.inside.Windows.{PartWithin, BeforeSpecial, IsReached, AreWindows, IsLineCost}
+use Rattle.line_sums.specs.inside.Windows.{BeforeSpecial, IsReached, AreWindows, IsLineCost}
 
 -- the special opcode of a part and a remainder is reached with what the part takes
 reached : (range scale d part r bytes : ℕ) → r < range → part * range + r ≤ 242 → AdvanceWithin range scale (address_distance (part * scale) d) bytes → (s : ℕ) × (s ≤ 242) × (s % range ≡ r) × BeforeSpecial range scale d s bytes
@@ -82,42 +82,6 @@ last_windows range scale d w some none last_is last same =
             | inr p ↦ inr (omega (arith, last_is, p.0), last.least n p.1)
           ];
       one = λ h. sym same;
-    }
-
--- the best of a part more
-pub part_more : (range scale d parts least next : ℕ) → IsLeastCost (PartWithin range scale d parts) least → IsLeastCost (AdvanceWithin range scale (address_distance (parts * scale) d)) next → IsLeastCost (PartWithin range scale d (parts + 1)) (min least next)
-part_more range scale d parts least next before one = record {
-  enough = elim (cases_lt next least) [
-    | inl less ↦ let e : min least next ≡ next = omega arith in rw e (parts, omega arith, one.enough)
-    | inr more ↦ let e : min least next ≡ least = omega arith in rw e (before.enough.0, omega (arith, before.enough.1), before.enough.2)
-  ];
-  least = λ n within.
-      elim (cases_lt within.0 parts) [
-        | inl less ↦ let low = before.least n (within.0, less, within.2) in omega arith
-        | inr last ↦
-            let same : within.0 ≡ parts = omega (arith, within.1) in
-            let low = one.least n (subst (λ (x : ℕ). AdvanceWithin range scale (address_distance (x * scale) d) n) same within.2) in
-            omega arith
-      ];
-}
-
-pub part_one : (range scale d bytes : ℕ) → IsLeastCost (AdvanceWithin range scale (address_distance (0 * scale) d)) bytes → IsLeastCost (PartWithin range scale d 1) bytes
-part_one range scale d bytes one = record {
-  enough = (0, omega arith, one.enough);
-  least = λ n within.
-      let same : within.0 ≡ 0 = omega (arith, within.1) in
-      one.least n (subst (λ (x : ℕ). AdvanceWithin range scale (address_distance (x * scale) d) n) same within.2);
-}
-
--- a part that takes the address all the way
-pub part_whole : (range scale d parts s p : ℕ) → 0 < scale → scale ≤ 255 → d < 2 ^ 64 → s ≡ scale → p ≡ parts → d % s ≡ 0 → d / s < p → IsLeastCost (PartWithin range scale d parts) 0
-part_whole range scale d parts s p some small fits is parts_is rest less =
-    let part = d / s in
-    let whole : part * scale ≡ d = ap (λ v. part * v) (sym is) ∙ omega (arith, div-add-mod d s, rest) in
-    let none : address_distance (part * scale) d ≡ 0 = omega (arith, whole, fits) in
-    record {
-      enough = (part, omega (arith, parts_is, less), nowhere range scale (address_distance (part * scale) d) none);
-      least = λ n within. omega arith;
     }
 
 -- the least of the bytes by copy and by both kinds of special opcodes

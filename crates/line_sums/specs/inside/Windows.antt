@@ -1,17 +1,12 @@
 -- The special opcodes of a row and its line distance, for runs of line_base. Private functions alone cite this. `scale` is
 -- minimum_instruction_length.
-use Rattle.std.specs.Prelude.{◌≡◌, ◌≤◌, ◌<◌, ◌+◌, ◌-◌, ◌*◌, ◌/◌, ◌%◌, ◌^◌, ◌⊎◌, ℕ, ℤ, pos, ◌-ℤ◌, ◌≤ℤ◌, ◌<ℤ◌, IsTrue}
+use Rattle.std.specs.Prelude.{◌≡◌, ◌≤◌, ◌<◌, ◌+◌, ◌*◌, ◌%◌, ◌⊎◌, ℕ, ℤ, pos, ◌-ℤ◌, ◌≤ℤ◌, ◌<ℤ◌, IsTrue}
 use Rattle.leb_codec.specs.Leb.{least_signed_len}
 use Rattle.leb_codec.specs.LineCosts.{IsLeastCost, AdvanceWithin, RowWithin, StepWithin, last_special, special_advance, address_distance, advance_line_bytes}
 use Rattle.line_sums.specs.declared.line_run.LineRun.{LineRun}
 use Rattle.line_sums.specs.declared.sums.StepRun.{StepRun}
 use Rattle.line_sums.specs.declared.window.Windows.{Windows}
 use Rattle.line_sums.specs.Sums.{base_at}
-
--- n bytes are enough to advance the address before a special opcode that itself advances it by some instructions,
--- fewer than `parts`
-abbrev pub PartWithin : ℕ → ℕ → ℕ → ℕ → ℕ → Type 0
-PartWithin range scale distance parts n = (part : ℕ) × (part < parts) × AdvanceWithin range scale (address_distance (part * scale) distance) n
 
 -- n bytes are enough to advance the address before special opcode s
 abbrev pub BeforeSpecial : ℕ → ℕ → ℕ → ℕ → ℕ → Type 0
@@ -49,11 +44,6 @@ pub record IsLeastOfLen (len : ℕ) (value : ℤ) : Type 0 where
   pub some : pos 0 <ℤ value
   pub from : (z : ℤ) → pos 0 <ℤ z → value ≤ℤ z → len ≤ least_signed_len z
   pub to : (z : ℤ) → pos 0 <ℤ z → len ≤ least_signed_len z → value ≤ℤ z
-
--- How far opcodes of so many bytes advance the address at most, those of set_address left out: as if each of the three kinds that do
--- had all of the bytes. `reach` is how far const_add_pc does.
-unfoldable pub farthest : ℕ → ℕ → ℕ → ℕ
-farthest reach scale bytes = bytes * reach + 65535 * (bytes / 3) + (128 ^ (bytes - 1) - 1) * scale
 
 -- the second number is the first and what a counted step costs under the line_base of a place
 pub record AddsRun (line : ℤ) (copy : ℕ) (w : Windows) (count place old new : ℕ) : Type 0 where

@@ -1,7 +1,7 @@
-use Rattle.std.proofs.Common.{refl}
-use Rattle.line_step.proofs.NearWays.{near_bytes_least}
+use Rattle.std.proofs.Common.{arith}
+use Rattle.line_step.proofs.Giving.{odd_least}
 use Rattle.line_step.proofs.address.advance.Goals as goal
 
-pub returns-then-instructions-lt128-clause-least : goal.returns-then-instructions-lt128-clause-least
-returns-then-instructions-lt128-clause-least c =
-    near_bytes_least c.args.range c.args.min c.args.d c.from-scale.result _ c.near_bytes.result c.requires.scale c.from-scale.ensures refl c.if-d-scale-eq0.true c.if-instructions-lt128.true c.near_bytes.ensures.none c.near_bytes.ensures.once c.near_bytes.ensures.short
+pub returns-else-d-scale-eq0-clause-least : goal.returns-else-d-scale-eq0-clause-least
+returns-else-d-scale-eq0-clause-least c =
+    odd_least c.args.range c.args.min c.args.d c.from-scale.result c.reach_bytes_with_fixed.result c.requires.scale (omega arith) c.from-scale.ensures (λ e. omega (arith, e)) c.reach_bytes_with_fixed.ensures.least
