@@ -10,7 +10,7 @@ use Rattle.list_model.specs.declared.item.Meaning.TheVariants.{Live, Dead}
 use Rattle.list_arena.specs.declared.lists.EntryRow.{EntryRow}
 use Rattle.list_arena.specs.declared.lists.ItemRow.{ItemRow}
 use Rattle.list_arena.specs.declared.lists.ListRow.{ListRow}
-use Rattle.list_arena.specs.Held.{HeldList}
+use Rattle.list_arena.specs.Held.{HeldList, items_of}
 use Rattle.list_arena.specs.inside.Words.{word_held, IsWord, GrowsTo}
 use Rattle.list_arena.specs.inside.Rows.{begin_of}
 use Rattle.list_arena.specs.inside.Lists.{entry_held, IsEntryRow, item_held, IsItemRow, owner_held, meaning_held, list_held, lists_from, AreRowsFrom, entries_held, items_held, lists_held, AreHeldWell, entry_ends, item_ends, IsMeant, IsRowOf, IsOneMore}
@@ -194,6 +194,76 @@ entry_at long rows entries items lists k well same inside d i within e r =
     ap (λ (l : HeldList). get_or l.raw i e) (list_at long rows entries items lists k row same inside is d)
     ∙ range_at (entries_held long entries) first row.entries i e fits
     ∙ get_or-map (entry_held long) entries (first + i) r e (omega (arith, here.all_entries))
+
+-- ITEMS
+
+no_items : (frozen : Bool) (items : List Item) → frozen ≡ true → length (items_of (meaning_held frozen items)) ≡ 0
+unfolding meaning_held items_of
+no_items true items is = refl
+no_items false items is = absurd (cc)
+
+live_items : (frozen : Bool) (items : List Item) → frozen ≡ false → items_of (meaning_held frozen items) ≡ items
+unfolding meaning_held items_of
+live_items true items is = absurd (cc)
+live_items false items is = refl
+
+-- one that has an item isn't frozen
+is_live : (frozen : Bool) (items : List Item) (i : ℕ) → i < length (items_of (meaning_held frozen items)) → frozen ≡ false
+unfolding meaning_held items_of
+is_live true items i inside = absurd (omega arith)
+is_live false items i inside = refl
+
+-- how many items a list has, if it is frozen or not
+pub frozen_counted : (long : List ℕ) (rows : List ListRow) (entries : List EntryRow) (items : List ItemRow) (lists : List HeldList) (k : ℕ) (row : ListRow) → lists_held long rows entries items ≡ lists → k < length lists → row ≡ get_or rows k row → row.frozen ≡ true → (d : HeldList) → length (items_of (get_or lists k d).meaning) ≡ 0
+unfolding list_held
+frozen_counted long rows entries items lists k row same inside is frozen d =
+    ap (λ (l : HeldList). length (items_of l.meaning)) (list_at long rows entries items lists k row same inside is d)
+    ∙ no_items row.frozen (slice_range (items_held long items) (begin_of 0 (item_ends rows) k) row.items) frozen
+
+-- the items of one that isn't
+items_among : (long : List ℕ) (rows : List ListRow) (entries : List EntryRow) (items : List ItemRow) (lists : List HeldList) (k : ℕ) (row : ListRow) → lists_held long rows entries items ≡ lists → k < length lists → row ≡ get_or rows k row → row.frozen ≡ false → (d : HeldList) → items_of (get_or lists k d).meaning ≡ slice_range (items_held long items) (begin_of 0 (item_ends rows) k) row.items
+unfolding list_held
+items_among long rows entries items lists k row same inside is live d =
+    ap (λ (l : HeldList). items_of l.meaning) (list_at long rows entries items lists k row same inside is d)
+    ∙ live_items row.frozen (slice_range (items_held long items) (begin_of 0 (item_ends rows) k) row.items) live
+
+pub live_counted : (long : List ℕ) (rows : List ListRow) (entries : List EntryRow) (items : List ItemRow) (lists : List HeldList) (k : ℕ) (row : ListRow) → AreHeldWell long rows entries items → lists_held long rows entries items ≡ lists → k < length lists → row ≡ get_or rows k row → row.frozen ≡ false → (d : HeldList) → length (items_of (get_or lists k d).meaning) ≡ row.items - begin_of 0 (item_ends rows) k
+live_counted long rows entries items lists k row well same inside is live d =
+    let here = row_at long rows entries items lists k row well same inside is in
+    let order : begin_of 0 (item_ends rows) k ≤ row.items = here.items in
+    let within : row.items ≤ length (items_held long items) = omega (arith, here.all_items, length-map items (item_held long)) in
+    ap (λ (is : List Item). length is) (items_among long rows entries items lists k row same inside is live d)
+    ∙ range_length (items_held long items) (begin_of 0 (item_ends rows) k) row.items order within
+
+-- a list with an item has a row that isn't frozen
+live_row : (long : List ℕ) (rows : List ListRow) (entries : List EntryRow) (items : List ItemRow) (lists : List HeldList) (k : ℕ) (row : ListRow) → lists_held long rows entries items ≡ lists → k < length lists → row ≡ get_or rows k row → (d : HeldList) (i : ℕ) → i < length (items_of (get_or lists k d).meaning) → row.frozen ≡ false
+unfolding list_held
+live_row long rows entries items lists k row same inside is d i within =
+    is_live row.frozen (slice_range (items_held long items) (begin_of 0 (item_ends rows) k) row.items) i
+    (subst (λ (l : HeldList). i < length (items_of l.meaning)) (list_at long rows entries items lists k row same inside is d) within)
+
+-- the row of an item of a list
+pub item_inside : (long : List ℕ) (rows : List ListRow) (entries : List EntryRow) (items : List ItemRow) (lists : List HeldList) (k : ℕ) → AreHeldWell long rows entries items → lists_held long rows entries items ≡ lists → k < length lists → (i : ℕ) → ((d : HeldList) → i < length (items_of (get_or lists k d).meaning)) → begin_of 0 (item_ends rows) k + i < length items
+item_inside long rows entries items lists k well same inside i within =
+    let (row, is) = some_row long rows entries items lists k same inside in
+    let here = row_at long rows entries items lists k row well same inside is in
+    let any : HeldList = list_held long row [] [] in
+    let some : i < length (items_of (get_or lists k any).meaning) = within any in
+    let live = live_row long rows entries items lists k row same inside is any i some in
+    let count = live_counted long rows entries items lists k row well same inside is live any in
+    omega (arith, some, here.all_items, here.items, count)
+
+pub item_at : (long : List ℕ) (rows : List ListRow) (entries : List EntryRow) (items : List ItemRow) (lists : List HeldList) (k : ℕ) → AreHeldWell long rows entries items → lists_held long rows entries items ≡ lists → k < length lists → (d : HeldList) (i : ℕ) → i < length (items_of (get_or lists k d).meaning) → (e : Item) (r : ItemRow) → get_or (items_of (get_or lists k d).meaning) i e ≡ item_held long (get_or items (begin_of 0 (item_ends rows) k + i) r)
+item_at long rows entries items lists k well same inside d i within e r =
+    let (row, is) = some_row long rows entries items lists k same inside in
+    let here = row_at long rows entries items lists k row well same inside is in
+    let first = begin_of 0 (item_ends rows) k in
+    let live = live_row long rows entries items lists k row same inside is d i within in
+    let count : length (items_of (get_or lists k d).meaning) ≡ row.items - first = live_counted long rows entries items lists k row well same inside is live d in
+    let fits : i < row.items - first = omega (arith, within, count) in
+    ap (λ (is : List Item). get_or is i e) (items_among long rows entries items lists k row same inside is live d)
+    ∙ range_at (items_held long items) first row.items i e fits
+    ∙ get_or-map (item_held long) items (first + i) r e (omega (arith, here.all_items, fits))
 
 -- ONE MORE
 

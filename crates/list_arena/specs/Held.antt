@@ -1,8 +1,10 @@
 -- Lists and view pairs as they are held, as callers see them (DWARF 5 sections 2.6.2, 2.17.3 and 7.7.3). Places count from the first byte
 -- of the section of lists.
-use Rattle.std.specs.Prelude.{◌≡◌, ◌≢◌, ◌<◌, ◌⊎◌, ℕ, List, length, slice_index_or, Option, Some, None}
+use Rattle.std.specs.Prelude.{◌≡◌, ◌≢◌, ◌<◌, ◌⊎◌, ℕ, List, [], length, slice_index_or, Option, Some, None}
 use Rattle.list_model.specs.declared.entry.RawEntry.{RawEntry}
+use Rattle.list_model.specs.declared.item.Item.{Item}
 use Rattle.list_model.specs.declared.item.Meaning.{Meaning}
+use Rattle.list_model.specs.declared.item.Meaning.TheVariants.{Live, Dead}
 use Rattle.loc_lists.specs.declared.views.ViewPair.{ViewPair}
 
 -- where a list begins, the number of its contribution, that of the first unit of which an entry names it, its entries before the end,
@@ -13,6 +15,11 @@ pub record HeldList : Type 0 where
   pub owner : Option ℕ
   pub raw : List RawEntry
   pub meaning : Meaning
+
+-- the items of a list that means this; one that is kept by its entries has none
+unfoldable pub items_of : Meaning → List Item
+items_of (Live items) = items
+items_of Dead = []
 
 -- where the list begins with which view pairs go, where the first of them stands, and the pairs
 pub record HeldViews : Type 0 where

@@ -2,8 +2,9 @@
 ghost use Rattle.std.specs.Prelude.{◌≡◌, ◌≤◌, ◌<◌, ◌++◌, ◌∷◌, [], length, take, slice_index_or, slice_range, IfOk, OnOk, OnErr, ◌↔◌, IsTrue};
 ghost use Rattle.std.specs.List.{All};
 ghost use Rattle.list_model.specs.declared.entry.RawEntry.{RawEntry as AnyEntry};
+ghost use Rattle.list_model.specs.declared.item.Item.{Item as AnyItem};
 ghost use Rattle.list_model.specs.declared.item.Meaning.TheVariants.{Dead};
-ghost use Rattle.list_arena.specs.Held.{HeldList, AreListsApart, IsListFound};
+ghost use Rattle.list_arena.specs.Held.{HeldList, items_of, AreListsApart, IsListFound};
 ghost use Rattle.list_arena.specs.inside.Words.{GrowsTo};
 ghost use Rattle.list_arena.specs.inside.Rows.{begin_of};
 ghost use Rattle.list_arena.specs.inside.Lists.{entry_held, IsEntryRow, entries_held, item_held, IsItemRow, items_held, owner_held, meaning_held, IsMeant, IsRowOf, entry_ends, item_ends, lists_held, AreHeldWell, IsOneMore};
@@ -452,6 +453,28 @@ impl Lists {
             &self.long,
             &self.entries[begin(&self.rows, number).0 + index],
         )
+    }
+
+    /// How many items the list with a number, counted from 0, has: those that its entries give in the context of its owner, and none
+    /// where it is frozen. It takes no memory.
+    pub fn item_count(&self, number: usize) -> usize
+        requires { number < length self.now }
+        ensures { (d : HeldList) → result ≡ length (items_of (slice_index_or self.now number d).meaning) }
+    {
+        let row = self.rows[number];
+        if row.frozen {
+            return 0;
+        }
+        row.items as usize - begin(&self.rows, number).1
+    }
+
+    /// The item with an index of the list with a number, which isn't frozen then. Both count from 0. It takes no memory.
+    pub fn item(&self, number: usize, index: usize) -> Item
+        requires number { number < length self.now }
+        requires index { (d : HeldList) → index < length (items_of (slice_index_or self.now number d).meaning) }
+        ensures { (d : HeldList) (other : AnyItem) → result ≡ slice_index_or (items_of (slice_index_or self.now number d).meaning) index other }
+    {
+        item_of(&self.long, &self.items[begin(&self.rows, number).1 + index])
     }
 
     /// The number, counted from 0, of the list that begins at a place, which counts from the first byte of the section, or None where none
