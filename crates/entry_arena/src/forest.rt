@@ -323,6 +323,14 @@ impl<'a> Forest<'a> {
         &self.ends
     }
 
+    /// The values of all entries, in the order of their numbers.
+    pub fn values(&self) -> &Values
+        ensures values { result.now ≡ self.now.values }
+        ensures order { IsInOrder self.now }
+    {
+        &self.values
+    }
+
     // From which number on and up to which an entry is looked for that begins at a place.
     fn near(&self, offset: u64) -> (usize, usize) {
         let first = match self.entries.first() {

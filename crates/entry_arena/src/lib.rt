@@ -14,3 +14,4 @@ pub use laws::{
     steps_in_order, steps_whole, trees_are_walks, walks_go_on, walks_in_order, walks_stay,
 };
 pub use operations::{OpRange, Operations};
+pub use values::{Values, ValuesIter};

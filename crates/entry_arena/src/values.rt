@@ -1,5 +1,6 @@
 // Values, as they are held.
-ghost use Rattle.std.specs.Prelude.{◌≡◌, ◌≢◌, ◌<◌, ◌++◌, ◌∷◌, [], List, length, IfSome, OnOk, OnErr};
+ghost use Rattle.std.specs.Prelude.{◌≡◌, ◌≢◌, ◌≤◌, ◌<◌, ◌++◌, ◌∷◌, ◌↔◌, [], List, length, IfSome, IsTrue, MatchOption, OnOk, OnErr};
+ghost use Rattle.std.specs.Iterator.{YieldsFirst, item_count};
 ghost use Rattle.form_codec.specs.declared.value.Value.{Value as AnyValue};
 ghost use Rattle.entry_arena.specs.declared.values.Kind.TheVariants.{Other as OtherKind};
 ghost use Rattle.entry_arena.specs.Arena.{value_at};
@@ -35,10 +36,11 @@ enum Kind {
 // All values of a file are held at once.
 const _: () = prove!(size_of::<Kind>() == 1);
 
-/// Values of attributes (DWARF 5 section 7.5.5), one after the other. One whose number fits 32 bits takes 5 bytes, and another,
-/// such as an expression or a text, 29. Contracts see them as a list.
+/// The values of the attributes of a unit's entries (DWARF 5 section 7.5.5), in preorder and in each entry in the order of its
+/// columns. One whose number fits 32 bits takes 5 bytes, and another, such as an expression or a text, 29. So none can be lent as it
+/// is held: they are given by their numbers, which count from 0, or one after the other. Contracts see them as a list.
 #[derive(Drop)]
-pub(crate) struct Values {
+pub struct Values {
     kinds: Vec<Kind>,
     numbers: Vec<u32>,
     others: Vec<Value>,
@@ -113,7 +115,7 @@ fn widened(others: &[Value], kind: Kind, number: u32) -> Value
 
 impl Values {
     /// No values.
-    pub fn new(alloc: Global) -> Values
+    pub(crate) fn new(alloc: Global) -> Values
         ensures { result ≡ [] }
     {
         Values {
@@ -129,6 +131,13 @@ impl Values {
         ensures { result ≡ length self.now }
     {
         self.kinds.len()
+    }
+
+    /// Whether there are no values.
+    pub fn is_empty(&self) -> bool
+        ensures { IsTrue result ↔ (length self.now ≡ 0) }
+    {
+        self.len() == 0
     }
 
     // Appends a value that is of a kind with a number.
@@ -164,7 +173,7 @@ impl Values {
 
     /// Appends a value. The only error is want of memory, which also answers a value past the first 2^32 that are held whole; it
     /// changes nothing.
-    pub fn push(&mut self, value: &Value) -> Result<(), NoMemory>
+    pub(crate) fn push(&mut self, value: &Value) -> Result<(), NoMemory>
         ensures pushed { OnOk result (self.new ≡ self.old ++ value.now ∷ []) }
         ensures unchanged { OnErr result (self.new ≡ self.old) }
     {
@@ -183,12 +192,94 @@ impl Values {
         widened(&self.others, self.kinds[number], self.numbers[number])
     }
 
+    /// The value with a number, counted from 0, or None exactly where there are no more values than that.
+    #[inline(always)]
+    pub fn get(&self, number: usize) -> Option<Value>
+        ensures { MatchOption result (length self.now ≤ number) (λ value. (number < length self.now) × (value ≡ value_at self.now number)) }
+    {
+        if number < self.len() {
+            Some(self.value(number))
+        } else {
+            None
+        }
+    }
+
+    /// All values, one after the other in the order of their numbers. It takes no memory.
+    pub fn iter(&self) -> ValuesIter<'_>
+        ensures { result ≡ self.now }
+    {
+        ValuesIter {
+            values: self,
+            next: 0,
+        }
+    }
+
     /// Gives the memory back that is held for values that weren't pushed.
-    pub fn shrink_to_fit(&mut self)
+    pub(crate) fn shrink_to_fit(&mut self)
         ensures { self.new ≡ self.old }
     {
         self.kinds.shrink_to_fit();
         self.numbers.shrink_to_fit();
         self.others.shrink_to_fit();
+    }
+}
+
+/// Values one after the other, in the order of their numbers. Contracts see the list of those that are left.
+#[derive(Drop)]
+pub struct ValuesIter<'v> {
+    values: &'v Values,
+    // The number of the next one.
+    next: usize,
+}
+
+impl<'v> Model for ValuesIter<'v> {
+    ghost use Rattle.std.specs.Prelude.{◌≤◌, List, length, drop};
+    ghost use Rattle.form_codec.specs.declared.value.Value.{Value as AnyValue};
+
+    ghost Value = { List AnyValue };
+
+    ghost view = { λ i. drop i.next i.values.now };
+
+    ghost invariant = { λ i. i.next ≤ length i.values.now };
+}
+
+impl<'v> Iterator for ValuesIter<'v> {
+    type Item = Value;
+
+    ghost next_gives = { YieldsFirst (λ rest. rest) };
+
+    ghost remaining = { item_count (λ rest. rest) };
+
+    #[inline(always)]
+    fn next(&mut self) -> Option<Value> {
+        let number = self.next;
+        if number == self.values.len() {
+            return None;
+        }
+        self.next = number + 1;
+        Some(self.values.value(number))
+    }
+
+    fn size_hint(&self) -> (usize, Option<usize>) {
+        let left = self.len();
+        (left, Some(left))
+    }
+}
+
+impl<'v> ExactSizeIterator for ValuesIter<'v> {
+    fn len(&self) -> usize {
+        self.values.len() - self.next
+    }
+}
+
+impl<'v> IntoIterator for &'v Values {
+    type Item = Value;
+
+    type IntoIter = ValuesIter<'v>;
+
+    ghost into_iter_gives = { λ values iter. iter ≡ values.now };
+
+    fn into_iter(self) -> ValuesIter<'v> {
+        self.iter()
     }
 }
