@@ -1,8 +1,6 @@
 //! Lists and view pairs of a file as they are held, all at once (DWARF 5 sections 2.6.2, 2.17.3 and 7.7.3).
 #![tactic(auto)]
 
-#[cfg(test)]
-mod calls_tests;
 mod lists;
 mod read;
 mod views;

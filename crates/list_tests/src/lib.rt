@@ -6,6 +6,8 @@ mod check_lists_tests;
 #[cfg(test)]
 mod companions_tests;
 #[cfg(test)]
+mod list_arena_items_tests;
+#[cfg(test)]
 mod list_arena_tests;
 #[cfg(test)]
 mod list_least_tests;

@@ -4,6 +4,8 @@
 #[cfg(test)]
 mod abbrev_numbering_tests;
 #[cfg(test)]
+mod abbrev_tables_columns_tests;
+#[cfg(test)]
 mod abbrev_tables_tests;
 #[cfg(test)]
 mod check_units_tests;
