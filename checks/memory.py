@@ -130,14 +130,14 @@ def shrinking(place):
     place.refuse_each("shrink", b"")
     least = sample("LEAST_CLANG_INFO_WITH_LISTS", "LEAST_CLANG_ABBREVS_WITH_LISTS", "LEAST_CLANG_LOCATIONS")
     wanted(place.read("out") == least, "OUT is another file")
-    wanted(place.read("cert") == constant("check_tests.rt", "CERTIFICATE"), "CERT is another file")
+    wanted(place.read("cert") == constant("sample_tests.rt", "CLANG_CERTIFICATE"), "CERT is another file")
 
 
 @test
 def checking(place):
     """check ends with 6 where memory is refused from some request on, and for each alone so or as ever"""
     place.write("out", sample("LEAST_CLANG_INFO_WITH_LISTS", "LEAST_CLANG_ABBREVS_WITH_LISTS", "LEAST_CLANG_LOCATIONS"))
-    place.write("cert", constant("check_tests.rt", "CERTIFICATE"))
+    place.write("cert", constant("sample_tests.rt", "CLANG_CERTIFICATE"))
     place.refuse_each("check", b"accepted\n")
 
 

@@ -1,5 +1,6 @@
 // Line number programs, by hand.
-use crate::test_files::{is_certified, is_unwritten, is_written, shrunk};
+use crate::check_tests::is_checked;
+use crate::test_files::{is_certified, is_unwritten, is_written, shrunk, with_bytes};
 use std::alloc::{AllocError, Global};
 use std::test::Fail;
 
@@ -68,6 +69,13 @@ fn least_programs(rt: HostRuntime) -> Result<(), Fail> {
         let answer = shrunk(alloc, &[(".debug_line", section)])?;
         is_written(&rt, alloc, &answer, &[(".debug_line", least)])?;
     }
+    // Under a minimum_instruction_length of 4 no other opcode advances by 4,098.
+    let mut odd = with_bytes(alloc, &NO_ROWS, &[(0, 0x2d), (12, 4)])?;
+    odd.extend_from_slice(&[0, 9, 2, 2, 0x10, 0, 0, 0, 0, 0, 0, 1, 0, 1, 1])?;
+    let mut least = with_bytes(alloc, &NO_ROWS, &[(0, 0x25), (12, 4)])?;
+    least.extend_from_slice(&[9, 2, 0x10, 1, 0, 1, 1])?;
+    let answer = shrunk(alloc, &[(".debug_line", &odd)])?;
+    is_written(&rt, alloc, &answer, &[(".debug_line", &least)])?;
     // Of the one without rows: a run of all 65,280 pairs, with the number 0.
     let answer = shrunk(alloc, &[(".debug_line", &NO_ROWS)])?;
     is_certified(&rt, alloc, &answer, &[1, 0x80, 0xfe, 3, 0])
@@ -90,7 +98,11 @@ fn a_program_of_many_rows(rt: HostRuntime) -> Result<(), Fail> {
     let alloc = rt.alloc();
     let many = many_rows(alloc)?;
     let answer = shrunk(alloc, &[(".debug_line", &many)])?;
-    is_written(&rt, alloc, &answer, &[(".debug_line", &many)])
+    is_written(&rt, alloc, &answer, &[(".debug_line", &many)])?;
+    // one different step, which has to be counted under each of the 65,280 pairs
+    is_certified(&rt, alloc, &answer, &[1, 0x80, 0xfe, 3, 1])?;
+    let files: [&[u8]; 3] = [&answer.output, &answer.output, &answer.certificate];
+    is_checked(&rt, alloc, files, &[], 0, "accepted\n")
 }
 
 #[test]

@@ -1,6 +1,7 @@
 // Files that are drawn from a number, and what is done with them. The numbers of their entries and rows, and the bytes of their
 // units, are those of a plain program.
-use crate::test_files::{Answer, BEFORE, CERTIFICATE_BEFORE, MAGIC, answer_to, is_unwritten};
+use crate::check_tests::is_checked;
+use crate::test_files::{Answer, BEFORE, CERTIFICATE_BEFORE, answer_to, is_unwritten};
 use std::alloc::Global;
 use std::process::Abort;
 use std::test::Fail;
@@ -17,6 +18,16 @@ fn drawn(rt: &impl Abort, alloc: Global, number: &str, units: &str) -> Result<Ve
     Ok(answer.output)
 }
 
+// The answer to `shrink a b c`.
+fn shrunk_file(alloc: Global, file: &[u8]) -> Result<Answer, Fail> {
+    answer_to(
+        alloc,
+        &["shrink", "a", "b", "c"],
+        Some(file.to_vec(alloc)?),
+        &[],
+    )
+}
+
 // What is said of a file.
 fn summary(alloc: Global, file: &Vec<u8>) -> Result<Answer, Fail> {
     answer_to(
@@ -28,16 +39,25 @@ fn summary(alloc: Global, file: &Vec<u8>) -> Result<Answer, Fail> {
 }
 
 #[test]
-fn a_file_is_drawn_and_shrunk(rt: HostRuntime) -> Result<(), Fail> {
+fn files_are_drawn_and_shrunk(rt: HostRuntime) -> Result<(), Fail> {
     let alloc = rt.alloc();
-    let file = drawn(&rt, alloc, "7", "2")?;
-    let again = drawn(&rt, alloc, "7", "2")?;
-    assert_eq!(rt; file.len(), 3232);
-    assert_eq!(rt; file.as_slice(), again.as_slice());
-    let answer = answer_to(alloc, &["shrink", "a", "b", "c"], Some(file), &[])?;
-    assert_eq!(rt; answer.status, 0);
-    assert_eq!(rt; answer.output.len() < 3232, true);
-    assert_eq!(rt; answer.certificate.as_slice().starts_with(&MAGIC), true);
+    for (number, units, size) in [("7", "2", 3232), ("1", "8", 8256)] {
+        let file = drawn(&rt, alloc, number, units)?;
+        let again = drawn(&rt, alloc, number, units)?;
+        assert_eq!(rt; file.len(), size);
+        assert_eq!(rt; file.as_slice(), again.as_slice());
+        let answer = shrunk_file(alloc, &file)?;
+        assert_eq!(rt; answer.status, 0);
+        assert_eq!(rt; answer.output.len() < size, true);
+        let second = shrunk_file(alloc, &file)?;
+        assert_eq!(rt; second.output.as_slice(), answer.output.as_slice());
+        assert_eq!(rt;
+            second.certificate.as_slice(),
+            answer.certificate.as_slice()
+        );
+        let files: [&[u8]; 3] = [&file, &answer.output, &answer.certificate];
+        is_checked(&rt, alloc, files, &[], 0, "accepted\n")?;
+    }
     Ok(())
 }
 
@@ -51,7 +71,12 @@ fn a_drawn_file_is_summed_up(rt: HostRuntime) -> Result<(), Fail> {
     assert_eq!(rt; first.said.as_slice(), second.said.as_slice());
     let said = str::from_utf8(first.said.as_slice()).ok().ok_or("bytes")?;
     assert_eq!(rt; said.starts_with("{\"abbrev\":[78,"), true);
-    assert_eq!(rt; said.contains("],\"entries\":44,\"info\":[906,"), true);
+    let (_, sizes) = said
+        .split_once("],\"entries\":44,\"info\":[906,")
+        .ok_or("info")?;
+    let (new, _) = sizes.split_once(']').ok_or("a size")?;
+    let new: u64 = new.parse().ok().ok_or("a number")?;
+    assert_eq!(rt; new < 906, true);
     assert_eq!(rt; said.ends_with("],\"rows\":279,\"units\":4}\n"), true);
     Ok(())
 }

@@ -11,8 +11,8 @@ fn unit(alloc: Global, place: u8, entries: &[u8]) -> Result<Vec<u8>, AllocError>
     Ok(bytes)
 }
 
-// Units by tables at places, one after the other.
-fn units(alloc: Global, rows: &[(u8, &[u8])]) -> Result<Vec<u8>, AllocError> {
+/// Units by tables at places, one after the other.
+pub fn units(alloc: Global, rows: &[(u8, &[u8])]) -> Result<Vec<u8>, AllocError> {
     let mut bytes = Vec::new(alloc);
     for (place, entries) in rows {
         bytes.extend_from_slice(&unit(alloc, *place, entries)?)?;

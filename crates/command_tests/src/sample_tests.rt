@@ -1,27 +1,27 @@
 // Two compiled files, in the manner of gcc and of clang. What their sections become was worked out by hand, byte for byte. A reference
 // within a unit becomes DW_FORM_ref_udata (DWARF 5 section 7.5.5), with one byte where its number is below 128.
 use crate::line_tests::{LEAST_SAMPLE, NO_ROWS, SAMPLE};
-use crate::test_files::{Answer, is_certified, is_unwritten, is_written, shrunk};
+use crate::test_files::{Answer, is_unwritten, is_written, shrunk};
 use std::alloc::Global;
 use std::test::Fail;
 
 // In the manner of gcc, as it is compiled: a function `f` with a parameter `x`, whose places are in a location list with view
 // numbers.
-pub const GCC_INFO: [u8; 101] = [
+const GCC_INFO: [u8; 101] = [
     0x61, 0, 0, 0, 5, 0, 1, 8, 0, 0, 0, 0, 1, 0, 0, 0, 0, 0x1d, 0, 0, 0, 0, 4, 0, 0, 0, 0, 0x10,
     0x40, 0, 0, 0, 0, 0, 0x10, 0, 0, 0, 0, 0, 0, 0, 0, 0, 0, 0, 2, 0x66, 0, 1, 0x5d, 0, 0, 0, 0,
     0x10, 0x40, 0, 0, 0, 0, 0, 0x10, 0, 0, 0, 0, 0, 0, 0, 1, 0x9c, 0x5d, 0, 0, 0, 3, 0x78, 0, 1,
     0x5d, 0, 0, 0, 0x10, 0, 0, 0, 0x0c, 0, 0, 0, 0, 4, 4, 5, 0x69, 0x6e, 0x74, 0, 0,
 ];
 
-pub const GCC_ABBREVS: [u8; 71] = [
+const GCC_ABBREVS: [u8; 71] = [
     1, 0x11, 1, 0x25, 0x0e, 0x13, 0x0b, 3, 0x1f, 0x1b, 0x1f, 0x11, 1, 0x12, 7, 0x10, 0x17, 0, 0, 2,
     0x2e, 1, 0x3f, 0x19, 3, 8, 0x3a, 0x21, 1, 0x3b, 0x0b, 0x49, 0x13, 0x11, 1, 0x12, 7, 0x40, 0x18,
     1, 0x13, 0, 0, 3, 5, 0, 3, 8, 0x3b, 0x0b, 0x49, 0x13, 2, 0x17, 0xb7, 0x42, 0x17, 0, 0, 4, 0x24,
     0, 0x0b, 0x0b, 0x3e, 0x0b, 3, 8, 0, 0, 0,
 ];
 
-pub const GCC_LOCATIONS: [u8; 30] = [
+const GCC_LOCATIONS: [u8; 30] = [
     0x1a, 0, 0, 0, 5, 0, 8, 0, 0, 0, 0, 0, 0, 1, 1, 0, 4, 0, 4, 1, 0x55, 4, 4, 0x10, 4, 0xa3, 1,
     0x55, 0x9f, 0,
 ];
@@ -40,7 +40,7 @@ pub const CLANG_ABBREVS: [u8; 76] = [
     0x0b, 0x3b, 0x0b, 0x49, 0x13, 0, 0, 4, 0x24, 0, 3, 0x25, 0x3e, 0x0b, 0x0b, 0x0b, 0, 0, 0,
 ];
 
-pub const CLANG_RANGES: [u8; 23] = [
+const CLANG_RANGES: [u8; 23] = [
     0x13, 0, 0, 0, 5, 0, 8, 0, 1, 0, 0, 0, 4, 0, 0, 0, 3, 0, 0x10, 3, 1, 8, 0,
 ];
 
@@ -49,7 +49,7 @@ pub const CLANG_LOCATIONS: [u8; 32] = [
     1, 0x55, 0x9f, 0,
 ];
 
-pub const CLANG_ADDRESSES: [u8; 24] = [
+const CLANG_ADDRESSES: [u8; 24] = [
     0x14, 0, 0, 0, 5, 0, 8, 0, 0, 0x10, 0x40, 0, 0, 0, 0, 0, 0, 0x20, 0x40, 0, 0, 0, 0, 0,
 ];
 
@@ -98,22 +98,32 @@ fn gcc_answer<'a>(alloc: Global, info: &'a [u8], locations: &'a [u8]) -> Result<
     shrunk(alloc, &sections)
 }
 
+/// The sections of the file in the manner of gcc,
+pub const GCC: [(&str, &[u8]); 4] = [
+    (".debug_info", &GCC_INFO),
+    (".debug_abbrev", &GCC_ABBREVS),
+    (".debug_line", &SAMPLE),
+    (".debug_loclists", &GCC_LOCATIONS),
+];
+
+/// and what becomes of them.
+pub const LEAST_GCC: [(&str, &[u8]); 4] = [
+    (".debug_info", &LEAST_GCC_INFO_WITH_LISTS),
+    (".debug_abbrev", &LEAST_GCC_ABBREVS_WITH_LISTS),
+    (".debug_line", &LEAST_SAMPLE),
+    (".debug_loclists", &GCC_LOCATIONS),
+];
+
 #[test]
 fn view_pairs_stand_before_their_list(rt: HostRuntime) -> Result<(), Fail> {
-    let new: [(&str, &[u8]); 4] = [
-        (".debug_info", &LEAST_GCC_INFO_WITH_LISTS),
-        (".debug_abbrev", &LEAST_GCC_ABBREVS_WITH_LISTS),
-        (".debug_line", &LEAST_SAMPLE),
-        (".debug_loclists", &GCC_LOCATIONS),
-    ];
     let answer = gcc_answer(rt.alloc(), &GCC_INFO, &GCC_LOCATIONS)?;
-    is_written(&rt, rt.alloc(), &answer, &new)?;
+    is_written(&rt, rt.alloc(), &answer, &LEAST_GCC)?;
     // behind the record of the line number program: the potentials 16 and 13 of the list, and no rank of the unit
     let last = [2, 2, 0x10, 0x0d, 3, 0];
     assert_eq!(rt; answer.certificate.as_slice().ends_with(&last), true);
     let behind = gcc_info(12, 26);
     let answer = gcc_answer(rt.alloc(), &behind, &GCC_PAIRS_BEHIND)?;
-    is_written(&rt, rt.alloc(), &answer, &new)
+    is_written(&rt, rt.alloc(), &answer, &LEAST_GCC)
 }
 
 // The sections stand from 64 on: .debug_info at 64, .debug_abbrev at 64 + 101, .debug_line at 165 + 71, and .debug_loclists, which has 30
@@ -157,29 +167,42 @@ pub const LEAST_CLANG_LOCATIONS: [u8; 32] = [
     1, 0x55, 0x9f, 0,
 ];
 
+/// The sections of the file in the manner of clang,
+pub const CLANG: [(&str, &[u8]); 6] = [
+    (".debug_info", &CLANG_INFO),
+    (".debug_abbrev", &CLANG_ABBREVS),
+    (".debug_line", &NO_ROWS),
+    (".debug_rnglists", &CLANG_RANGES),
+    (".debug_loclists", &CLANG_LOCATIONS),
+    (".debug_addr", &CLANG_ADDRESSES),
+];
+
+/// what becomes of them,
+pub const LEAST_CLANG: [(&str, &[u8]); 6] = [
+    (".debug_info", &LEAST_CLANG_INFO_WITH_LISTS),
+    (".debug_abbrev", &LEAST_CLANG_ABBREVS_WITH_LISTS),
+    (".debug_line", &NO_ROWS),
+    (".debug_rnglists", &CLANG_RANGES),
+    (".debug_loclists", &LEAST_CLANG_LOCATIONS),
+    (".debug_addr", &CLANG_ADDRESSES),
+];
+
+/// what is said of what that wins,
+pub const CLANG_SUMMARY: &str =
+    "{\"abbrev\":[76,76],\"entries\":4,\"info\":[77,67],\"line\":[34,34],\"loclists\":[32,32],\"rnglists\":[23,23],\"rows\":0,\"units\":1}\n";
+
+/// and the certificate: the program without rows, the range list, the location list and the unit.
+pub const CLANG_CERTIFICATE: [u8; 23] = [
+    0x44, 0x57, 0x4d, 0x49, 0x4e, 0x30, 0x31, 0x0a, 1, 0x80, 0xfe, 3, 0, 2, 2, 9, 6, 2, 2, 9, 6, 3,
+    0,
+];
+
 #[test]
 fn lists_in_the_manner_of_clang(rt: HostRuntime) -> Result<(), Fail> {
-    let old: [(&str, &[u8]); 6] = [
-        (".debug_info", &CLANG_INFO),
-        (".debug_abbrev", &CLANG_ABBREVS),
-        (".debug_line", &NO_ROWS),
-        (".debug_rnglists", &CLANG_RANGES),
-        (".debug_loclists", &CLANG_LOCATIONS),
-        (".debug_addr", &CLANG_ADDRESSES),
-    ];
-    let new: [(&str, &[u8]); 6] = [
-        (".debug_info", &LEAST_CLANG_INFO_WITH_LISTS),
-        (".debug_abbrev", &LEAST_CLANG_ABBREVS_WITH_LISTS),
-        (".debug_line", &NO_ROWS),
-        (".debug_rnglists", &CLANG_RANGES),
-        (".debug_loclists", &LEAST_CLANG_LOCATIONS),
-        (".debug_addr", &CLANG_ADDRESSES),
-    ];
-    let answer = shrunk(rt.alloc(), &old)?;
-    is_written(&rt, rt.alloc(), &answer, &new)?;
-    // the program without rows, the range list, the location list and the unit
-    let records = [1, 0x80, 0xfe, 3, 0, 2, 2, 9, 6, 2, 2, 9, 6, 3, 0];
-    is_certified(&rt, rt.alloc(), &answer, &records)
+    let answer = shrunk(rt.alloc(), &CLANG)?;
+    is_written(&rt, rt.alloc(), &answer, &LEAST_CLANG)?;
+    assert_eq!(rt; answer.certificate.as_slice(), CLANG_CERTIFICATE.as_slice());
+    Ok(())
 }
 
 // The first location has DW_OP_lit0 and DW_OP_convert to the base type, which stands at 0x48, in place of DW_OP_reg5.

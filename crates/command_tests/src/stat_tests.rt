@@ -1,9 +1,5 @@
 // What the program says that writing a file anew would win.
-use crate::line_tests::{NO_ROWS, SAMPLE};
-use crate::sample_tests::{
-    CLANG_ABBREVS, CLANG_ADDRESSES, CLANG_INFO, CLANG_LOCATIONS, CLANG_RANGES, GCC_ABBREVS,
-    GCC_INFO, GCC_LOCATIONS,
-};
+use crate::sample_tests::{CLANG, CLANG_SUMMARY, GCC};
 use crate::test_files::{Answer, answer_to, elf_file, is_unwritten};
 use crate::unit_tests::{FOUR_BYTES, table_with, unit};
 use std::alloc::Global;
@@ -18,26 +14,10 @@ fn told(alloc: Global, sections: &[(&str, &[u8])], failing: &[u64]) -> Result<An
 #[test]
 fn compiled_files(rt: HostRuntime) -> Result<(), Fail> {
     let alloc = rt.alloc();
-    let gcc: [(&str, &[u8]); 4] = [
-        (".debug_info", &GCC_INFO),
-        (".debug_abbrev", &GCC_ABBREVS),
-        (".debug_line", &SAMPLE),
-        (".debug_loclists", &GCC_LOCATIONS),
-    ];
     let said =
         "{\"abbrev\":[71,71],\"entries\":4,\"info\":[101,78],\"line\":[76,69],\"loclists\":[30,30],\"rnglists\":[0,0],\"rows\":3,\"units\":1}\n";
-    is_unwritten(&rt, &told(alloc, &gcc, &[])?, 0, said);
-    let clang: [(&str, &[u8]); 6] = [
-        (".debug_info", &CLANG_INFO),
-        (".debug_abbrev", &CLANG_ABBREVS),
-        (".debug_line", &NO_ROWS),
-        (".debug_rnglists", &CLANG_RANGES),
-        (".debug_loclists", &CLANG_LOCATIONS),
-        (".debug_addr", &CLANG_ADDRESSES),
-    ];
-    let said =
-        "{\"abbrev\":[76,76],\"entries\":4,\"info\":[77,67],\"line\":[34,34],\"loclists\":[32,32],\"rnglists\":[23,23],\"rows\":0,\"units\":1}\n";
-    is_unwritten(&rt, &told(alloc, &clang, &[])?, 0, said);
+    is_unwritten(&rt, &told(alloc, &GCC, &[])?, 0, said);
+    is_unwritten(&rt, &told(alloc, &CLANG, &[])?, 0, CLANG_SUMMARY);
     Ok(())
 }
 

@@ -61,6 +61,35 @@ pub fn elf_file(alloc: Global, sections: &[(&str, &[u8])]) -> Result<Vec<u8>, Al
     Ok(file)
 }
 
+/// Bytes with others at some places.
+pub fn with_bytes(
+    alloc: Global,
+    bytes: &[u8],
+    changes: &[(usize, u8)],
+) -> Result<Vec<u8>, AllocError> {
+    let mut changed = bytes.to_vec(alloc)?;
+    for (at, byte) in changes {
+        if let Some(old) = changed.get_mut(*at) {
+            *old = *byte;
+        }
+    }
+    Ok(changed)
+}
+
+/// Sections of which the one with a number has another body.
+pub fn with_section<'a>(
+    alloc: Global,
+    sections: &[(&'a str, &'a [u8])],
+    number: usize,
+    body: &'a [u8],
+) -> Result<Vec<(&'a str, &'a [u8])>, AllocError> {
+    let mut changed = sections.to_vec(alloc)?;
+    if let Some(section) = changed.get_mut(number) {
+        section.1 = body;
+    }
+    Ok(changed)
+}
+
 /// Words of a command.
 pub fn words_of(alloc: Global, words: &[&str]) -> Result<Vec<String>, AllocError> {
     let mut all = Vec::new(alloc);
@@ -160,6 +189,18 @@ pub fn is_certified(
 pub fn is_unwritten(rt: &impl Abort, answer: &Answer, status: u8, said: &str) {
     assert_eq!(rt; answer.status, status, "{said}");
     assert_eq!(rt; answer.said.as_slice(), said.as_bytes());
+    assert_eq!(rt; answer.output.as_slice(), BEFORE.as_slice());
+    assert_eq!(rt;
+        answer.certificate.as_slice(),
+        CERTIFICATE_BEFORE.as_slice()
+    );
+}
+
+/// Stops where the program didn't refuse the file with words that begin so, or wrote a file.
+pub fn is_refused(rt: &impl Abort, answer: &Answer, front: &str) {
+    let said = answer.said.as_slice();
+    assert_eq!(rt; said.starts_with(front.as_bytes()), true, "{front}");
+    assert_eq!(rt; answer.status, 3, "{front}");
     assert_eq!(rt; answer.output.as_slice(), BEFORE.as_slice());
     assert_eq!(rt;
         answer.certificate.as_slice(),
