@@ -1,6 +1,6 @@
 -- The special opcodes of a row and its line distance, for runs of line_base. Private functions alone cite this. `scale` is
 -- minimum_instruction_length.
-use Rattle.std.specs.Prelude.{◌≡◌, ◌≤◌, ◌<◌, ◌+◌, ◌*◌, ◌%◌, ◌⊎◌, ℕ, ℤ, pos, ◌-ℤ◌, ◌≤ℤ◌, ◌<ℤ◌, IsTrue}
+use Rattle.std.specs.Prelude.{◌≡◌, ◌≤◌, ◌+◌, ◌*◌, ◌%◌, ◌⊎◌, ℕ, ℤ, pos, ◌-ℤ◌, ◌≤ℤ◌, ◌<ℤ◌, IsTrue}
 use Rattle.leb_codec.specs.Leb.{least_signed_len}
 use Rattle.leb_codec.specs.LineCosts.{IsLeastCost, AdvanceWithin, RowWithin, StepWithin, last_special, special_advance, address_distance, advance_line_bytes}
 use Rattle.line_sums.specs.declared.line_run.LineRun.{LineRun}
