@@ -1,6 +1,6 @@
 // Items one by one.
 use dw_base::Span;
-use list_arena::{ListRead, ListRead, Lists, Lists};
+use list_arena::{ListRead, Lists};
 use list_model::{Item, Items, Meaning};
 use std::process::Abort;
 use std::test::Fail;
