@@ -4,6 +4,7 @@ ghost use Rattle.list_model.specs.declared.entry.ListKind.TheVariants.{Ranges};
 ghost use Rattle.list_least.specs.Plans.{bounds_of, IsItemOf, item_at};
 
 use crate::samples::{ADDR, context_with, range};
+use dw_base::Span;
 use list_least::{AddressMap, Pick, base_cost, item_cost, least};
 use list_model::{Item, ListKind};
 use std::alloc::Global;
@@ -31,7 +32,12 @@ fn items_of(alloc: Global, ranges: &[(u64, u64)]) -> Result<Vec<Item>, Fail>
 {
     let mut items = Vec::new(alloc);
     for (start, end) in ranges {
-        items.push(range(*start, *end))?;
+        items.push(Item {
+            start: *start,
+            end: *end,
+            whole: false,
+            expr: Span { at: 0, len: 0 },
+        })?;
     }
     Ok(items)
 }
