@@ -3,7 +3,7 @@ ghost use Rattle.std.specs.Prelude.{◌≡◌, ◌≤◌, ◌<◌, ℕ, length, 
 ghost use Rattle.list_model.specs.declared.entry.ListKind.TheVariants.{Ranges};
 ghost use Rattle.list_least.specs.Plans.{bounds_of, IsItemOf, item_at};
 
-use crate::samples::{ADDR, context_with, range};
+use crate::samples::{ADDR, context_with};
 use dw_base::Span;
 use list_least::{AddressMap, Pick, base_cost, item_cost, least};
 use list_model::{Item, ListKind};
@@ -108,7 +108,12 @@ fn costs_are_least(rt: HostRuntime) -> Result<(), Fail> {
     // The address 0x401000 has the index 0.
     assert_eq!(rt; base_cost(0x401000, &context, &ADDR), 2);
     assert_eq!(rt; base_cost(0x401001, &context, &ADDR), 9);
-    let item = range(0x401000, 0x401004);
+    let item = Item {
+        start: 0x401000,
+        end: 0x401004,
+        whole: false,
+        expr: Span { at: 0, len: 0 },
+    };
     assert_eq!(rt; item_cost(ListKind::Ranges, &item, 0, &context, &ADDR), 3);
     let bare = context_with(&ADDR, false);
     assert_eq!(rt; item_cost(ListKind::Ranges, &item, 0, &bare, &ADDR), 9);
