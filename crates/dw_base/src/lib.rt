@@ -8,6 +8,8 @@ mod host;
 mod mem_host;
 mod quiet_host;
 mod record;
+#[cfg(test)]
+mod tests;
 
 pub use fault::{Fault, Kind, NoMemory, Reach, Refusal, Span};
 pub use files::NamedFile;

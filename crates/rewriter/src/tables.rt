@@ -20,6 +20,9 @@ use entry_arena::trees_are_walks;
 use std::alloc::Global;
 use value_links::World;
 
+#[cfg(test)]
+mod tests;
+
 /// How an abbreviation table is written anew.
 #[derive(Drop)]
 pub struct NewTable {

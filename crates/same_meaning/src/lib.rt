@@ -19,6 +19,8 @@ mod parts;
 mod programs;
 mod reason;
 mod same_lists;
+#[cfg(test)]
+mod tests;
 mod units;
 mod values;
 

@@ -12,6 +12,8 @@ mod lines;
 mod lists;
 mod make;
 mod numbers;
+#[cfg(test)]
+mod tests;
 mod units;
 
 pub use make::sample;

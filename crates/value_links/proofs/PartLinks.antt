@@ -1,7 +1,10 @@
 -- Contributions and slots that are found in what is held are what values refer to.
 use Rattle.std.proofs.Common.{◌≡◌, ◌≤◌, ◌<◌, ◌^◌, ◌∙◌, ℕ, List, length, get_or, sym, ap, subst, refl, arith}
-use Rattle.std.specs.Prelude.{Option, Some, None, MatchOption}
+use Rattle.std.specs.Prelude.{Option, Some, None, IfSome, MatchOption}
+use Rattle.std.specs.List.{All}
+use Rattle.std.proofs.lemmas.List.Elements.{All-from_get_or}
 use Rattle.form_codec.specs.Forms.{Meaning}
+use Rattle.entry_read.specs.Units.{declarations_of}
 use Rattle.list_model.specs.declared.contribution.Contribution.{Contribution}
 use Rattle.list_model.specs.declared.entry.ListKind.{ListKind}
 use Rattle.list_model.specs.declared.entry.ListKind.TheVariants.{Ranges, Locations}
@@ -9,15 +12,17 @@ use Rattle.list_model.specs.Contributions.{ContributionsTile}
 use Rattle.value_links.specs.declared.link.Link.TheVariants.{List as AtList, Slot, Base}
 use Rattle.value_links.specs.declared.list_places.Contributions.{Contributions}
 use Rattle.value_links.specs.declared.parts.Parts.{Parts}
+use Rattle.value_links.specs.declared.units.Units.{Units}
 use Rattle.value_links.specs.Reading.{ListSection, Linkable, unit_at, of_kind, part_at}
 use Rattle.value_links.specs.Values.{root_of, IsFirstBase}
 use Rattle.value_links.specs.ListPlaces.{IsListPlace, IsOffsetsAt, IsBaseOf, base_of}
 use Rattle.value_links.specs.Linked.{IndexLinks, OffsetLinks}
 use Rattle.value_links.specs.Linked.Linked.{ListAt, SlotAt, BaseOf}
-use Rattle.value_links.specs.Links.{IsFoundFor}
+use Rattle.value_links.specs.Links.{IsFoundFor, held_at}
 use Rattle.value_links.specs.Parts.{section_held, IsBaseFound, HoldsParts, HoldsLists, lists_in, bases_in}
+use Rattle.value_links.specs.inside.Checks.{table_held, root_attributes}
 use Rattle.value_links.specs.inside.Links.{base_class}
-use Rattle.value_links.specs.inside.ListPlaces.{AreContributions, IsPartFound}
+use Rattle.value_links.specs.inside.ListPlaces.{AreContributions, IsPartFound, AreBasesHeld}
 use Rattle.value_links.specs.inside.Namings.{class_of}
 use Rattle.value_links.proofs.Bases.{one_base}
 use Rattle.value_links.proofs.LinkedValues.{parts_count}
@@ -28,6 +33,15 @@ use Rattle.value_links.proofs.NamingPlaces.{base_inside, part_is}
 pub part_found : (section : ListSection) (attributes : List (ℕ × Meaning)) (name base : ℕ) (found : Option ℕ) → IsFirstBase attributes name base → MatchOption found ((p : ℕ) → ¬ IsOffsetsAt section base p) (IsOffsetsAt section base) → IsPartFound section attributes name found
 part_found section attributes name base (Some p) first at = (base, first, at)
 part_found section attributes name base None first none = λ p (n, is, at). none p (subst (λ (z : ℕ). IsOffsetsAt section z p) (one_base attributes name n base is first) at)
+
+-- the contributions that roots name are among those of the section
+pub bases_inside : (section : ListSection) (name : ℕ) (held : Units) (bases : List (Option ℕ)) → AreBasesHeld section name held bases → All (λ (base : Option ℕ). IfSome base (λ p. p < length section.parts)) bases
+bases_inside section name held bases are =
+    All-from_get_or (λ (base : Option ℕ). IfSome base (λ p. p < length section.parts)) bases None (λ u known. one (root_attributes (held_at held.units.items u).forest (declarations_of (table_held held u))) (get_or bases u None) (are.each u (subst (λ (z : ℕ). u < z) are.count known)))
+  where
+    one : (attributes : List (ℕ × Meaning)) (found : Option ℕ) → IsPartFound section attributes name found → IfSome found (λ p. p < length section.parts)
+    one attributes (Some p) names = names.2.0
+    one attributes None none = tt
 
 -- WHAT VALUES REFER TO
 

@@ -3,9 +3,13 @@
 #![tactic(auto)]
 
 mod check;
+#[cfg(test)]
+mod context_tests;
 mod contexts;
 mod laws;
 mod link;
+#[cfg(test)]
+mod link_tests;
 mod list_bases;
 mod list_expressions;
 mod list_places;
@@ -18,9 +22,13 @@ mod parts;
 mod roots;
 mod sections;
 mod tables;
+#[cfg(test)]
+mod tests;
 mod units;
 mod views;
 mod world;
+#[cfg(test)]
+mod world_tests;
 
 pub use check::check_links;
 pub use laws::{

@@ -1,16 +1,27 @@
 // What values refer to, by hand, and values that refer to nothing.
-ghost use Rattle.std.specs.Prelude.{◌<◌, length};
+ghost use Rattle.std.specs.Prelude.{◌≡◌, ◌<◌, ◌^◌, length, IfOk};
+ghost use Rattle.dw_base.specs.declared.fault.Reach.TheVariants.{Wide};
+ghost use Rattle.value_links.specs.declared.link_tests.TheConstants.{TABLE};
+ghost use Rattle.value_links.specs.Parts.{AreUnitsHeld, HoldsLists};
+ghost use Rattle.value_links.specs.World.{HaveOperations};
+ghost use Rattle.value_links.specs.inside.Checks.{AreSomeUnits, IsNoExpr};
+ghost use Rattle.value_links.specs.inside.ListPlaces.{AreContributions};
 
-use crate::elf_files::file_of;
-use dw_base::{Fault, Kind, Reach, Refusal, Span};
-use entry_arena::Target;
+use crate::contexts::contexts_of;
+use crate::list_bases::bases_of;
+use crate::operations::read_operations;
+use crate::{
+    Contributions, Link, OpLink, Parts, Units, check_links, read_units, resolve, resolve_op,
+};
+use dw_base::{Fault, Kind, Reach, Span};
+use entry_arena::{Operations, Target};
 use expr_ops::Op;
 use form_codec::{Value, Whole};
-use list_model::ListKind;
+use line_machine::Head;
+use list_model::{ListKind, addr_tables, contributions};
 use std::alloc::Global;
 use std::process::Abort;
 use std::test::Fail;
-use value_links::{Link, OpLink, World};
 
 // Where .debug_info stands in the file.
 const ORIGIN: u64 = 64;
@@ -37,11 +48,11 @@ const UNITS: [u8; 56] = [
     0, 0, 1, 3, 12, 0, 0, 0, 0, 0x0e, 0, 0, 0, 5, 0, 1, 8, 0, 0, 0, 0, 9, 12, 0, 0, 0, 0,
 ];
 
-// Units whose roots have view pairs at 17: with a location list at 16; and with the first slot of the base 12. The root of the third
-// has no location list.
-const VIEWED: [u8; 57] = [
+// Units whose roots have view pairs at 17: with a location list at 16; with the first slot of the base 12; and with no location list.
+const VIEWED: [u8; 60] = [
     0x11, 0, 0, 0, 5, 0, 1, 8, 0, 0, 0, 0, 14, 16, 0, 0, 0, 17, 0, 0, 0, 0x12, 0, 0, 0, 5, 0, 1, 8,
-    0, 0, 0, 0, 16, 12, 0, 0, 0, 0, 17, 0, 0, 0, 10, 0, 0, 0, 5, 0, 1, 8, 0, 0, 0, 0, 1, 0,
+    0, 0, 0, 0, 16, 12, 0, 0, 0, 0, 17, 0, 0, 0, 0x0d, 0, 0, 0, 5, 0, 1, 8, 0, 0, 0, 0, 15, 17, 0,
+    0, 0,
 ];
 
 // Contributions at 0 and 17: one slot at 12 and a list at 16, and a list at 29.
@@ -57,32 +68,90 @@ const LOCATIONS: [u8; 31] = [
 // An address table of one address, which stands at 8.
 const ADDRESSES: [u8; 16] = [12, 0, 0, 0, 5, 0, 8, 0, 0, 0x10, 0, 0, 0, 0, 0, 0];
 
-// Line number programs at 0 and at 30, which end a sequence each.
-const PROGRAMS: [u8; 60] = [
-    26, 0, 0, 0, 5, 0, 8, 0, 15, 0, 0, 0, 1, 1, 1, 0, 1, 10, 0, 1, 1, 1, 1, 0, 0, 0, 1, 0, 1, 1,
-    26, 0, 0, 0, 5, 0, 8, 0, 15, 0, 0, 0, 1, 1, 1, 0, 1, 10, 0, 1, 1, 1, 1, 0, 0, 0, 1, 0, 1, 1,
-];
-
-// The file with these bytes of .debug_info.
-fn file_with(alloc: Global, info: &[u8]) -> Result<Vec<u8>, Fail> {
-    let sections: [(&[u8], &[u8]); 6] = [
-        (b".debug_info", info),
-        (b".debug_abbrev", &TABLE),
-        (b".debug_line", &PROGRAMS),
-        (b".debug_addr", &ADDRESSES),
-        (b".debug_rnglists", &RANGES),
-        (b".debug_loclists", &LOCATIONS),
-    ];
-    file_of(alloc, &sections)
+fn program(at: u64) -> Head {
+    Head {
+        at,
+        len: 30,
+        min: 1,
+        stmt: true,
+        base: 0,
+        range: 1,
+        opcode_base: 13,
+        tables: Span { at: 27, len: 0 },
+        program: Span { at: 27, len: 3 },
+    }
 }
 
-// What is read of a file.
-fn read<'a>(alloc: Global, file: &'a [u8]) -> Result<World<'a>, Fail> {
-    Ok(
-        World::read(alloc, file, Reach::Narrow)
-            .ok()
-            .ok_or("refused")?,
-    )
+// Line number programs at 0 and at 30.
+fn programs(alloc: Global) -> Result<Vec<Head>, Fail> {
+    let mut heads = Vec::new(alloc);
+    heads.push(program(0)).ok().ok_or("no memory")?;
+    heads.push(program(30)).ok().ok_or("no memory")?;
+    Ok(heads)
+}
+
+// The contributions to a section, at most two.
+fn contributions_to(alloc: Global, section: &[u8]) -> Result<Contributions<'_>, Fail>
+    ensures { IfOk result AreContributions }
+{
+    let parts = contributions(alloc, section, 0).ok().ok_or("refused")?;
+    if parts.len() > 2 {
+        Err("more contributions")?;
+    }
+    Ok(Contributions { section, parts })
+}
+
+// The operations of the expressions of units.
+fn operations_of(alloc: Global, units: &Units<'_>, info: &[u8]) -> Result<Vec<Operations>, Fail>
+    requires held { AreUnitsHeld info.now TABLE units.now }
+    requires room { length info.now < 2 ^ 32 }
+    ensures count { IfOk result (λ held. length held.items ≡ length units.now.units.items) }
+    ensures each { IfOk result (λ held. HaveOperations Wide units.now.units.items held.items) }
+{
+    match read_operations(alloc, units, info, ORIGIN, Reach::Wide) {
+        Ok(held) => Ok(held),
+        Err(_) => Err("no expression")?,
+    }
+}
+
+// The parts of a file with these bytes of .debug_info.
+fn read<'a>(alloc: Global, info: &'a [u8]) -> Result<Parts<'a>, Fail>
+    requires { length info.now < 2 ^ 32 }
+    ensures lists { IfOk result HoldsLists }
+    ensures units { IfOk result (λ parts. AreUnitsHeld info.entry.now TABLE parts.units) }
+    ensures operations { IfOk result (λ parts. HaveOperations Wide parts.units.units.items parts.operations.items) }
+{
+    let units = read_units(alloc, info, &TABLE, ORIGIN, 1000)
+        .ok()
+        .ok_or("refused")?;
+    let tables = addr_tables(alloc, &ADDRESSES, 0)
+        .ok()
+        .ok_or("no memory")?
+        .tables;
+    let contexts = contexts_of(alloc, &ADDRESSES, &tables, &units)
+        .ok()
+        .ok_or("no memory")?;
+    let ranges = contributions_to(alloc, &RANGES)?;
+    let locations = contributions_to(alloc, &LOCATIONS)?;
+    let range_bases = bases_of(alloc, ListKind::Ranges, &ranges, &units)
+        .ok()
+        .ok_or("no memory")?;
+    let location_bases = bases_of(alloc, ListKind::Locations, &locations, &units)
+        .ok()
+        .ok_or("no memory")?;
+    let operations = operations_of(alloc, &units, info)?;
+    Ok(Parts {
+        programs: programs(alloc)?,
+        units,
+        contexts,
+        addr: &ADDRESSES,
+        tables,
+        ranges,
+        locations,
+        operations,
+        range_bases,
+        location_bases,
+    })
 }
 
 // An entry of a unit, both by their numbers.
@@ -106,22 +175,24 @@ fn base(part: u32) -> Link {
 }
 
 // What a value of the root of the unit with a number refers to, where there is such a unit. No value is an expression.
-fn link_of(world: &World<'_>, unit: u32, name: u64, value: &Value) -> Result<Option<Link>, Fail> {
+fn link_of(parts: &Parts<'_>, unit: u32, name: u64, value: &Value) -> Result<Option<Link>, Fail>
+    requires lists { HoldsLists parts.now }
+    requires held { AreSomeUnits parts.now.units }
+{
     if let Value::Expr(_) = *value {
         Err("an expression")?;
     }
-    let units = world.units();
-    if (unit as usize) < units.len() && units[unit as usize].forest().len() > 0 {
-        Ok(world.resolve(unit, 0, name, value))
+    if (unit as usize) < parts.units.units.len() {
+        Ok(resolve(parts, unit, 0, name, value))
     } else {
         Err("fewer units")?
     }
 }
 
 // What an operation of the unit with a number names, where there is such a unit.
-fn op_link_of(world: &World<'_>, unit: u32, op: &Op) -> Result<Option<OpLink>, Fail> {
-    if (unit as usize) < world.units().len() {
-        Ok(world.resolve_op(unit, op))
+fn op_link_of(parts: &Parts<'_>, unit: u32, op: &Op) -> Result<Option<OpLink>, Fail> {
+    if (unit as usize) < parts.units.units.len() {
+        Ok(resolve_op(parts, unit, op))
     } else {
         Err("fewer units")?
     }
@@ -143,8 +214,8 @@ fn op(code: u8, a: u64) -> Op {
 // The unit and the name of a value, the value, and what it refers to.
 #[test]
 fn links_of_values(rt: HostRuntime) -> Result<(), Fail> {
-    let file = file_with(rt.alloc(), &UNITS)?;
-    let world = read(rt.alloc(), &file)?;
+    let alloc = rt.alloc();
+    let parts = read(alloc, &UNITS)?;
     let chain_end = Link::Place(0, Target::ChainEnd(0));
     let rows = [
         (1, 0x49, Value::LocalRef(13), Some(entry(1, 1))),
@@ -164,7 +235,7 @@ fn links_of_values(rt: HostRuntime) -> Result<(), Fail> {
         (0, 0x0b, Value::Int(Whole::unsigned(12)), Some(Link::Plain)),
     ];
     for (unit, name, value, link) in rows.iter() {
-        assert_eq!(rt; link_of(&world, *unit, *name, value)?, *link);
+        assert_eq!(rt; link_of(&parts, *unit, *name, value)?, *link);
     }
     Ok(())
 }
@@ -172,8 +243,8 @@ fn links_of_values(rt: HostRuntime) -> Result<(), Fail> {
 // The same of values that name lists.
 #[test]
 fn links_to_lists(rt: HostRuntime) -> Result<(), Fail> {
-    let file = file_with(rt.alloc(), &UNITS)?;
-    let world = read(rt.alloc(), &file)?;
+    let alloc = rt.alloc();
+    let parts = read(alloc, &UNITS)?;
     let rows = [
         (0, 0x55, Value::Offset(16), Some(list(16))),
         (0, 0x2c, Value::Offset(29), Some(list(29))),
@@ -203,7 +274,7 @@ fn links_to_lists(rt: HostRuntime) -> Result<(), Fail> {
         (2, 0x02, Value::LocIndex(0), None),
     ];
     for (unit, name, value, link) in rows.iter() {
-        assert_eq!(rt; link_of(&world, *unit, *name, value)?, *link);
+        assert_eq!(rt; link_of(&parts, *unit, *name, value)?, *link);
     }
     Ok(())
 }
@@ -211,8 +282,8 @@ fn links_to_lists(rt: HostRuntime) -> Result<(), Fail> {
 // The unit in whose root view pairs are named, their place, and what they go with.
 #[test]
 fn links_to_views(rt: HostRuntime) -> Result<(), Fail> {
-    let file = file_with(rt.alloc(), &VIEWED)?;
-    let world = read(rt.alloc(), &file)?;
+    let alloc = rt.alloc();
+    let parts = read(alloc, &VIEWED)?;
     let rows = [
         (0, 16, Some(Link::Views(16, 16))),
         (0, 17, Some(Link::Views(16, 17))),
@@ -228,7 +299,7 @@ fn links_to_views(rt: HostRuntime) -> Result<(), Fail> {
     ];
     for (unit, place, link) in rows.iter() {
         assert_eq!(rt;
-            link_of(&world, *unit, 0x2137, &Value::Offset(*place))?,
+            link_of(&parts, *unit, 0x2137, &Value::Offset(*place))?,
             *link
         );
     }
@@ -238,8 +309,8 @@ fn links_to_views(rt: HostRuntime) -> Result<(), Fail> {
 // The unit, the opcode and the reference of an operation, and what it names.
 #[test]
 fn links_of_operations(rt: HostRuntime) -> Result<(), Fail> {
-    let file = file_with(rt.alloc(), &UNITS)?;
-    let world = read(rt.alloc(), &file)?;
+    let alloc = rt.alloc();
+    let parts = read(alloc, &UNITS)?;
     let rows = [
         // DW_OP_lit0 has no reference
         (0, 0x30, 12, Some(OpLink::Plain)),
@@ -266,27 +337,29 @@ fn links_of_operations(rt: HostRuntime) -> Result<(), Fail> {
         (2, 0xfa, 13, None),
     ];
     for (unit, code, a, link) in rows.iter() {
-        assert_eq!(rt; op_link_of(&world, *unit, &op(*code, *a))?, *link);
+        assert_eq!(rt; op_link_of(&parts, *unit, &op(*code, *a))?, *link);
     }
     Ok(())
 }
 
 // The fault of the values of units, or none.
-fn fault_of(alloc: Global, info: &[u8]) -> Result<Option<Fault>, Fail> {
-    let file = file_with(alloc, info)?;
-    match World::read(alloc, &file, Reach::Narrow) {
-        Ok(_) => Ok(None),
-        Err(Refusal::Refused(fault)) => Ok(Some(fault)),
-        Err(Refusal::NoMemory) => Err("no memory")?,
-    }
+fn fault_of(alloc: Global, info: &[u8]) -> Result<Option<Fault>, Fail>
+    requires { length info.now < 2 ^ 32 }
+{
+    let parts = read(alloc, info)?;
+    Ok(check_links(&parts, info, &TABLE, ORIGIN).err())
 }
 
 // The fault of the values of a compile unit, whose entries begin at 12, or none.
 fn fault_in(alloc: Global, entries: &[u8]) -> Result<Option<Fault>, Fail>
     requires { length entries.now < 100 }
 {
-    let mut info = [8 + entries.len() as u8, 0, 0, 0, 5, 0, 1, 8, 0, 0, 0, 0].to_vec(alloc)?;
-    info.extend_from_slice(entries)?;
+    let mut info = Vec::new(alloc);
+    info.push(8 + entries.len() as u8).ok().ok_or("no memory")?;
+    info.extend_from_slice(&[0, 0, 0, 5, 0, 1, 8, 0, 0, 0, 0])
+        .ok()
+        .ok_or("no memory")?;
+    info.extend_from_slice(entries).ok().ok_or("no memory")?;
     fault_of(alloc, &info)
 }
 

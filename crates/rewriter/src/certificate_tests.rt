@@ -1,5 +1,5 @@
 // Certificates of small files, worked out by hand.
-use rewriter::rewrite;
+use crate::rewrite;
 use std::test::Fail;
 
 // An executable for x86-64 with section 0 and .shstrtab alone.

@@ -1,7 +1,7 @@
 // A file in the manner of clang, the file that is written for it, and files that differ from the latter in a byte.
+use crate::{Reason, first_difference};
 use dw_base::Reach;
 use list_model::ListKind;
-use same_meaning::{Reason, first_difference};
 use std::alloc::{AllocError, Global};
 use std::test::Fail;
 use value_links::World;

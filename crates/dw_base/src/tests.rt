@@ -1,4 +1,4 @@
-use dw_base::{Host, MemHost, NamedFile, QuietHost, Stop};
+use crate::{Host, MemHost, NamedFile, QuietHost, Stop};
 use std::alloc::{AllocError, Global};
 use std::process::Abort;
 use std::test::Fail;

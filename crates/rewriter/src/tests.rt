@@ -1,6 +1,6 @@
 // Small files whose outcome was worked out by hand.
+use crate::rewrite;
 use dw_base::{Fault, Kind, Refusal};
-use rewriter::rewrite;
 use std::test::Fail;
 
 // An executable for x86-64 with section 0, .debug_abbrev at 64, .debug_info at 71 and .shstrtab. The table declares the code

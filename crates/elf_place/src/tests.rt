@@ -1,9 +1,9 @@
 // Small files whose outcome was worked out by hand.
-ghost use Rattle.std.specs.Prelude.{◌<◌, ◌+◌, ◌^◌, length};
+ghost use Rattle.std.specs.Prelude.{◌<◌, ◌^◌, length};
 ghost use Rattle.elf_place.specs.Bodies.{IsReplaceable};
 
+use crate::{NewBody, place};
 use dw_base::{NoMemory, Reach};
-use elf_place::{NewBody, place};
 use elf_sections::Image;
 use std::alloc::Global;
 
@@ -83,82 +83,5 @@ fn sections_are_placed(rt: HostRuntime) -> Result<(), NoMemory> {
         return Err(NoMemory);
     };
     assert_eq!(rt; (again.count(), again.find(b".debug_str")), (3, Some(1)));
-    Ok(())
-}
-
-// An executable for x86-64 with section 0, .debug_info with `abcde`, .debug_line with `fgh`, and .shstrtab, which is
-// aligned to 4, at 72. The section headers stand at 112.
-const TWO_BODIES: [u8; 368] = [
-    0x7f, 0x45, 0x4c, 0x46, 0x02, 0x01, 0x01, 0, 0, 0, 0, 0, 0, 0, 0, 0, 0x02, 0, 0x3e, 0, 0x01, 0,
-    0, 0, 0, 0, 0, 0, 0, 0, 0, 0, 0, 0, 0, 0, 0, 0, 0, 0, 0x70, 0, 0, 0, 0, 0, 0, 0, 0, 0, 0, 0,
-    0x40, 0, 0, 0, 0, 0, 0x40, 0, 0x04, 0, 0x03, 0, 0x61, 0x62, 0x63, 0x64, 0x65, 0x66, 0x67, 0x68,
-    0, 0x2e, 0x64, 0x65, 0x62, 0x75, 0x67, 0x5f, 0x69, 0x6e, 0x66, 0x6f, 0, 0x2e, 0x64, 0x65, 0x62,
-    0x75, 0x67, 0x5f, 0x6c, 0x69, 0x6e, 0x65, 0, 0x2e, 0x73, 0x68, 0x73, 0x74, 0x72, 0x74, 0x61,
-    0x62, 0, 0, 0, 0, 0, 0, 0, 0, 0, 0, 0, 0, 0, 0, 0, 0, 0, 0, 0, 0, 0, 0, 0, 0, 0, 0, 0, 0, 0, 0,
-    0, 0, 0, 0, 0, 0, 0, 0, 0, 0, 0, 0, 0, 0, 0, 0, 0, 0, 0, 0, 0, 0, 0, 0, 0, 0, 0, 0, 0, 0, 0, 0,
-    0, 0, 0, 0, 0, 0, 0, 0, 0x01, 0, 0, 0, 0x01, 0, 0, 0, 0, 0, 0, 0, 0, 0, 0, 0, 0, 0, 0, 0, 0, 0,
-    0, 0, 0x40, 0, 0, 0, 0, 0, 0, 0, 0x05, 0, 0, 0, 0, 0, 0, 0, 0, 0, 0, 0, 0, 0, 0, 0, 0x01, 0, 0,
-    0, 0, 0, 0, 0, 0, 0, 0, 0, 0, 0, 0, 0, 0x0d, 0, 0, 0, 0x01, 0, 0, 0, 0, 0, 0, 0, 0, 0, 0, 0, 0,
-    0, 0, 0, 0, 0, 0, 0, 0x45, 0, 0, 0, 0, 0, 0, 0, 0x03, 0, 0, 0, 0, 0, 0, 0, 0, 0, 0, 0, 0, 0, 0,
-    0, 0x01, 0, 0, 0, 0, 0, 0, 0, 0, 0, 0, 0, 0, 0, 0, 0, 0x19, 0, 0, 0, 0x03, 0, 0, 0, 0, 0, 0, 0,
-    0, 0, 0, 0, 0, 0, 0, 0, 0, 0, 0, 0, 0x48, 0, 0, 0, 0, 0, 0, 0, 0x23, 0, 0, 0, 0, 0, 0, 0, 0, 0,
-    0, 0, 0, 0, 0, 0, 0x04, 0, 0, 0, 0, 0, 0, 0, 0, 0, 0, 0, 0, 0, 0, 0,
-];
-
-// The same with `ij` at 64 and `klmnopqrs` at 66: .shstrtab stands at 76, after a byte of padding.
-const TWO_BODIES_ANEW: [u8; 368] = [
-    0x7f, 0x45, 0x4c, 0x46, 0x02, 0x01, 0x01, 0, 0, 0, 0, 0, 0, 0, 0, 0, 0x02, 0, 0x3e, 0, 0x01, 0,
-    0, 0, 0, 0, 0, 0, 0, 0, 0, 0, 0, 0, 0, 0, 0, 0, 0, 0, 0x70, 0, 0, 0, 0, 0, 0, 0, 0, 0, 0, 0,
-    0x40, 0, 0, 0, 0, 0, 0x40, 0, 0x04, 0, 0x03, 0, 0x69, 0x6a, 0x6b, 0x6c, 0x6d, 0x6e, 0x6f, 0x70,
-    0x71, 0x72, 0x73, 0, 0, 0x2e, 0x64, 0x65, 0x62, 0x75, 0x67, 0x5f, 0x69, 0x6e, 0x66, 0x6f, 0,
-    0x2e, 0x64, 0x65, 0x62, 0x75, 0x67, 0x5f, 0x6c, 0x69, 0x6e, 0x65, 0, 0x2e, 0x73, 0x68, 0x73,
-    0x74, 0x72, 0x74, 0x61, 0x62, 0, 0, 0, 0, 0, 0, 0, 0, 0, 0, 0, 0, 0, 0, 0, 0, 0, 0, 0, 0, 0, 0,
-    0, 0, 0, 0, 0, 0, 0, 0, 0, 0, 0, 0, 0, 0, 0, 0, 0, 0, 0, 0, 0, 0, 0, 0, 0, 0, 0, 0, 0, 0, 0, 0,
-    0, 0, 0, 0, 0, 0, 0, 0, 0, 0, 0, 0, 0x01, 0, 0, 0, 0x01, 0, 0, 0, 0, 0, 0, 0, 0, 0, 0, 0, 0, 0,
-    0, 0, 0, 0, 0, 0, 0x40, 0, 0, 0, 0, 0, 0, 0, 0x02, 0, 0, 0, 0, 0, 0, 0, 0, 0, 0, 0, 0, 0, 0, 0,
-    0x01, 0, 0, 0, 0, 0, 0, 0, 0, 0, 0, 0, 0, 0, 0, 0, 0x0d, 0, 0, 0, 0x01, 0, 0, 0, 0, 0, 0, 0, 0,
-    0, 0, 0, 0, 0, 0, 0, 0, 0, 0, 0, 0x42, 0, 0, 0, 0, 0, 0, 0, 0x09, 0, 0, 0, 0, 0, 0, 0, 0, 0, 0,
-    0, 0, 0, 0, 0, 0x01, 0, 0, 0, 0, 0, 0, 0, 0, 0, 0, 0, 0, 0, 0, 0, 0x19, 0, 0, 0, 0x03, 0, 0, 0,
-    0, 0, 0, 0, 0, 0, 0, 0, 0, 0, 0, 0, 0, 0, 0, 0, 0x4c, 0, 0, 0, 0, 0, 0, 0, 0x23, 0, 0, 0, 0, 0,
-    0, 0, 0, 0, 0, 0, 0, 0, 0, 0, 0x04, 0, 0, 0, 0, 0, 0, 0, 0, 0, 0, 0, 0, 0, 0, 0,
-];
-
-// The file with these bodies for the sections 1 and 2.
-fn with_bodies(
-    alloc: Global,
-    image: &Image<'_>,
-    info: Vec<u8>,
-    lines: Vec<u8>,
-) -> Result<Vec<u8>, NoMemory>
-    requires first { IsReplaceable image.now 1 }
-    requires second { IsReplaceable image.now 2 }
-    requires small { length info.items + length lines.items < 2 ^ 35 }
-{
-    let bodies = vec![in alloc;
-        NewBody {
-            section: 1,
-            bytes: info
-        },
-        NewBody {
-            section: 2,
-            bytes: lines
-        },
-    ]?;
-    place(alloc, image, &bodies)
-}
-
-#[test]
-fn sections_are_replaced(rt: HostRuntime) -> Result<(), NoMemory> {
-    let alloc = rt.alloc();
-    let Ok(image) = Image::read(alloc, &TWO_BODIES, Reach::Narrow) else {
-        return Err(NoMemory);
-    };
-    if image.count() != 4 || !image.is_movable(1) || !image.is_movable(2) {
-        return Err(NoMemory);
-    }
-    let info = Vec::from_slice(alloc, b"ij")?;
-    let lines = Vec::from_slice(alloc, b"klmnopqrs")?;
-    let new = with_bodies(alloc, &image, info, lines)?;
-    assert_eq!(rt; new.as_slice(), TWO_BODIES_ANEW.as_slice());
     Ok(())
 }

@@ -1,10 +1,10 @@
 // Units with their tables, by hand, and units that are refused.
+use crate::{Units, read_units};
 use dw_base::{Fault, Kind, Refusal};
 use form_codec::Value;
 use std::alloc::Global;
 use std::process::Abort;
 use std::test::Fail;
-use value_links::{Units, read_units};
 
 // Where .debug_info and .debug_abbrev stand in the file.
 const INFO_ORIGIN: u64 = 64;

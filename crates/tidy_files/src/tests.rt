@@ -1,9 +1,9 @@
 // A file with one unit and one abbreviation table, the file that is written for it, and files that differ from the latter.
+use crate::accept_classes;
 use dw_base::Reach;
 use same_meaning::first_difference;
 use std::alloc::{AllocError, Global};
 use std::test::Fail;
-use tidy_files::accept_classes;
 use value_links::World;
 
 // .debug_info has a unit of three entries, of which the second names the third by four bytes; .debug_abbrev begins at place 196.

@@ -3,6 +3,7 @@ ghost use Rattle.std.specs.Prelude.{◌<◌, length};
 ghost use Rattle.list_model.specs.declared.entry.ListKind.TheVariants.{Ranges};
 ghost use Rattle.value_links.specs.World.{lists_held};
 
+use crate::{Link, OpLink, World};
 use dw_base::{Fault, Kind, Reach, Refusal};
 use entry_arena::Target;
 use form_codec::Value;
@@ -11,7 +12,6 @@ use loc_lists::ViewPair;
 use std::alloc::{AllocError, Global};
 use std::process::Abort;
 use std::test::Fail;
-use value_links::{Link, OpLink, World};
 
 // An executable with .debug_abbrev at 64, .debug_info at 72, .debug_line at 89, .debug_aranges at 142 and .shstrtab at 174. The
 // one unit is a root with DW_AT_stmt_list, and the one set of address ranges names it. The headers of sections stand from
@@ -55,7 +55,7 @@ fn changed(alloc: Global, changes: &[(usize, u8)]) -> Result<Vec<u8>, AllocError
 }
 
 // The file with other bytes at some places, and with these behind it.
-fn extended(
+pub(crate) fn extended(
     alloc: Global,
     changes: &[(usize, u8)],
     pieces: &[&[u8]],
