@@ -2,6 +2,7 @@
 PREFIX = /usr/local
 DESTDIR =
 PROGRAM = crates/shrink_app/out/shrink_app
+PACKAGES = crates/packages_app/out/packages_app
 VERSION := $(shell cat VERSION)
 
 BIN = $(DESTDIR)$(PREFIX)/bin
@@ -17,8 +18,8 @@ ARCHIVE = out/$(NAME).tar.gz
 TIME = $(shell git log -1 --format=%ct 2>/dev/null || stat -c %Y VERSION)
 
 help:
-	@echo "make install [PREFIX=$(PREFIX)] [DESTDIR=]      installs mikadocherry and mikadocherry-tree in PREFIX/bin, the proved"
-	@echo "                                                  program in PREFIX/libexec/mikadocherry, and man pages and completion"
+	@echo "make install [PREFIX=$(PREFIX)] [DESTDIR=]      installs mikadocherry and mikadocherry-tree in PREFIX/bin, the two proved"
+	@echo "                                                  programs in PREFIX/libexec/mikadocherry, and man pages and completion"
 	@echo "                                                  in PREFIX/share"
 	@echo "make uninstall [PREFIX=$(PREFIX)] [DESTDIR=]    removes them"
 	@echo "make dist                                         packs them as $(ARCHIVE), with their sums and"
@@ -27,6 +28,7 @@ help:
 install: built
 	install -d "$(BIN)" "$(PARTS)" "$(MAN)" "$(COMPLETION)"
 	install -m 755 "$(PROGRAM)" "$(PARTS)/mikadocherry"
+	install -m 755 "$(PACKAGES)" "$(PARTS)/mikadocherry-packages"
 	install -m 644 VERSION launcher/explain.sh launcher/elf_headers.py "$(PARTS)"
 	install -m 755 mikadocherry mikadocherry-tree "$(BIN)"
 	install -m 644 man/mikadocherry.1 man/mikadocherry-tree.1 "$(MAN)"
@@ -47,6 +49,6 @@ dist: built
 	cd out && sha256sum $(NAME).tar.gz >$(NAME).tar.gz.sha256
 
 built:
-	@test -x "$(PROGRAM)" || { echo "The program isn't built: run ./mikadocherry first, which proves and builds it." >&2; exit 1; }
+	@test -x "$(PROGRAM)" && test -x "$(PACKAGES)" || { echo "The programs aren't built: run ./mikadocherry first, which proves and builds them." >&2; exit 1; }
 
 .PHONY: help install uninstall dist built

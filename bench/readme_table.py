@@ -1,9 +1,10 @@
 #!/usr/bin/env python3
-"""Prints README's table: what dwz, this program, and this program behind dwz make of files, and what each takes.
+"""Prints README's table: what dwz, the program for the fewest bytes, the one for packages, and the latter behind dwz make of files, and what
+each takes.
 
-  bench/readme_table.py [--program PROGRAM] [--dwz PROGRAM] [--runs N] FILE ..
+  bench/readme_table.py [--program PROGRAM] [--packages PROGRAM] [--dwz PROGRAM] [--runs N] FILE ..
 
-Bytes are those of the five sections that this program writes, as they are and with each compressed by zlib at level 6. Seconds are of the
+Bytes are those of the five sections that these programs write, as they are and with each compressed by zlib at level 6. Seconds are of the
 processor, the fastest of N runs (3), the tools in turn; memory is the peak, in MB of 10^6 bytes. Behind dwz both tools' seconds are
 added, and the greater peak is told. Run it with nothing beside.
 """
@@ -39,25 +40,26 @@ def better(one: Optional[Run], other: Run) -> Run:
     return other if one is None or other.seconds < one.seconds else one
 
 
-def lines(path: str, program: str, dwz: str, runs: int) -> List[str]:
+def lines(path: str, program: str, packages: str, dwz: str, runs: int) -> List[str]:
     """The rows of a file: its bytes, and what the tools take."""
     with tempfile.TemporaryDirectory() as folder:
-        by_dwz, ours, behind = (os.path.join(folder, name) for name in ("dwz", "ours", "behind"))
-        best: List[Optional[Run]] = [None, None, None]
+        by_dwz, fewest, packed, behind = (os.path.join(folder, name) for name in ("dwz", "fewest", "packed", "behind"))
+        tools = [([dwz, "-o", by_dwz, path], by_dwz), ([program, "shrink", path, fewest, "/dev/null"], fewest),
+                 ([packages, "shrink", path, packed, "/dev/null"], packed),
+                 ([packages, "shrink", by_dwz, behind, "/dev/null"], behind)]
+        best: List[Optional[Run]] = [None] * len(tools)
         for _ in range(runs):
-            best[0] = better(best[0], measured([dwz, "-o", by_dwz, path], by_dwz, 1))
-            best[1] = better(best[1], measured([program, "shrink", path, ours, "/dev/null"], ours, 1))
-            if os.path.exists(by_dwz):
-                best[2] = better(best[2], measured([program, "shrink", by_dwz, behind, "/dev/null"], behind, 1))
+            for number, (command, made_file) in enumerate(tools):
+                if made_file != behind or os.path.exists(by_dwz):
+                    best[number] = better(best[number], measured(command, made_file, 1))
         before = Run(sizes=sizes_of(path))
         made = [run or Run(refused="no input") for run in best]
-        files = [path, by_dwz, ours, behind]
         raw = [f"{added([run]):,}" if not run.refused else run.refused for run in (before, *made)]
-        packed = [f"{compressed(file):,}" if os.path.exists(file) else "" for file in files]
-        both = Run(made[0].seconds + made[2].seconds, max(made[0].megabytes, made[2].megabytes))
-        taken = [f"{run.seconds:.2f}; {run.megabytes:.0f}" for run in (made[0], made[1], both)]
+        small = [f"{compressed(file):,}" if os.path.exists(file) else "" for file in (path, by_dwz, fewest, packed, behind)]
+        both = Run(made[0].seconds + made[3].seconds, max(made[0].megabytes, made[3].megabytes))
+        taken = [f"{run.seconds:.2f}; {run.megabytes:.0f}" for run in (*made[:3], both)]
     name = os.path.basename(path)
-    return [f"| {name} | bytes | " + " | ".join(raw) + " |", "| | by zlib | " + " | ".join(packed) + " |",
+    return [f"| {name} | bytes | " + " | ".join(raw) + " |", "| | by zlib | " + " | ".join(small) + " |",
             "| | seconds; MB | | " + " | ".join(taken) + " |"]
 
 
@@ -65,12 +67,13 @@ def main() -> None:
     parser = argparse.ArgumentParser(description=__doc__.split("\n")[0])
     parser.add_argument("files", nargs="+")
     parser.add_argument("--program", default=os.path.join(TOP, "mikadocherry"))
+    parser.add_argument("--packages", default=os.path.join(TOP, "crates/packages_app/out/packages_app"))
     parser.add_argument("--dwz", default=shutil.which("dwz") or "dwz")
     parser.add_argument("--runs", type=int, default=3)
     arguments = parser.parse_args()
-    print("| program | | input | `dwz` | this program | `dwz`, then this program |\n|---|---|---:|---:|---:|---:|")
+    print("| program | | input | `dwz` | for bytes | for packages | `dwz`, then for packages |\n|---|---|---:|---:|---:|---:|---:|")
     for path in arguments.files:
-        print("\n".join(lines(path, arguments.program, arguments.dwz, arguments.runs)), flush=True)
+        print("\n".join(lines(path, arguments.program, arguments.packages, arguments.dwz, arguments.runs)), flush=True)
 
 
 if __name__ == "__main__":

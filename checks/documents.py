@@ -7,7 +7,8 @@
   may begin at the repository's top, with the name of a crate (NAME/specs/..), or in a row of a crate with specs or src.
 - Each crate of crates.txt has its row in docs/MAP.md and docs/CRATES.md, and no other has; the groups of docs/MAP.md are those of
   crates.txt, and its picture has each crate. Each script of bench/ has its row in bench/README.md.
-- The counts that documents tell (clauses of `run`, crates, must-fail edits, rows of what isn't tidy) are what is there.
+- The counts that documents tell (clauses of `run_in`, crates, must-fail edits, rows of what isn't tidy) are what is there, and
+  docs/PROMISES.md names each clause of `run_in`.
 - README.md has at most 120 lines of at most 200 characters.
 """
 import glob
@@ -160,13 +161,21 @@ def picture_faults(page, crates):
 
 
 def clauses_of_run():
-    """How many clauses the contract of `run` has."""
+    """The names of the clauses that the contract of `run_in` has."""
     for path in glob.glob(os.path.join(TOP, "crates/*/src/*.rt")):
         with open(path, encoding="utf-8") as handle:
-            found = re.search(r"^pub fn run<.*?^\{$", handle.read(), re.M | re.S)
+            found = re.search(r"^pub fn run_in<.*?^\{$", handle.read(), re.M | re.S)
         if found:
-            return len(re.findall(r"^\s*ensures ", found.group(), re.M))
-    return 0
+            return re.findall(r"^\s*ensures (\w+) \{", found.group(), re.M)
+    return []
+
+
+def promise_faults(page, clauses):
+    """Which clauses no row of a page names."""
+    named = set(re.findall(r"`(\w+)`", "".join(line.rpartition(" | ")[2] for line in read(page).splitlines())))
+    for clause in clauses:
+        if clause not in named:
+            yield f"no row names the clause {clause}"
 
 
 def rows_of_tidy():
@@ -204,8 +213,9 @@ def script_faults():
 def all_faults():
     groups = groups_of_crates()
     crates = [crate for group in groups.values() for crate in group]
+    clauses = clauses_of_run()
     counts = [
-        (r"\b(\d[\d,]*) clauses\b", clauses_of_run(), "clauses of run"),
+        (r"\b(\d[\d,]*) clauses\b", len(clauses), "clauses of run_in"),
         (r"\b(\d[\d,]*) crates\b", len(crates), "crates"),
         (r"\b(\d[\d,]*) (?:must-fail )?edits\b", len(glob.glob(os.path.join(TOP, "crates/*/must-fail/*.edit"))), "must-fail edits"),
         (ROWS_OF_TIDY, rows_of_tidy(), "rows of what isn't tidy"),
@@ -219,6 +229,8 @@ def all_faults():
             yield f"{page}: {fault}"
     for fault in [*group_faults("docs/MAP.md", groups), *picture_faults("docs/MAP.md", crates)]:
         yield f"docs/MAP.md: {fault}"
+    for fault in promise_faults("docs/PROMISES.md", clauses):
+        yield f"docs/PROMISES.md: {fault}"
     for number, fault in size_faults("README.md"):
         yield f"README.md:{number}: {fault}"
     for fault in script_faults():

@@ -2,13 +2,17 @@
 """Runs the built program on real files, and tests what no clause can reach: the system's files, its standard output and words, and
 files that are too large for a test in memory.
 
-  checks/edge.py [PROGRAM]                 left out, it is crates/shrink_app/out/shrink_app
+  checks/edge.py [--packages PROGRAM] [PROGRAM]
+
+Left out, PROGRAM is crates/shrink_app/out/shrink_app, and the one for debug packages crates/packages_app/out/packages_app. Each test is made
+of both; where the latter isn't built its tests are skipped.
 
 What has to be written is known without the program: the wanted files are made here, by the rules of docs/FORMATS.md, and so are
 nearly all wanted certificates, by those of docs/CERTIFICATE.md. Each test prints one line. The last line is `N passed, M failed`,
 and the exit status is 1 where one failed.
 """
 import argparse
+import functools
 import itertools
 import json
 import os
@@ -26,12 +30,14 @@ TOP = os.path.dirname(os.path.dirname(os.path.abspath(__file__)))
 sys.path.insert(0, os.path.join(TOP, "bench"))
 from drawn_files import drawn_file
 from elf_files import Section, aligned, elf_file, names_of, placed, sleb, uleb
-from harness import BUILT, SECONDS, Failure, Skipped, Tests, executable
-from record_files import LINES, MAGIC, PAIRS, records
+from harness import BUILT, BUILT_FOR_PACKAGES, SECONDS, Failure, Skipped, Tests, executable
+from record_files import LAYOUT, LINES, MAGIC, PAIRS, records
 
 LIMIT = 1 << 30
 SHRINK = ["shrink", "in", "out", "cert"]
 CHECK = ["check", "in", "out", "cert"]
+# The first bytes of a certificate for packages.
+MAGIC_FOR_PACKAGES = b"DWMINP1\n"
 test = Tests()
 
 
@@ -44,10 +50,17 @@ def difference(found, wanted):
 
 
 class Place:
-    """A folder for one test, in which the program runs."""
+    """A folder for one test, in which the program runs, and the first bytes of the certificates that it writes."""
 
-    def __init__(self, program, folder):
-        self.program, self.folder = program, folder
+    def __init__(self, program, folder, magic=MAGIC):
+        self.program, self.folder, self.magic = program, folder, magic
+
+    def is_for_packages(self):
+        return self.magic == MAGIC_FOR_PACKAGES
+
+    def of_lines(self, records_of_lines):
+        """The records of line number programs: none where these stay as they are."""
+        return b"" if self.is_for_packages() else records_of_lines
 
     def path(self, name):
         return os.path.join(self.folder, name)
@@ -83,7 +96,7 @@ class Place:
     def writes(self, words, written, records=b""):
         """Fails where the program doesn't write these bytes to OUT, and these records to CERT behind the first bytes of a record
         file, and leave all other files as they are."""
-        self.leaves(words, 0, b"", {**self.files(), words[2]: written, words[3]: MAGIC + records})
+        self.leaves(words, 0, b"", {**self.files(), words[2]: written, words[3]: self.magic + records})
 
     def leaves(self, words, status, said, wanted, **how):
         self.answers(words, status, said, **how)
@@ -217,7 +230,7 @@ def checked_files(place):
     units = [unit_in(number) for number in range(count)]
     renamed = file_of_units([units[0], units[1].replace(b"v1\0", b"w1\0"), units[2]], TABLE_IN)
     abbrev = 64 + sum(map(len, units))
-    certificate = MAGIC + no_ranks(count)
+    certificate = place.magic + no_ranks(count)
     for files, status, said in (
         ((source, written, certificate), 0, b"accepted"),
         # Its own output: DW_AT_type of the second declaration isn't DW_FORM_ref_udata.
@@ -226,12 +239,13 @@ def checked_files(place):
         ((renamed, written, certificate), 7, b"rejected differs 1 1"),
         ((elf_file([]), written, certificate), 7, b"rejected kept "),
         ((source, written, b""), 7, b"rejected record 0"),
+        ((source, written, (MAGIC if place.is_for_packages() else MAGIC_FOR_PACKAGES) + no_ranks(count)), 7, b"rejected record 0"),
         ((source, written, certificate[:-1]), 7, b"rejected record 12"),
         ((source, written, certificate[:-2]), 7, b"rejected record 12"),
         ((source, written, certificate + no_ranks(1)), 7, b"rejected record 14"),
-        ((source, written, MAGIC + b"\2\0" + no_ranks(2)), 7, b"rejected record 8"),
+        ((source, written, place.magic + b"\2\0" + no_ranks(2)), 7, b"rejected record 8"),
         # A rank too many is a fault of the unit's last slot.
-        ((source, written, MAGIC + b"\3\1\0" + no_ranks(2)), 7, b"rejected slot 0 0"),
+        ((source, written, place.magic + b"\3\1\0" + no_ranks(2)), 7, b"rejected slot 0 0"),
         ((b"", written, certificate), 3, b"refused in NotElf64 at 0"),
         ((source, b"", certificate), 3, b"refused out NotElf64 at 0"),
     ):
@@ -247,28 +261,39 @@ def checked_files(place):
             place.keeps(CHECK, 5, stdout=full)
 
 
-def section_sizes(file):
-    """How many bytes the sections of a file have, by their names."""
+def sections_of(file):
+    """The bytes of the sections of a file, by their names."""
     (headers_at,), (count, names) = struct.unpack_from("<Q", file, 40), struct.unpack_from("<HH", file, 60)
     headers = [struct.unpack_from("<I20xQQ", file, headers_at + 64 * number) for number in range(count)]
     names_at = headers[names][1]
-    return {file[names_at + name : file.index(b"\0", names_at + name)]: size for name, _, size in headers}
+    return {file[names_at + name : file.index(b"\0", names_at + name)]: file[at : at + size] for name, at, size in headers}
 
 
 @test
 def drawn_files(place):
-    """make writes the file that is drawn from its number, byte for byte, with up to 4,096 units, and stat, shrink and check take it"""
+    """make writes the file that is drawn from its number, with up to 4,096 units, stat, shrink and check take it, and shrink takes OUT"""
     for number, units in ((0, 1), (7, 2), (4294967295, 3), (1, 4096)):
         words = ["make", str(number), str(units), "drawn"]
         place.leaves(words, 0, b"", {**place.files(), "drawn": drawn_file(number, units)})
     run = subprocess.run([place.program, "stat", "drawn"], cwd=place.folder, capture_output=True, timeout=SECONDS)
     place.answers(["shrink", "drawn", "out", "cert"], 0, b"")
     place.keeps(["check", "drawn", "out", "cert"], 0, b"accepted\n")
-    old, new = (section_sizes(place.read(name)) for name in ("drawn", "out"))
+    written, certificate = place.read("out"), place.read("cert")
+    old, new = sections_of(place.read("drawn")), sections_of(written)
     said = json.loads(run.stdout)
-    wanted = {key: [old[name], new[name]] for key in ("abbrev", "info", "line", "loclists", "rnglists") for name in [b".debug_" + key.encode()]}
-    if said != {**said, **wanted, "units": 4096} or new[b".debug_info"] >= old[b".debug_info"]:
+    names = {key: b".debug_" + key.encode() for key in ("abbrev", "info", "line", "loclists", "rnglists")}
+    wanted = {key: [len(old[name]), len(new[name])] for key, name in names.items()}
+    if said != {**said, **wanted, "units": 4096} or wanted["info"][1] >= wanted["info"][0]:
         raise Failure(f"stat says {said}, and the files have {wanted}")
+    if place.is_for_packages():
+        # no number of the lists is padded, and none of their expressions names an entry
+        for key in ("line", "loclists", "rnglists"):
+            if new[names[key]] != old[names[key]]:
+                raise Failure(f"{names[key]} has {difference(new[names[key]], old[names[key]])}")
+        kinds = [record.kind for record in records(MAGIC + certificate[len(place.magic) :])]
+        if kinds != [LAYOUT] * 4096:
+            raise Failure(f"CERT has {len(kinds)} records of the kinds {set(kinds)}")
+    place.writes(["shrink", "out", "again", "its"], written, certificate[len(place.magic) :])
     for name in ("missing/out", "/dev/full") if os.path.exists("/dev/full") else ("missing/out",):
         place.keeps(["make", "7", "2", name], 5)
 
@@ -347,7 +372,7 @@ def longer_files_are_emptied(place):
     place.write("in", source)
     for size in (len(written) + 1, 1_000_000):
         place.write("out", b"\xff" * size)
-        place.write("cert", (MAGIC + no_ranks(3)) * size)
+        place.write("cert", (place.magic + no_ranks(3)) * size)
         place.writes(SHRINK, written, no_ranks(2))
 
 
@@ -596,10 +621,10 @@ def one_run(number):
 
 @test
 def program_without_rows(place):
-    """a line number program without rows is written as it stands, and its record has one run with the number 0"""
+    """a line number program without rows is written as it stands, and its record, if any, has one run with the number 0"""
     source = elf_file([(b".debug_line", line_program(b"", -5, 14))])
     place.write("in", source)
-    place.writes(SHRINK, source, one_run(0))
+    place.writes(SHRINK, source, place.of_lines(one_run(0)))
 
 
 # DW_LNS_advance_line by 1,000 and DW_LNS_copy. Special opcodes advance the line by at most 369, so that under each pair the operand
@@ -609,10 +634,10 @@ EQUAL_STEP = b"\x03\xe8\x07\x01"
 
 @test
 def equal_steps(place):
-    """a line number program of 2^20 rows with equal steps is written as it stands, and its record has one run with the number 1"""
+    """a line number program of 2^20 rows with equal steps is written as it stands, and its record, if any, has one run with the number 1"""
     source = elf_file([(b".debug_line", line_program(EQUAL_STEP * ((1 << 20) - 1) + b"\0\1\1", -3, 12))])
     place.write("in", source)
-    place.writes(SHRINK, source, one_run(1))
+    place.writes(SHRINK, source, place.of_lines(one_run(1)))
 
 
 def check_record(certificate, rows):
@@ -634,10 +659,16 @@ def check_record(certificate, rows):
 
 @test
 def many_rows(place):
-    """a line number program of 2^20 rows keeps its rows in at most half the bytes, and OUT is written again as it stands"""
+    """a line number program of 2^20 rows keeps its rows in half the bytes, or for packages its bytes, and OUT is written as it stands"""
     rows, opcodes = drawn_lines(1 << 20)
     before = line_program(opcodes, -3, 12)
-    place.write("in", elf_file([(b".debug_line", before)]))
+    source = elf_file([(b".debug_line", before)])
+    place.write("in", source)
+    if place.is_for_packages():
+        place.writes(SHRINK, source)
+        place.keeps(CHECK, 0, b"accepted\n")
+        place.writes(["shrink", "out", "again", "its"], source)
+        return
     place.answers(SHRINK, 0, b"")
     written = place.read("out")
     size = 4 + struct.unpack_from("<I", written, 64)[0]
@@ -652,10 +683,33 @@ def many_rows(place):
     shows_the_same(place, "decodedline", len(rows))
 
 
+def for_packages(function, program):
+    """A test of the program for debug packages, which has the same promises."""
+
+    @functools.wraps(function)
+    def again(place):
+        return function(Place(program, place.folder, MAGIC_FOR_PACKAGES))
+
+    again.__doc__ = f"for packages, {function.__doc__}"
+    return again
+
+
+def without_packages(place):
+    """the same of the program for packages"""
+    raise Skipped(f"{BUILT_FOR_PACKAGES} isn't there")
+
+
 def main():
     parser = argparse.ArgumentParser(description=__doc__, formatter_class=argparse.RawDescriptionHelpFormatter)
     parser.add_argument("program", nargs="?", default=BUILT)
-    program = executable(parser.parse_args().program)
+    parser.add_argument("--packages", metavar="PROGRAM")
+    words = parser.parse_args()
+    program = executable(words.program)
+    if words.packages or os.path.exists(BUILT_FOR_PACKAGES):
+        packages = executable(words.packages or BUILT_FOR_PACKAGES)
+        test.functions += [for_packages(function, packages) for function in test.functions]
+    else:
+        test(without_packages)
     return test.run(lambda folder: Place(program, folder))
 
 

@@ -7,6 +7,7 @@ import time
 
 TOP = os.path.dirname(os.path.dirname(os.path.abspath(__file__)))
 BUILT = os.path.join(TOP, "crates/shrink_app/out/shrink_app")
+BUILT_FOR_PACKAGES = os.path.join(TOP, "crates/packages_app/out/packages_app")
 # A run of what is tested has to end in this time.
 SECONDS = 60
 

@@ -45,8 +45,8 @@ if [ "$*" = run ]; then
     [ ! -e {folder}/fail-run ] || exit 1
     echo "logic=proved of the program" >&2
     mkdir -p out
-    cp {program} out/shrink_app
-    out/shrink_app
+    cp {program} "out/${{PWD##*/}}"
+    "out/${{PWD##*/}}"
     exit
 fi
 [[ $* =~ ^all\ check\ --jobs\ [1-9][0-9]*$ ]] || exit 2
@@ -116,6 +116,7 @@ class Place:
         self.write("crates.txt", crates)
         self.write("crates/a/src/lib.rt", "\n")
         self.write("crates/shrink_app/src/main.rt", "\n")
+        self.write("crates/packages_app/src/main.rt", "\n")
         self.write("bin/rt", FAKE_RT.format(folder=self.folder, program=program or self.program), 0o755)
         return self.path("mikadocherry")
 
@@ -133,7 +134,7 @@ class Place:
         """The launcher as it is installed below `usr`."""
         if not shutil.which("make"):
             raise Skipped("there is no make")
-        command = ["make", "-C", TOP, *words, f"PROGRAM={self.program}", "PREFIX=" + self.path("usr")]
+        command = ["make", "-C", TOP, *words, f"PROGRAM={self.program}", f"PACKAGES={self.program}", "PREFIX=" + self.path("usr")]
         run = self.run(command)
         wanted(run.returncode == 0, f"it fails: {run}")
         return self.path("usr/bin/mikadocherry")
@@ -141,9 +142,10 @@ class Place:
     def launchers(self):
         """The launcher of a checkout with the program built, and the installed one, where it can be installed."""
         launcher = self.checkout("shrink_app:\n")
-        os.makedirs(self.path("crates/shrink_app/out"))
-        shutil.copy(self.program, self.path("crates/shrink_app/out/shrink_app"))
-        os.utime(self.path("crates/shrink_app/out/shrink_app"))
+        for crate in ("shrink_app", "packages_app"):
+            os.makedirs(self.path(f"crates/{crate}/out"))
+            shutil.copy(self.program, self.path(f"crates/{crate}/out/{crate}"))
+            os.utime(self.path(f"crates/{crate}/out/{crate}"))
         return [launcher, self.installed("install")] if shutil.which("make") else [launcher]
 
 
@@ -160,6 +162,27 @@ def help_and_version(place):
         for verb in ("shrink IN OUT CERT", "check IN OUT CERT", "stat IN", "make NUMBER UNITS OUT"):
             wanted(f"mikadocherry {verb}" in shown, f"{verb} isn't said")
         wanted(("first use proves" in shown) == ("usr" not in launcher), "another help is said")
+
+
+@test
+def two_programs(place):
+    """--for packages runs the one for debug packages, --for bytes and no --for the other, and another word behind it is a wrong one"""
+    for launcher in place.launchers():
+        programs = ["crates/shrink_app/out/shrink_app", "crates/packages_app/out/packages_app"]
+        if "usr" in launcher:
+            programs = ["usr/libexec/mikadocherry/mikadocherry", "usr/libexec/mikadocherry/mikadocherry-packages"]
+        for name in programs:
+            place.write(name, f'#!/bin/sh\necho {os.path.basename(name)} "$*"\n', 0o755)
+        first, second = (os.path.basename(name).encode() for name in programs)
+        for words, said in (
+            (["stat", "in"], first + b" stat in\n"),
+            (["--for", "bytes", "stat", "in"], first + b" stat in\n"),
+            (["--for", "packages", "stat", "in"], second + b" stat in\n"),
+            (["--for", "packages"], second + b" \n"),
+        ):
+            place.says([launcher, *words], 0, said, "")
+        for words in (["--for"], ["--for", "size", "stat", "in"], ["--for", ""]):
+            place.says([launcher, *words], 2, b"words\n", "--for takes bytes or packages")
 
 
 def same_answers(place, launcher, words, **how):
@@ -379,7 +402,7 @@ def building(place):
     run = place.run([launcher, "grow"], env=place.environment(), preexec_fn=on_processors(1))
     wanted((run.returncode, run.stdout) == (2, b"words\n"), f"{run}")
     calls = place.notes()
-    wanted(calls == [(".", "all check --jobs 1"), ("crates/shrink_app", "run")], f"rt is called so: {calls}")
+    wanted(calls == [(".", "all check --jobs 1"), ("crates/shrink_app", "run"), ("crates/packages_app", "run")], f"rt is called so: {calls}")
     said = [re.sub(r"\(\d+:\d\d\)$", "(TIME)", it) for it in run.stderr.decode().splitlines()]
     shown = [f"mikadocherry: {count} of 4 crates are proved (TIME)" for count in (0, 3)]
     wanted(said[0].startswith("mikadocherry: proving and building the program") and said[1:3] == shown, said)
@@ -390,15 +413,15 @@ def building(place):
     os.utime(place.path("crates/shrink_app/out/shrink_app"), (1, 1))
     count = min(2, len(os.sched_getaffinity(0)))
     place.run([launcher], env=place.environment(), preexec_fn=on_processors(count))
-    calls = place.notes()[2:]
-    wanted(calls == [(".", f"all check --jobs {count}"), ("crates/shrink_app", "run")], f"rt is called so: {calls}")
+    calls = place.notes()[3:]
+    wanted(calls == [(".", f"all check --jobs {count}"), ("crates/shrink_app", "run"), ("crates/packages_app", "run")], f"rt is called so: {calls}")
     # where only times are newer rt may leave the program as it is
     fake = place.read("bin/rt").replace(b"    cp ", b"    : ")
     place.write("bin/rt", fake, 0o755)
     os.utime(place.path("crates/shrink_app/out/shrink_app"), (1, 1))
     place.run([launcher], env=place.environment())
     place.says([launcher], 2, b"words\n", "wrong words", env=place.environment())
-    wanted(len(place.notes()) == 6, f"what is current is built again, or what isn't is not: {place.notes()}")
+    wanted(len(place.notes()) == 9, f"what is current is built again, or what isn't is not: {place.notes()}")
 
 
 @test
@@ -463,7 +486,7 @@ def launchers_side_by_side(place):
             run.kill()
     wanted([(run.returncode, out) for run, (out, _) in zip(runs, said)] == [(2, b"words\n")] * 2, said)
     wanted([b"another launcher builds the program" in err for _, err in said] == [False, True], said)
-    wanted(len(place.notes()) == 2, "it is built twice")
+    wanted(len(place.notes()) == 3, "it is built twice")
     files = place.read("open-first")
     wanted(b"build.log" not in files, f"the program gets open files of the build: {files}")
 
@@ -558,7 +581,7 @@ def installed_files(place):
     """make install puts each file where it belongs, make uninstall removes them, and neither needs more than PREFIX and DESTDIR"""
     launcher = place.installed("install", "DESTDIR=")
     found = files_below(place.path("usr"))
-    parts = [f"libexec/mikadocherry/{it}" for it in ("VERSION", "elf_headers.py", "explain.sh", "mikadocherry")]
+    parts = [f"libexec/mikadocherry/{it}" for it in ("VERSION", "elf_headers.py", "explain.sh", "mikadocherry", "mikadocherry-packages")]
     shared = [f"share/bash-completion/completions/{it}" for it in SCRIPTS] + [f"share/man/man1/{it}.1" for it in SCRIPTS]
     wanted(found == {*[f"bin/{it}" for it in SCRIPTS], *parts, *shared}, f"{found} are installed")
     place.write("in", pair_of_units(3)[0])
@@ -585,7 +608,7 @@ def archive(place):
         shutil.copytree(os.path.join(TOP, name), place.path(name))
     packed = []
     for _ in range(2):
-        run = place.run(["make", "dist", f"PROGRAM={place.program}"], env=place.environment())
+        run = place.run(["make", "dist", f"PROGRAM={place.program}", f"PACKAGES={place.program}"], env=place.environment())
         wanted(run.returncode == 0, f"it fails: {run}")
         with open(os.path.join(TOP, "VERSION")) as file:
             name = f"mikadocherry-{file.read().strip()}"
@@ -600,7 +623,7 @@ def archive(place):
     place.write("in", pair_of_units(3)[0])
     place.says([os.path.join(folder, "bin/mikadocherry"), "shrink", "in", "new", "cert"], 0, b"", "")
     sums = place.read(os.path.join(folder, "SHA256SUMS")).decode().split()[1::2]
-    wanted(len(sums) == 11 and "KIT" in sums and "libexec/mikadocherry/mikadocherry" in sums, f"{sums} have sums")
+    wanted(len(sums) == 12 and "KIT" in sums and "libexec/mikadocherry/mikadocherry" in sums, f"{sums} have sums")
 
 
 @test

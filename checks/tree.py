@@ -31,7 +31,7 @@ sys.dont_write_bytecode = True
 TOP = os.path.dirname(os.path.dirname(os.path.abspath(__file__)))
 sys.path.insert(0, os.path.join(TOP, "bench"))
 sys.path.insert(0, os.path.join(TOP, "checks"))
-from edge import ALONE, difference, no_ranks, pair_of_units, section_sizes
+from edge import ALONE, difference, no_ranks, pair_of_units, sections_of
 from elf_files import elf_file
 from harness import BUILT, SECONDS, Skipped, Tests, executable, is_alive, wait_for, wanted
 from record_files import MAGIC
@@ -183,7 +183,7 @@ def says(summary, numbers):
 
 def debug_bytes(file):
     """How many bytes the debug sections of a file have."""
-    return sum(size for name, size in section_sizes(file).items() if name.startswith(b".debug_"))
+    return sum(len(section) for name, section in sections_of(file).items() if name.startswith(b".debug_"))
 
 
 def bytes_said(pairs):
@@ -724,7 +724,7 @@ def installed(place):
     if not shutil.which("make"):
         raise Skipped("there is no make")
     program = place.script("built", FRONT + f'exec "{place.program}" "$@"\n')
-    command = ["make", "-C", TOP, "install", f"PROGRAM={program}", "DESTDIR=" + os.fsdecode(place.path("a b")), "PREFIX=/usr"]
+    command = ["make", "-C", TOP, "install", f"PROGRAM={program}", f"PACKAGES={program}", "DESTDIR=" + os.fsdecode(place.path("a b")), "PREFIX=/usr"]
     how = {"cwd": place.folder, "capture_output": True, "timeout": SECONDS}
     run = subprocess.run(command, **how)
     wanted(run.returncode == 0, f"it fails: {run}")

@@ -1,5 +1,6 @@
 #!/usr/bin/env python3
-"""Lists what a person has to read who doubts the clauses of `run`: every definition on which they rest.
+"""Lists what a person has to read who doubts the clauses of `run_in`, which `run` has for all members of classes and `run_packaged` for packages: every definition on which they
+rest.
 
   checks/trusted.py            writes docs/TRUSTED.md anew
   checks/trusted.py --check    compares the page with what would be written; the exit status is 1 where they differ
@@ -19,7 +20,7 @@ import re
 import sys
 
 TOP = os.path.dirname(os.path.dirname(os.path.abspath(__file__)))
-CRATE, MODULE, CALL = "commands", "running", "run"
+CRATE, MODULE, CALL = "commands", "running", "run_in"
 PAGE = "docs/TRUSTED.md"
 
 PUNCTUATION = set("()[]{},;.")
@@ -424,7 +425,7 @@ PROMISES = [
     (
         "Accepted and rejected",
         "When three files are accepted, and else the first reason why not.",
-        "accepted accepted_least acceptable rejected rejects",
+        "accepted accepted_least accepted_kept acceptable rejected rejects",
     ),
     (
         "Messages and completeness",
@@ -468,11 +469,11 @@ FEW = 30
 
 HEAD = """# What the promises rest on
 
-Whoever doubts a promise of the program reads the clauses of `run`, its one public call, that carry it, and the definitions on which they rest, and no code: that the code does what the clauses say is what the prover decides. This page names each of these definitions once, and the types and the trait of the code of which clauses and definitions speak. The clauses stand in [{file}](../crates/{file}); [PROMISES.md](PROMISES.md) says each in plain words, and [PROOFS.md](PROOFS.md) how clauses and definitions are read.
+Whoever doubts a promise of the programs reads the clauses of `run_in`, the one call that does their work, that carry it (`run` has them for the classes with all members, and `run_packaged` for those of packages: both sets stand in [Classes.antt](../crates/dw_base/specs/Classes.antt)), and the definitions on which they rest, and no code: that the code does what the clauses say is what the prover decides. This page names each of these definitions once, and the types and the trait of the code of which clauses and definitions speak. The clauses stand in [{file}](../crates/{file}); [PROMISES.md](PROMISES.md) says each in plain words, and [PROOFS.md](PROOFS.md) how clauses and definitions are read.
 
 **How to read it.** Find the promise in the table. Its section tells at which definitions its clauses begin, names those that no section before it has, and tells which of the earlier ones it needs. Nearly all promises need [{common}](#{anchor}), which comes first. A line of a section is a link to a file, in brackets the sections of the standard that the head of the file cites, and the names of the definitions that are meant; what each says is told by the comment above it in the file. Within a section the lowest crate comes first. Lines are counted with their comments.
 
-**What isn't here.** What stands in `specs/` of a crate and isn't named is said by other public calls, and what stands in its `specs/inside` is needed by inner functions and proofs alone. An error in those can't make a clause of `run` say less. Beside these definitions the following is trusted: the kit's prover, which decides that the contracts hold, and its compiler with LLVM and the C library; the statements of the kit's library on files and standard output, by which `main` hands the words and the real files to `run`; and the definitions of the kit that are cited here (the last section names them).
+**What isn't here.** What stands in `specs/` of a crate and isn't named is said by other public calls, and what stands in its `specs/inside` is needed by inner functions and proofs alone. An error in those can't make a clause of `run_in` say less. Beside these definitions the following is trusted: the kit's prover, which decides that the contracts hold, and its compiler with LLVM and the C library; the statements of the kit's library on files and standard output, by which `main` hands the words and the real files over; and the definitions of the kit that are cited here (the last section names them).
 
 **How it is made.** `checks/trusted.py` follows the names in the clauses from file to file and writes this page. The promises and their clauses are listed there; a clause that is in none gets a section of its own. Before the page is kept it is read again: each definition on which a clause rests has to be named in it exactly once, with its file, and no other. `checks/trusted.py --check`, which `.ci/run` calls, says whether the page still holds.
 """

@@ -1,30 +1,35 @@
 # shellcheck shell=bash disable=SC2154
-# Proves the crates and builds the program, where its sources are newer than it. `rt all check` at the top goes over all crates, the
-# lowest first and several at once, and builds the libraries of those that others use; `rt run` in the program's crate then links it.
+# Proves the crates and builds both programs, where sources are newer than one of them. `rt all check` at the top goes over all crates, the
+# lowest first and several at once, and builds the libraries of those that others use; `rt run` in a program's crate then links it.
 # To run `rt lib` in several crates at once would win nothing: it locks the folders of its crate and of all crates below until it
 # ends, as each command of rt in a crate's folder does, and all crates stand on the same low ones, so that one would run at a time.
-# It is sourced by the launcher of a checkout, which sets top and program.
+# It is sourced by the launcher of a checkout, which sets top, for_bytes and for_packages.
 
 log=$top/crates/shrink_app/out/build.log
 # What the proof of a crate takes, in KB.
 memory_of_a_proof=2097152
 
 is_current() {
-    [ -x "$program" ] || return 1
-    local newer
-    newer=$(find "$top/crates.txt" "$top/crates" -path '*/out' -prune -o \
-        \( -name '*.rt' -o -name '*.antt' -o -name crates.txt \) -newer "$program" -print -quit)
-    [ -z "$newer" ]
+    local each newer
+    for each in "$for_bytes" "$for_packages"; do
+        [ -x "$each" ] || return 1
+        newer=$(find "$top/crates.txt" "$top/crates" -path '*/out' -prune -o \
+            \( -name '*.rt' -o -name '*.antt' -o -name crates.txt \) -newer "$each" -print -quit)
+        [ -z "$newer" ] || return 1
+    done
 }
 
 # Builds, unless another launcher in this checkout does: then it waits for that. What is started here has the lock too, until it ends.
 build() {
     local lock
     command -v rt >/dev/null || complain "the Rattle kit's command rt isn't on the PATH"
-    [ -f "$top/crates/shrink_app/src/main.rt" ] || complain "$top/crates/shrink_app/src/main.rt is missing"
+    local each
+    for each in shrink_app packages_app; do
+        [ -f "$top/crates/$each/src/main.rt" ] || complain "$top/crates/$each/src/main.rt is missing"
+    done
     { mkdir -p "${log%/*}" && exec {lock}>>"$log"; } || complain "$log can't be written"
     if command -v flock >/dev/null && ! flock -n "$lock"; then
-        say_line "another launcher builds the program: waiting for it"
+        say_line "another launcher builds the programs: waiting for it"
         flock "$lock"
     fi
     is_current || build_alone
@@ -33,7 +38,7 @@ build() {
 
 build_alone() {
     local build='' said='' signal failed
-    say_line "proving and building the program, which takes a while the first time"
+    say_line "proving and building the programs, which takes a while the first time"
     for signal in INT TERM HUP; do
         # shellcheck disable=SC2064
         trap "end_build $signal" "$signal"
@@ -55,12 +60,16 @@ build_alone() {
         complain "the build failed${failed:+ in $failed}: see $log"
     fi
     # what is built is current, also where only the times of sources were newer and nothing was written
-    touch -c "$program"
+    touch -c "$for_bytes" "$for_packages"
 }
 
-# Without words the program says `words` and touches no file.
+# Without words a program says `words` and touches no file.
 prove_and_link() {
-    cd "$top" && rt all check --jobs "$(side_by_side)" && cd crates/shrink_app && [ "$(rt run)" = words ]
+    cd "$top" && rt all check --jobs "$(side_by_side)" && link shrink_app && link packages_app
+}
+
+link() {
+    cd "$top/crates/$1" && [ "$(rt run)" = words ]
 }
 
 # How many crates are proved at once: one for each processor, where memory holds them.

@@ -4,19 +4,20 @@ use Rattle.std.proofs.lemmas.List.{append_assoc, append_cancel_left, append-nil,
 use Rattle.spelled.specs.Spelled.{Joined}
 use Rattle.spelled.specs.inside.Spelled.{GoesOn}
 use Rattle.spelled.proofs.Joins.{joined_agree, joined_same}
+use Rattle.dw_base.specs.declared.classes.Classes.{Classes}
 use Rattle.leb_codec.specs.Records.{SpellsRecord, HasNone, magic}
 use Rattle.leb_codec.specs.RecordLaws.{OneReading, NeverBroken, OneBreak}
 use Rattle.certificates.proofs.Ends.{unique_record, record_bytes}
 
-body_same : (bytes p q : List ℕ) → bytes ≡ magic ++ p → bytes ≡ magic ++ q → p ≡ q
-body_same bytes p q e f = append_cancel_left magic p q (sym e ∙ f)
+body_same : (classes : Classes) (bytes p q : List ℕ) → bytes ≡ magic classes ++ p → bytes ≡ magic classes ++ q → p ≡ q
+body_same classes bytes p q e f = append_cancel_left (magic classes) p q (sym e ∙ f)
 
 ended : (p q : List ℕ) → p ≡ q → p ++ [] ≡ q ++ []
 ended p q e = ap (λ z. z ++ []) e
 
 pub one_reading : OneReading
-one_reading bytes rs ss (p, j, e) (q, k, f) =
-    let same : p ≡ q = body_same bytes p q e f in
+one_reading classes bytes rs ss (p, j, e) (q, k, f) =
+    let same : p ≡ q = body_same classes bytes p q e f in
     joined_same SpellsRecord unique_record record_bytes rs ss p q [] [] j k (ended p q same) (ap length same)
 
 -- what stands at the front of bytes where nothing does
@@ -32,9 +33,9 @@ no_further S v w a b x y o h none =
     (o.values ∙ ap (λ z. v ++ z) end.0 ∙ append-nil v, o.bytes ∙ ap (λ z. a ++ z) end.1 ∙ append-nil a)
 
 pub never_broken : NeverBroken
-never_broken bytes rs place (p, j, e) (inl none) = none.0 p e
-never_broken bytes rs place (p, j, e) (inr b) =
-    let same : p ≡ b.front ++ b.rest = body_same bytes p (b.front ++ b.rest) e b.whole in
+never_broken classes bytes rs place (p, j, e) (inl none) = none.0 p e
+never_broken classes bytes rs place (p, j, e) (inr b) =
+    let same : p ≡ b.front ++ b.rest = body_same classes bytes p (b.front ++ b.rest) e b.whole in
     let size : length p ≡ length b.front + length b.rest = ap length same ∙ length-append b.front b.rest in
     let some : 0 < length b.rest = b.left in
     elim (joined_agree SpellsRecord unique_record rs b.before p b.front [] b.rest j b.spelled (append-nil p ∙ same)) [
@@ -48,15 +49,15 @@ never_broken bytes rs place (p, j, e) (inr b) =
     ]
 
 pub one_break : OneBreak
-one_break bytes place other (inl p) (inl q) = p.1 ∙ sym q.1
-one_break bytes place other (inl p) (inr b) = absurd (p.0 (b.front ++ b.rest) b.whole)
-one_break bytes place other (inr b) (inl q) = absurd (q.0 (b.front ++ b.rest) b.whole)
-one_break bytes place other (inr b) (inr d) =
-    let same : b.front ++ b.rest ≡ d.front ++ d.rest = body_same bytes (b.front ++ b.rest) (d.front ++ d.rest) b.whole d.whole in
+one_break classes bytes place other (inl p) (inl q) = p.1 ∙ sym q.1
+one_break classes bytes place other (inl p) (inr b) = absurd (p.0 (b.front ++ b.rest) b.whole)
+one_break classes bytes place other (inr b) (inl q) = absurd (q.0 (b.front ++ b.rest) b.whole)
+one_break classes bytes place other (inr b) (inr d) =
+    let same : b.front ++ b.rest ≡ d.front ++ d.rest = body_same classes bytes (b.front ++ b.rest) (d.front ++ d.rest) b.whole d.whole in
     let fronts : length b.front ≡ length d.front =
     elim (joined_agree SpellsRecord unique_record b.before d.before b.front d.front b.rest d.rest b.spelled d.spelled same) [
       | inl o ↦ ap length (sym (no_further SpellsRecord b.before d.before b.front d.front b.rest d.rest o same b.none).1)
       | inr o ↦ ap length (no_further SpellsRecord d.before b.before d.front b.front d.rest b.rest o (sym same) d.none).1
     ]
     in
-    b.at ∙ ap (λ n. length magic + n) fronts ∙ sym d.at
+    b.at ∙ ap (λ n. length (magic classes) + n) fronts ∙ sym d.at

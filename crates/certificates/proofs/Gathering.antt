@@ -6,6 +6,7 @@ use Rattle.std.proofs.lemmas.Option.{none-some, same_Some}
 use Rattle.dw_base.specs.declared.record.Run.{Run}
 use Rattle.spelled.specs.Spelled.{Joined}
 use Rattle.spelled.proofs.Joins.{joined_agree, joined_push}
+use Rattle.dw_base.specs.Classes.{every}
 use Rattle.leb_codec.specs.Records.{Number, HasNone, SpellsRun, SpellsRuns, SpellsNumbers, SpellsRecord, SpellsFile, Record, IsBroken, pairs_of, pair_count, NeighboursDiffer, magic}
 use Rattle.certificates.specs.declared.proof.Proof.{Proof}
 use Rattle.certificates.specs.Reading.{IsRead, record_of}
@@ -198,14 +199,14 @@ counted_all l at count mid numbers index end r g is =
 pub record Standing (l : List ℕ) (at : ℕ) (proofs : List Proof) : Type 0 where
   pub after : 8 ≤ at
   pub inside : at ≤ length l
-  pub begun : l ≡ magic ++ drop 8 l
+  pub begun : l ≡ magic every ++ drop 8 l
   pub spelled : Joined SpellsRecord (map record_of proofs) (take (at - 8) (drop 8 l))
 
-pub standing_none : (l : List ℕ) → (body : List ℕ) × (l ≡ magic ++ body) → Standing l 8 []
+pub standing_none : (l : List ℕ) → (body : List ℕ) × (l ≡ magic every ++ body) → Standing l 8 []
 standing_none l (body, e) =
-    let size : length l ≡ 8 + length body = ap length e ∙ length-append magic body in
+    let size : length l ≡ 8 + length body = ap length e ∙ length-append (magic every) body in
     let behind : drop 8 l ≡ body = ap (drop 8) e in
-    record { after = omega arith; inside = omega arith; begun = e ∙ ap (λ z. magic ++ z) (sym behind); spelled = stretch_none l 8 }
+    record { after = omega arith; inside = omega arith; begun = e ∙ ap (λ z. magic every ++ z) (sym behind); spelled = stretch_none l 8 }
 
 pub standing_more : (l : List ℕ) (at : ℕ) (proofs : List Proof) (proof : Proof) (next : ℕ) → Standing l at proofs → IsRead SpellsRecord l at (record_of proof) next → Standing l next (proofs ++ proof ∷ [])
 standing_more l at proofs proof next g r =
@@ -217,13 +218,13 @@ standing_more l at proofs proof next g r =
       spelled = subst (λ (z : List Record). Joined SpellsRecord z (take (next - 8) (drop 8 l))) (sym more) (subst (λ (z : List ℕ). Joined SpellsRecord (map record_of proofs ++ record_of proof ∷ []) z) (sym (stretch_join l 8 at next g.after r.after)) (joined_push SpellsRecord (map record_of proofs) (record_of proof) (take (at - 8) (drop 8 l)) (take (next - at) (drop at l)) g.spelled r.spelled));
     }
 
-pub standing_all : (l : List ℕ) (at : ℕ) (proofs : List Proof) → Standing l at proofs → length l ≤ at → SpellsFile (map record_of proofs) l
+pub standing_all : (l : List ℕ) (at : ℕ) (proofs : List Proof) → Standing l at proofs → length l ≤ at → SpellsFile every (map record_of proofs) l
 standing_all l at proofs g end =
     let size : length (drop 8 l) ≡ length l - 8 = length-drop 8 l in
     let all : take (at - 8) (drop 8 l) ≡ drop 8 l = take_all (at - 8) (drop 8 l) (omega arith) in
     (drop 8 l, subst (λ (z : List ℕ). Joined SpellsRecord (map record_of proofs) z) all g.spelled, g.begun)
 
-pub standing_broken : (l : List ℕ) (at : ℕ) (proofs : List Proof) → Standing l at proofs → at < length l → HasNone SpellsRecord (drop at l) → IsBroken l at
+pub standing_broken : (l : List ℕ) (at : ℕ) (proofs : List Proof) → Standing l at proofs → at < length l → HasNone SpellsRecord (drop at l) → IsBroken every l at
 standing_broken l at proofs g some none =
     let size : length (drop at l) ≡ length l - at = length-drop at l in
     let all : length (drop 8 l) ≡ length l - 8 = length-drop 8 l in
@@ -233,7 +234,7 @@ standing_broken l at proofs g some none =
       front = take (at - 8) (drop 8 l);
       rest = drop at l;
       spelled = g.spelled;
-      whole = g.begun ∙ ap (λ z. magic ++ z) (rest_after l 8 at g.after);
+      whole = g.begun ∙ ap (λ z. magic every ++ z) (rest_after l 8 at g.after);
       left = omega arith;
       none = none;
       at = let after : 8 ≤ at = g.after in omega arith;

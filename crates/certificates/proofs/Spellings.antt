@@ -40,7 +40,7 @@ one_record (OfList numbers) a b (p, s, e) (q, t, f) = e ∙ ap (λ z. 2 ∷ z) (
 one_record (OfLayout numbers) a b (p, s, e) (q, t, f) = e ∙ ap (λ z. 3 ∷ z) (one_numbers numbers p q s t) ∙ sym f
 
 pub one_spelling : OneSpelling
-one_spelling records a b (p, s, e) (q, t, f) = e ∙ ap (λ z. magic ++ z) (one_joined SpellsRecord one_record records p q s t) ∙ sym f
+one_spelling classes records a b (p, s, e) (q, t, f) = e ∙ ap (λ z. magic classes ++ z) (one_joined SpellsRecord one_record records p q s t) ∙ sym f
 
 -- WHAT CAN BE WRITTEN
 

@@ -1,6 +1,7 @@
 -- What the reader and the writer of records say.
 use Rattle.std.specs.Prelude.{◌≤◌, ◌-◌, ℕ, List, length, take, drop, ⊤}
 use Rattle.std.specs.List.{All}
+use Rattle.dw_base.specs.Classes.{every}
 use Rattle.leb_codec.specs.Records.{Record, OfLines, OfList, OfLayout, IsRun, AreRuns, IsBroken}
 use Rattle.certificates.specs.declared.proof.Proof.{Proof}
 use Rattle.certificates.specs.declared.proof.Proof.TheVariants.{Lines, List as AList, Layout}
@@ -27,9 +28,9 @@ CanBeWritten (Layout ranks) = ⊤
 
 -- a fault other than want of memory names the place at which the bytes break the form
 abbrev pub IsFaultOf : List ℕ → CertFault → Type 0
-IsFaultOf bytes (Broken place) = IsBroken bytes place
+IsFaultOf bytes (Broken place) = IsBroken every bytes place
 IsFaultOf bytes NoMemory = ⊤
 
 -- the bytes break the form nowhere
 abbrev pub IsWhole : List ℕ → Type 0
-IsWhole bytes = (place : ℕ) → IsBroken bytes place → ⊥
+IsWhole bytes = (place : ℕ) → IsBroken every bytes place → ⊥

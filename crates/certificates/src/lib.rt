@@ -15,7 +15,7 @@ mod writing;
 
 pub use dw_base::Run;
 pub use proof::{CertFault, Proof};
-pub use reading::{MAGIC, read};
+pub use reading::{MAGIC, begins, magic, read};
 pub use record::{ReadProof, read_record};
 pub use writing::{put_record, write};
 

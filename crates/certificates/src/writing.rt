@@ -2,6 +2,7 @@
 ghost use Rattle.std.specs.Prelude.{map, OnOk, IfOk};
 ghost use Rattle.std.specs.List.{All};
 ghost use Rattle.spelled.specs.Spelled.{Appends, Joined};
+ghost use Rattle.dw_base.specs.Classes.{every};
 ghost use Rattle.leb_codec.specs.Records.{IsRun, AreRuns, Number, SpellsRun, SpellsRuns, SpellsNumbers, SpellsRecord, SpellsFile};
 ghost use Rattle.certificates.specs.Reading.{record_of, CanBeWritten};
 
@@ -79,11 +80,11 @@ pub fn put_record(out: &mut Vec<u8>, proof: &Proof) -> Result<(), NoMemory>
     }
 }
 
-/// The record file of these records, in their order. The runs of each line program have to have all 65,280 pairs, each run
+/// The record file of these records for all members of classes, in their order. The runs of each line program have to have all 65,280 pairs, each run
 /// some of them, and neighbours different numbers. The only error is want of memory.
 pub fn write(alloc: Global, proofs: &Vec<Proof>) -> Result<Vec<u8>, NoMemory>
     requires { All CanBeWritten proofs.now.items }
-    ensures { IfOk result (λ bytes. SpellsFile (map record_of proofs.now.items) bytes.items) }
+    ensures { IfOk result (λ bytes. SpellsFile every (map record_of proofs.now.items) bytes.items) }
 {
     let mut out = Vec::new(alloc);
     out.extend_from_slice(&MAGIC)?;

@@ -4,7 +4,8 @@ use Rattle.std.specs.Prelude.{Some, None}
 use Rattle.std.specs.List.{All, AllZip}
 use Rattle.std.proofs.lemmas.Bool.{cases_lt}
 use Rattle.std.proofs.lemmas.List.{append-nil, take-append-drop, take_all, take_more, drop_all, drop_more, length-drop, length-map, length-take-le, get_or-map, get_or_append_left, get_or_default}
-use Rattle.std.proofs.lemmas.List.Elements.{All-append, All-map, All-same}
+use Rattle.std.proofs.lemmas.List.Elements.{All-append, All-map, All-same, All-weaker}
+use Rattle.dw_base.specs.declared.classes.Classes.{Classes}
 use Rattle.dw_base.specs.declared.fault.Reach.{Reach}
 use Rattle.spelled.specs.Spelled.{Joined}
 use Rattle.spelled.proofs.Joins.{joined_filled}
@@ -22,11 +23,11 @@ use Rattle.value_links.proofs.ReadingOnce.{reading_once}
 use Rattle.check_records.specs.declared.parts.Part.{Part as HeldPart}
 use Rattle.check_records.specs.declared.parts.Part.TheVariants as held
 use Rattle.check_records.specs.Accepted.{SaysOf, accepting, IsNamedBy, IsAccepted, IsFirstRefused}
-use Rattle.check_records.specs.Parts.{Part, AProgram, AList, AUnit, numbers_below, IsFor, AreParts, HasRecords}
+use Rattle.check_records.specs.Parts.{Part, AProgram, AList, AUnit, numbers_below, IsFor, AreParts, HasRecords, program_count}
 use Rattle.check_records.specs.inside.Judged.{IsVerdictOn}
 use Rattle.check_records.specs.inside.Parts.{part_of, parts_of, IsBehindPrograms}
 use Rattle.check_records.proofs.Numbers.{below_length, below_all}
-use Rattle.check_records.proofs.PartLists.{part_here, parts_once, program_count}
+use Rattle.check_records.proofs.PartLists.{part_here, parts_once, no_more, programs_held, programs_counted}
 use Rattle.check_records.proofs.SaidOnce.{IsKnown, StandOnce, says_apart}
 use Rattle.check_records.proofs.Standing.{Standing, Left, standing_none, standing_more, standing_left, left_read, left_stands}
 use Rattle.check_records.proofs.StrayLaws.{zip_push, zip_behind, judged_once}
@@ -34,15 +35,15 @@ use Rattle.check_records.proofs.StrayLaws.{zip_push, zip_behind, judged_once}
 -- THE RECORDS OF THE FIRST PARTS
 
 -- they stand up to a place, and each is accepted
-pub record AcceptedUpTo (written certificate : List ℕ) (at : ℕ) (parts : List Part) : Type 0 where
+pub record AcceptedUpTo (classes : Classes) (written certificate : List ℕ) (at : ℕ) (parts : List Part) : Type 0 where
   pub records : List Record
-  pub standing : Standing certificate at records
+  pub standing : Standing classes certificate at records
   pub each : (s : Reading) → IsReading written s → AllZip (SaysOf accepting (debug_line written) s) parts records
 
-pub accepted_start : (written certificate : List ℕ) → HasRecords written certificate → AcceptedUpTo written certificate 8 []
-accepted_start written certificate has =
+pub accepted_start : (classes : Classes) (written certificate : List ℕ) → HasRecords classes written certificate → AcceptedUpTo classes written certificate 8 []
+accepted_start classes written certificate has =
     let (body, j, e) = has.judged.spelled in
-    record { records = []; standing = standing_none certificate body e; each = λ s read. tt }
+    record { records = []; standing = standing_none classes certificate body e; each = λ s read. tt }
 
 zip_none : {A B : Type 0} (R : A → B → Type 0) (xs : List A) (ys : List B) → AllZip R xs ys → length xs ≡ 0 → ys ≡ []
 zip_none R [] [] all none = refl
@@ -71,31 +72,31 @@ front_program xs rest kind i k d inside same =
     let wrong : AProgram (get_or xs i 0) ≡ AList kind k = sym here ∙ same in
     cc
 
-not_early : (s : Reading) (parts : List Part) (kind : ListKind) (i k : ℕ) (d : Part) → AreParts s parts → i < length s.links.programs → get_or parts i d ≡ AList kind k → ⊥
-not_early s parts kind i k d are early same =
-    front_program (numbers_below (length s.links.programs)) (map (AList Ranges) are.ranges ++ (map (AList Locations) are.locations ++ map AUnit (numbers_below (length s.links.units)))) kind i k d
-    (omega (arith, early, below_length (length s.links.programs))) (ap (λ (z : List Part). get_or z i d) (sym are.whole) ∙ same)
+not_early : (classes : Classes) (s : Reading) (parts : List Part) (kind : ListKind) (i k : ℕ) (d : Part) → AreParts classes s parts → i < program_count classes s → get_or parts i d ≡ AList kind k → ⊥
+not_early classes s parts kind i k d are early same =
+    front_program (numbers_below (program_count classes s)) (map (AList Ranges) are.ranges ++ (map (AList Locations) are.locations ++ map AUnit (numbers_below (length s.links.units)))) kind i k d
+    (omega (arith, early, below_length (program_count classes s))) (ap (λ (z : List Part). get_or z i d) (sym are.whole) ∙ same)
 
-behind_if : (s : Reading) (parts : List Part) (part : HeldPart) (programs i : ℕ) (d : Part) → AreParts s parts → programs ≡ length s.links.programs → get_or parts i d ≡ part_of part → IsBehindPrograms part programs i
-behind_if s parts (held.Program p) programs i d are count same = tt
-behind_if s parts (held.Unit u) programs i d are count same = tt
-behind_if s parts (held.List kind k) programs i d are count same = elim (cases_lt i programs) [
-  | inl early ↦ absurd (not_early s parts kind i k d are (omega (arith, early, count)) same)
+behind_if : (classes : Classes) (s : Reading) (parts : List Part) (part : HeldPart) (programs i : ℕ) (d : Part) → AreParts classes s parts → programs ≡ program_count classes s → get_or parts i d ≡ part_of part → IsBehindPrograms part programs i
+behind_if classes s parts (held.Program p) programs i d are count same = tt
+behind_if classes s parts (held.Unit u) programs i d are count same = tt
+behind_if classes s parts (held.List kind k) programs i d are count same = elim (cases_lt i programs) [
+  | inl early ↦ absurd (not_early classes s parts kind i k d are (omega (arith, early, count)) same)
   | inr late ↦ late
 ]
 
-module _ (world : World) (some : (reach : Reach) × IsWorldOf world.image reach world) (certificate : List ℕ) (has : HasRecords world.image certificate) (items kept : List HeldPart) (same : items ≡ kept) (are : (s : Reading) → IsReading world.image s → AreParts s (parts_of kept)) (i at : ℕ) (m : AcceptedUpTo world.image certificate at (take i (parts_of items))) where
-  parts_are : (s : Reading) → IsReading world.image s → AreParts s (parts_of items)
-  parts_are s read = subst (λ (z : List HeldPart). AreParts s (parts_of z)) (sym same) (are s read)
+module _ (classes : Classes) (world : World) (some : (reach : Reach) × IsWorldOf world.image reach world) (certificate : List ℕ) (has : HasRecords classes world.image certificate) (items kept : List HeldPart) (same : items ≡ kept) (are : (s : Reading) → IsReading world.image s → AreParts classes s (parts_of kept)) (i at : ℕ) (m : AcceptedUpTo classes world.image certificate at (take i (parts_of items))) where
+  parts_are : (s : Reading) → IsReading world.image s → AreParts classes s (parts_of items)
+  parts_are s read = subst (λ (z : List HeldPart). AreParts classes s (parts_of z)) (sym same) (are s read)
 
   count : length (parts_of items) ≡ length items
   count = length-map items part_of
 
   rest : Left certificate at m.records has.records
-  rest = standing_left certificate at m.records has.records m.standing has.judged.spelled
+  rest = standing_left classes certificate at m.records has.records m.standing has.judged.spelled
 
   parts_same : has.parts ≡ parts_of items
-  parts_same = parts_once has.s has.parts (parts_of items) has.judged.of_file (parts_are has.s has.judged.read)
+  parts_same = parts_once classes has.s has.parts (parts_of items) has.judged.of_file (parts_are has.s has.judged.read)
 
   kinds : AllZip IsFor (drop i (parts_of items)) rest.behind
   kinds =
@@ -119,9 +120,9 @@ module _ (world : World) (some : (reach : Reach) × IsWorldOf world.image reach 
     front : drop i (parts_of items) ≡ part_of (get_or items i d) ∷ drop (i + 1) (parts_of items)
     front = drop_more (parts_of items) i (part_of (get_or items i d)) (omega (arith, inside, count)) ∙ ap (λ (z : Part). z ∷ drop (i + 1) (parts_of items)) (sym here)
 
-    pub next_behind : (programs : ℕ) → programs ≡ length world.programs → IsBehindPrograms (get_or items i d) programs i
+    pub next_behind : (programs : ℕ) → programs ≡ programs_held classes world → IsBehindPrograms (get_or items i d) programs i
     next_behind programs is =
-        behind_if some.1.r (parts_of items) (get_or items i d) programs i (part_of (get_or items i d)) (parts_are some.1.r some.1.read) (is ∙ program_count world some.0 some.1) (sym here)
+        behind_if classes some.1.r (parts_of items) (get_or items i d) programs i (part_of (get_or items i d)) (parts_are some.1.r some.1.read) (is ∙ programs_counted classes world some.0 some.1) (sym here)
 
     module _ (one : Record) (next : ℕ) (read : IsRead SpellsRecord certificate at one next) where
       found : (more : List Record) × (rest.behind ≡ one ∷ more)
@@ -131,20 +132,20 @@ module _ (world : World) (some : (reach : Reach) × IsWorldOf world.image reach 
       pub next_kind : IsFor (part_of (get_or items i d)) one
       next_kind = zip_first IsFor (drop i (parts_of items)) rest.behind (part_of (get_or items i d)) one (drop (i + 1) (parts_of items)) found.0 front found.1 kinds
 
-      pub next_accepted : IsVerdictOn world.image (part_of (get_or items i d)) one None → AcceptedUpTo world.image certificate next (take (i + 1) (parts_of items))
+      pub next_accepted : IsVerdictOn world.image (part_of (get_or items i d)) one None → AcceptedUpTo classes world.image certificate next (take (i + 1) (parts_of items))
       next_accepted given =
           let more : take (i + 1) (parts_of items) ≡ take i (parts_of items) ++ part_of (get_or items i d) ∷ [] = take_more (parts_of items) i (part_of (get_or items i d)) (omega (arith, inside, count)) ∙ ap (λ (z : Part). take i (parts_of items) ++ z ∷ []) (sym here) in
           record {
             records = m.records ++ one ∷ [];
-            standing = standing_more certificate at m.records one next m.standing read;
+            standing = standing_more classes certificate at m.records one next m.standing read;
             each = λ s reading. subst (λ (z : List Part). AllZip (SaysOf accepting (debug_line world.image) s) z (m.records ++ one ∷ [])) (sym more)
                 (zip_push (SaysOf accepting (debug_line world.image) s) (take i (parts_of items)) m.records (part_of (get_or items i d)) one (m.each s reading) (given s reading));
           }
 
-      pub next_refused : (n : ℕ) (why : Reason) (programs : ℕ) → programs ≡ length world.programs → IsVerdictOn world.image (part_of (get_or items i d)) one (Some n) → ((s : Reading) → length s.links.programs ≡ programs → IsNamedBy s (part_of (get_or items i d)) i n why) → IsFirstRefused world.image certificate why
+      pub next_refused : (n : ℕ) (why : Reason) (programs : ℕ) → programs ≡ programs_held classes world → IsVerdictOn world.image (part_of (get_or items i d)) one (Some n) → ((s : Reading) → program_count classes s ≡ programs → IsNamedBy classes s (part_of (get_or items i d)) i n why) → IsFirstRefused classes world.image certificate why
       next_refused n why programs is against named =
           let reading : some.1.r ≡ has.s = reading_once world.image some.1.r has.s some.1.read has.judged.read in
-          let counted : length has.s.links.programs ≡ programs = ap (λ (z : Reading). length z.links.programs) (sym reading) ∙ sym (is ∙ program_count world some.0 some.1) in
+          let counted : program_count classes has.s ≡ programs = ap (λ (z : Reading). program_count classes z) (sym reading) ∙ sym (is ∙ programs_counted classes world some.0 some.1) in
           let before : length (take i (parts_of items)) ≡ i = length-take-le i (parts_of items) (omega (arith, inside, count)) in
           record {
             s = has.s;
@@ -163,11 +164,11 @@ module _ (world : World) (some : (reach : Reach) × IsWorldOf world.image reach 
             accepted = m.each has.s has.judged.read;
             n = n;
             refused = against has.s has.judged.read;
-            named = subst (λ (k : ℕ). IsNamedBy has.s (part_of (get_or items i d)) k n why) (sym before) (named has.s counted);
+            named = subst (λ (k : ℕ). IsNamedBy classes has.s (part_of (get_or items i d)) k n why) (sym before) (named has.s counted);
           }
 
   -- all are accepted
-  pub all_accepted : length items ≤ i → IsAccepted world.image certificate
+  pub all_accepted : length items ≤ i → IsAccepted classes world.image certificate
   all_accepted past =
       let none : rest.behind ≡ [] = zip_none IsFor (drop i (parts_of items)) rest.behind kinds (ap length (drop_all i (parts_of items) (omega (arith, past, count)))) in
       let records : has.records ≡ m.records = rest.whole ∙ ap (λ (z : List Record). m.records ++ z) none ∙ append-nil m.records in
@@ -183,27 +184,27 @@ module _ (world : World) (some : (reach : Reach) × IsWorldOf world.image reach 
 
 -- NEVER BOTH
 
-parts_known : (s : Reading) (parts : List Part) → AreParts s parts → All (IsKnown s) parts
-parts_known s parts are =
-    let p : All (IsKnown s) (map AProgram (numbers_below (length s.links.programs))) = All-map (IsKnown s) AProgram (numbers_below (length s.links.programs)) (below_all (length s.links.programs)) in
-    let q : All (IsKnown s) (map (AList Ranges) are.ranges) = All-map (IsKnown s) (AList Ranges) are.ranges (λ k d inside. (are.unfrozen_ranges.those k d inside).0) in
-    let r : All (IsKnown s) (map (AList Locations) are.locations) = All-map (IsKnown s) (AList Locations) are.locations (λ k d inside. (are.unfrozen_locations.those k d inside).0) in
+parts_known : (classes : Classes) (s : Reading) (parts : List Part) → AreParts classes s parts → All (IsKnown s) parts
+parts_known classes s parts are =
+    let p : All (IsKnown s) (map AProgram (numbers_below (program_count classes s))) = All-map (IsKnown s) AProgram (numbers_below (program_count classes s)) (All-weaker (λ (i : ℕ). i < program_count classes s) (λ (i : ℕ). i < length s.links.programs) (λ i less. omega (arith, less, no_more classes.lines (length s.links.programs))) (numbers_below (program_count classes s)) (below_all (program_count classes s))) in
+    let q : All (IsKnown s) (map (AList Ranges) are.ranges) = All-map (IsKnown s) (AList Ranges) are.ranges (λ k d inside. (are.searched_ranges.those k d inside).0) in
+    let r : All (IsKnown s) (map (AList Locations) are.locations) = All-map (IsKnown s) (AList Locations) are.locations (λ k d inside. (are.searched_locations.those k d inside).0) in
     let u : All (IsKnown s) (map AUnit (numbers_below (length s.links.units))) = All-map (IsKnown s) AUnit (numbers_below (length s.links.units)) (below_all (length s.links.units)) in
     let last : All (IsKnown s) (map (AList Locations) are.locations ++ map AUnit (numbers_below (length s.links.units))) = All-append (IsKnown s) (map (AList Locations) are.locations) (map AUnit (numbers_below (length s.links.units))) r u in
     let more : All (IsKnown s) (map (AList Ranges) are.ranges ++ (map (AList Locations) are.locations ++ map AUnit (numbers_below (length s.links.units)))) = All-append (IsKnown s) (map (AList Ranges) are.ranges) (map (AList Locations) are.locations ++ map AUnit (numbers_below (length s.links.units))) q last in
-    All-same (IsKnown s) parts (map AProgram (numbers_below (length s.links.programs)) ++ (map (AList Ranges) are.ranges ++ (map (AList Locations) are.locations ++ map AUnit (numbers_below (length s.links.units))))) are.whole
-    (All-append (IsKnown s) (map AProgram (numbers_below (length s.links.programs))) (map (AList Ranges) are.ranges ++ (map (AList Locations) are.locations ++ map AUnit (numbers_below (length s.links.units)))) p more)
+    All-same (IsKnown s) parts (map AProgram (numbers_below (program_count classes s)) ++ (map (AList Ranges) are.ranges ++ (map (AList Locations) are.locations ++ map AUnit (numbers_below (length s.links.units))))) are.whole
+    (All-append (IsKnown s) (map AProgram (numbers_below (program_count classes s))) (map (AList Ranges) are.ranges ++ (map (AList Locations) are.locations ++ map AUnit (numbers_below (length s.links.units)))) p more)
 
 middle_known : (P : Part → Type 0) (before behind : List Part) (part : Part) → All P (before ++ part ∷ behind) → P part
 middle_known P [] behind part all = all 0 part (omega arith)
 middle_known P (first ∷ before) behind part all = middle_known P before behind part (λ k d inside. all (suc k) d (omega (arith, inside)))
 
-pub refused_apart : (written certificate : List ℕ) (why : Reason) → ((s : Reading) → IsReading written s → (u : ℕ) → u < length s.links.units → StandOnce s u) → IsFirstRefused written certificate why → IsAccepted written certificate → ⊥
-refused_apart written certificate why once against given =
-    let (one, parts, records) = judged_once written certificate given.s against.s given.parts against.parts given.records against.records given.judged against.judged in
+pub refused_apart : (classes : Classes) (written certificate : List ℕ) (why : Reason) → ((s : Reading) → IsReading written s → (u : ℕ) → u < length s.links.units → StandOnce s u) → IsFirstRefused classes written certificate why → IsAccepted classes written certificate → ⊥
+refused_apart classes written certificate why once against given =
+    let (one, parts, records) = judged_once classes written certificate given.s against.s given.parts against.parts given.records against.records given.judged against.judged in
     let first : AllZip (SaysOf accepting (debug_line written) against.s) given.parts given.records = subst (λ (z : Reading). AllZip (SaysOf accepting (debug_line written) z) given.parts given.records) one given.each in
     let second : AllZip (SaysOf accepting (debug_line written) against.s) (against.parts_before ++ against.part ∷ against.parts_behind) given.records = subst (λ (z : List Part). AllZip (SaysOf accepting (debug_line written) against.s) z given.records) (parts ∙ against.whole) first in
     let third : AllZip (SaysOf accepting (debug_line written) against.s) (against.parts_before ++ against.part ∷ against.parts_behind) (against.records_before ++ against.one ∷ against.records_behind) = subst (λ (z : List Record). AllZip (SaysOf accepting (debug_line written) against.s) (against.parts_before ++ against.part ∷ against.parts_behind) z) (records ∙ against.split) second in
     let said = zip_behind (SaysOf accepting (debug_line written) against.s) (SaysOf accepting (debug_line written) against.s) against.parts_before (against.part ∷ against.parts_behind) against.records_before (against.one ∷ against.records_behind) against.accepted third in
-    let known : IsKnown against.s against.part = middle_known (IsKnown against.s) against.parts_before against.parts_behind against.part (All-same (IsKnown against.s) (against.parts_before ++ against.part ∷ against.parts_behind) against.parts (sym against.whole) (parts_known against.s against.parts against.judged.of_file)) in
+    let known : IsKnown against.s against.part = middle_known (IsKnown against.s) against.parts_before against.parts_behind against.part (All-same (IsKnown against.s) (against.parts_before ++ against.part ∷ against.parts_behind) against.parts (sym against.whole) (parts_known classes against.s against.parts against.judged.of_file)) in
     says_apart written against.s against.part against.one against.n against.judged.read (once against.s against.judged.read) known said.0 against.refused

@@ -2,6 +2,7 @@
 use Rattle.std.proofs.Common.{◌≡◌, ◌≤◌, ◌<◌, ◌+◌, ◌-◌, ◌∙◌, inl, inr, ℕ, List, [], ◌∷◌, ◌++◌, length, take, drop, sym, ap, subst, refl, arith, true≢false, ◌↔◌}
 use Rattle.std.specs.Prelude.{Some, None, IsNone}
 use Rattle.std.proofs.lemmas.List.{append_assoc, append_cancel_left, append-nil, length-append, length-drop, drop_all, nil_from_length}
+use Rattle.dw_base.specs.declared.classes.Classes.{Classes}
 use Rattle.spelled.specs.Spelled.{Joined}
 use Rattle.spelled.proofs.Joins.{joined_agree, joined_push, joined_filled}
 use Rattle.spelled.proofs.Parts.{length_part}
@@ -11,37 +12,37 @@ use Rattle.certificates.proofs.Ends.{unique_record, record_bytes}
 use Rattle.certificates.proofs.Stretches.{rest_after}
 
 -- the first bytes and records stand up to a place
-pub record Standing (l : List ℕ) (at : ℕ) (records : List Record) : Type 0 where
+pub record Standing (classes : Classes) (l : List ℕ) (at : ℕ) (records : List Record) : Type 0 where
   pub front : List ℕ
-  pub whole : l ≡ magic ++ (front ++ drop at l)
+  pub whole : l ≡ magic classes ++ (front ++ drop at l)
   pub spelled : Joined SpellsRecord records front
   pub place : at ≡ 8 + length front
 
-pub standing_none : (l body : List ℕ) → l ≡ magic ++ body → Standing l 8 []
-standing_none l body whole = record { front = []; whole = whole ∙ ap (λ (z : List ℕ). magic ++ z) (sym (ap (drop 8) whole)); spelled = refl; place = refl }
+pub standing_none : (classes : Classes) (l body : List ℕ) → l ≡ magic classes ++ body → Standing classes l 8 []
+standing_none classes l body whole = record { front = []; whole = whole ∙ ap (λ (z : List ℕ). magic classes ++ z) (sym (ap (drop 8) whole)); spelled = refl; place = refl }
 
-pub standing_inside : (l : List ℕ) (at : ℕ) (records : List Record) → Standing l at records → at ≤ length l
-standing_inside l at records s =
-    let all : length l ≡ 8 + length (s.front ++ drop at l) = ap length s.whole ∙ length-append magic (s.front ++ drop at l) in
+pub standing_inside : (classes : Classes) (l : List ℕ) (at : ℕ) (records : List Record) → Standing classes l at records → at ≤ length l
+standing_inside classes l at records s =
+    let all : length l ≡ 8 + length (s.front ++ drop at l) = ap length s.whole ∙ length-append (magic classes) (s.front ++ drop at l) in
     omega (arith, all, length-append s.front (drop at l), s.place)
 
-pub standing_more : (l : List ℕ) (at : ℕ) (records : List Record) (one : Record) (next : ℕ) → Standing l at records → IsRead SpellsRecord l at one next → Standing l next (records ++ one ∷ [])
-standing_more l at records one next s r =
+pub standing_more : (classes : Classes) (l : List ℕ) (at : ℕ) (records : List Record) (one : Record) (next : ℕ) → Standing classes l at records → IsRead SpellsRecord l at one next → Standing classes l next (records ++ one ∷ [])
+standing_more classes l at records one next s r =
     let part : List ℕ = take (next - at) (drop at l) in
     let size : length part ≡ next - at = length_part at (next - at) l (omega (arith, r.after, r.inside)) in
     let sum : length (s.front ++ part) ≡ length s.front + length part = length-append s.front part in
     record {
       front = s.front ++ part;
-      whole = s.whole ∙ ap (λ (z : List ℕ). magic ++ (s.front ++ z)) (rest_after l at next r.after) ∙ ap (λ (z : List ℕ). magic ++ z) (sym (append_assoc s.front part (drop next l)));
+      whole = s.whole ∙ ap (λ (z : List ℕ). magic classes ++ (s.front ++ z)) (rest_after l at next r.after) ∙ ap (λ (z : List ℕ). magic classes ++ z) (sym (append_assoc s.front part (drop next l)));
       spelled = joined_push SpellsRecord records one s.front part s.spelled r.spelled;
       place = omega (arith, s.place, size, sum, r.after);
     }
 
-pub standing_all : (l : List ℕ) (at : ℕ) (records : List Record) → Standing l at records → length l ≤ at → SpellsFile records l
-standing_all l at records s end = (s.front, s.spelled, s.whole ∙ ap (λ (z : List ℕ). magic ++ (s.front ++ z)) (drop_all at l end) ∙ ap (λ (z : List ℕ). magic ++ z) (append-nil s.front))
+pub standing_all : (classes : Classes) (l : List ℕ) (at : ℕ) (records : List Record) → Standing classes l at records → length l ≤ at → SpellsFile classes records l
+standing_all classes l at records s end = (s.front, s.spelled, s.whole ∙ ap (λ (z : List ℕ). magic classes ++ (s.front ++ z)) (drop_all at l end) ∙ ap (λ (z : List ℕ). magic classes ++ z) (append-nil s.front))
 
-pub standing_broken : (l : List ℕ) (at : ℕ) (records : List Record) → Standing l at records → at < length l → HasNone SpellsRecord (drop at l) → IsBroken l at
-standing_broken l at records s inside none = inr (record {
+pub standing_broken : (classes : Classes) (l : List ℕ) (at : ℕ) (records : List Record) → Standing classes l at records → at < length l → HasNone SpellsRecord (drop at l) → IsBroken classes l at
+standing_broken classes l at records s inside none = inr (record {
   before = records;
   front = s.front;
   rest = drop at l;
@@ -64,9 +65,9 @@ nothing_more : (more : List Record) (tail : List ℕ) → Joined SpellsRecord mo
 nothing_more [] tail j size = refl
 nothing_more (one ∷ more) tail j size = let filled : 0 < length tail = joined_filled SpellsRecord record_bytes one more tail j in absurd (omega (arith, filled, size))
 
-pub standing_left : (l : List ℕ) (at : ℕ) (records all : List Record) → Standing l at records → SpellsFile all l → Left l at records all
-standing_left l at records all s (body, j, e) =
-    let same : body ≡ s.front ++ drop at l = append_cancel_left magic body (s.front ++ drop at l) (sym e ∙ s.whole) in
+pub standing_left : (classes : Classes) (l : List ℕ) (at : ℕ) (records all : List Record) → Standing classes l at records → SpellsFile classes all l → Left l at records all
+standing_left classes l at records all s (body, j, e) =
+    let same : body ≡ s.front ++ drop at l = append_cancel_left (magic classes) body (s.front ++ drop at l) (sym e ∙ s.whole) in
     elim (joined_agree SpellsRecord unique_record records all s.front body (drop at l) [] s.spelled j (sym (append-nil body ∙ same))) [
       | inl o ↦
           let tail : drop at l ≡ o.tail = append_cancel_left s.front (drop at l) o.tail (sym same ∙ o.bytes) in

@@ -2,6 +2,7 @@
 -- the sizes that they have in the file.
 use Rattle.std.specs.Prelude.{◌≡◌, ◌-◌, ◌∷◌, ◌++◌, ℕ, List, length}
 use Rattle.std.specs.List.{AllZip}
+use Rattle.dw_base.specs.declared.classes.Classes.{Classes}
 use Rattle.dw_base.specs.declared.record.Run.{Run}
 use Rattle.leb_codec.specs.Layout.{SlotRow, AcceptsLayout}
 use Rattle.leb_codec.specs.Records.{Record, OfLines, OfList, OfLayout}
@@ -21,7 +22,7 @@ use Rattle.value_links.specs.Reading.{Reading, program_at}
 use Rattle.value_links.specs.Sections.{debug_line}
 use Rattle.same_meaning.specs.declared.reason.Reason.{Reason}
 use Rattle.same_meaning.specs.declared.reason.Reason.TheVariants as reason
-use Rattle.check_records.specs.Parts.{Part, AProgram, AList, AUnit, IsFor, IsJudged}
+use Rattle.check_records.specs.Parts.{Part, AProgram, AList, AUnit, IsFor, IsJudged, program_count}
 
 -- How records are judged. The runs of a line number program: by its header, its rows, and how many bytes its opcodes have. The potentials of
 -- a list: by .debug_addr, its context, what its items cover, and how many bytes it has without its expressions and their lengths. The ranks of
@@ -57,27 +58,27 @@ refusing n = record {
 -- THE CERTIFICATE
 
 -- the certificate has a record for each part, and each is accepted
-pub record IsAccepted (written certificate : List ℕ) : Type 0 where
+pub record IsAccepted (classes : Classes) (written certificate : List ℕ) : Type 0 where
   pub s : Reading
   pub parts : List Part
   pub records : List Record
-  pub judged : IsJudged written certificate s parts records
+  pub judged : IsJudged classes written certificate s parts records
   pub each : AllZip (SaysOf accepting (debug_line written) s) parts records
 
 -- Why it isn't, where so many parts stand before the one whose record is refused: the number of a program and that of a pair; that of a list
--- among those that aren't frozen, range lists first, and that of an item; or that of a unit and that of a slot. The count of items stands for
+-- among those that aren't kept, range lists first, and that of an item; or that of a unit and that of a slot. The count of items stands for
 -- the size of a list, 0 for another count of potentials, and the last slot, or 0 where there is none, for ranks that are left over.
-abbrev pub IsNamedBy : Reading → Part → ℕ → ℕ → Reason → Type 0
-IsNamedBy s (AProgram i) before n why = why ≡ reason.Line i n
-IsNamedBy s (AList kind k) before n why = why ≡ reason.List (before - length s.links.programs) n
-IsNamedBy s (AUnit u) before n why = why ≡ reason.Slot u n
+abbrev pub IsNamedBy : Classes → Reading → Part → ℕ → ℕ → Reason → Type 0
+IsNamedBy classes s (AProgram i) before n why = why ≡ reason.Line i n
+IsNamedBy classes s (AList kind k) before n why = why ≡ reason.List (before - program_count classes s) n
+IsNamedBy classes s (AUnit u) before n why = why ≡ reason.Slot u n
 
 -- The record of a part is the first that isn't accepted.
-pub record IsFirstRefused (written certificate : List ℕ) (why : Reason) : Type 0 where
+pub record IsFirstRefused (classes : Classes) (written certificate : List ℕ) (why : Reason) : Type 0 where
   pub s : Reading
   pub parts : List Part
   pub records : List Record
-  pub judged : IsJudged written certificate s parts records
+  pub judged : IsJudged classes written certificate s parts records
   pub each : AllZip IsFor parts records
   pub parts_before : List Part
   pub part : Part
@@ -90,4 +91,4 @@ pub record IsFirstRefused (written certificate : List ℕ) (why : Reason) : Type
   pub accepted : AllZip (SaysOf accepting (debug_line written) s) parts_before records_before
   pub n : ℕ
   pub refused : SaysOf (refusing n) (debug_line written) s part one
-  pub named : IsNamedBy s part (length parts_before) n why
+  pub named : IsNamedBy classes s part (length parts_before) n why

@@ -1,28 +1,25 @@
 // Whether bytes are a record file.
 ghost use Rattle.std.specs.Prelude.{◌≡◌, ◌++◌, ◌↔◌, ℕ, List, IsTrue, IfOk, IfSome, IsNone};
-ghost use Rattle.leb_codec.specs.Records.{IsBroken, magic};
+ghost use Rattle.leb_codec.specs.Records.{IsBroken};
 ghost use Rattle.check_records.specs.Strays.{IsRecordFile};
 
-use certificates::{MAGIC, read_record};
-use dw_base::NoMemory;
+use certificates::{MAGIC, begins, read_record};
+use dw_base::{Classes, NoMemory};
 use std::alloc::Global;
 
-// The bytes begin as a record file does.
-fn begins(bytes: &[u8]) -> bool
-    ensures { IsTrue result ↔ ((body : List ℕ) × (bytes.now ≡ magic ++ body)) }
-{
-    bytes.len() >= MAGIC.len() && bytes[..MAGIC.len()] == MAGIC[..]
-}
-
-/// Whether a certificate is a record file: None where it is, and else the place, counted from 0, of the first byte of the first record that
+/// Whether a certificate is a record file for these classes: None where it is, and else the place, counted from 0, of the first byte of the first record that
 /// isn't one, or 0 where the first eight bytes aren't those of a record file.
 ///
 /// One record is held at a time. The only error is want of memory.
-pub fn first_broken(alloc: Global, certificate: &[u8]) -> Result<Option<u64>, NoMemory>
-    ensures whole { IfOk result (λ place. IsNone place ↔ IsRecordFile certificate.now) }
-    ensures broken { IfOk result (λ place. IfSome place (IsBroken certificate.now)) }
+pub fn first_broken(
+    alloc: Global,
+    classes: Classes,
+    certificate: &[u8],
+) -> Result<Option<u64>, NoMemory>
+    ensures whole { IfOk result (λ place. IsNone place ↔ IsRecordFile classes certificate.now) }
+    ensures broken { IfOk result (λ place. IfSome place (IsBroken classes certificate.now)) }
 {
-    if !begins(certificate) {
+    if !begins(classes, certificate) {
         return Ok(Some(0));
     }
     let mut at = MAGIC.len();

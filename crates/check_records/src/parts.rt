@@ -1,5 +1,5 @@
 // The parts of a file that have records.
-ghost use Rattle.std.specs.Prelude.{◌≡◌, ◌<◌, ◌^◌, ◌↔◌, ℕ, length, IsTrue, IfOk, OnOk};
+ghost use Rattle.std.specs.Prelude.{◌≡◌, ◌<◌, ◌^◌, ◌↔◌, ℕ, length, if◌then◌else◌, IsTrue, IfOk, OnOk};
 ghost use Rattle.dw_base.specs.declared.fault.Reach.{Reach};
 ghost use Rattle.certificates.specs.Reading.{record_of};
 ghost use Rattle.value_links.specs.Reading.{Reading};
@@ -10,7 +10,7 @@ ghost use Rattle.check_records.specs.inside.Parts.{part_of, parts_of, AreThere};
 ghost use Rattle.check_records.specs.inside.Pushed.{AddsAllLists};
 
 use certificates::Proof;
-use dw_base::NoMemory;
+use dw_base::{Classes, NoMemory};
 use list_model::ListKind;
 use std::alloc::Global;
 use value_links::World;
@@ -23,7 +23,7 @@ const MOST_PARTS: usize = 0xffff_ffff;
 pub(crate) enum Part {
     /// The line number program with a number.
     Program(u32),
-    /// The list of a kind with a number, which isn't frozen. Frozen lists count too.
+    /// The list of a kind with a number, which isn't kept. Those that are count too.
     List(ListKind, u32),
     /// The unit with a number.
     Unit(u32),
@@ -43,34 +43,54 @@ impl Part {
     }
 }
 
-// Appends the lists of a kind that aren't frozen.
-fn push_lists(parts: &mut Vec<Part>, world: &World<'_>, kind: ListKind) -> Result<(), NoMemory>
+// Appends the lists of a kind that aren't kept.
+fn push_lists(
+    parts: &mut Vec<Part>,
+    classes: Classes,
+    world: &World<'_>,
+    kind: ListKind,
+) -> Result<(), NoMemory>
     requires { (reach : Reach) × IsWorldOf world.now.image reach world.now }
-    ensures { OnOk result (AddsAllLists world.now kind parts.old.items parts.new.items) }
+    ensures { OnOk result (AddsAllLists classes world.now kind parts.old.items parts.new.items) }
 {
     let lists = world.lists(kind);
     for number in 0..lists.len() {
-        if !lists.is_frozen(number) {
+        if classes.lists && !lists.is_frozen(number) {
             parts.push(Part::List(kind, number as u32))?;
         }
     }
     Ok(())
 }
 
-/// The parts of a written file, in the order of their records: the line number programs, the range lists and then the location lists that
-/// aren't frozen, and the units. More than 2^32 - 1 of them are answered as want of memory: their records alone would have more than 8 GB.
-pub(crate) fn parts_of_file(alloc: Global, world: &World<'_>) -> Result<Vec<Part>, NoMemory>
+// How many line number programs have records.
+pub(crate) fn searched_programs(classes: Classes, world: &World<'_>) -> usize
+    ensures { result ≡ (if classes.lines then length world.now.programs else 0) }
+{
+    if classes.lines {
+        world.programs().len()
+    } else {
+        0
+    }
+}
+
+/// The parts of a written file, in the order of their records: the line number programs, unless the classes keep them, the range lists and then
+/// the location lists that aren't kept, and the units. More than 2^32 - 1 of them are answered as want of memory: their records alone would have more than 8 GB.
+pub(crate) fn parts_of_file(
+    alloc: Global,
+    classes: Classes,
+    world: &World<'_>,
+) -> Result<Vec<Part>, NoMemory>
     requires { (reach : Reach) × IsWorldOf world.now.image reach world.now }
-    ensures parts { IfOk result (λ parts. (s : Reading) → IsReading world.now.image s → AreParts s (parts_of parts.items)) }
+    ensures parts { IfOk result (λ parts. (s : Reading) → IsReading world.now.image s → AreParts classes s (parts_of parts.items)) }
     ensures there { IfOk result (λ parts. AreThere world.now parts.items) }
     ensures few { IfOk result (λ parts. length parts.items < 2 ^ 32) }
 {
     let mut parts = Vec::new(alloc);
-    for number in 0..world.programs().len() {
+    for number in 0..searched_programs(classes, world) {
         parts.push(Part::Program(number as u32))?;
     }
-    push_lists(&mut parts, world, ListKind::Ranges)?;
-    push_lists(&mut parts, world, ListKind::Locations)?;
+    push_lists(&mut parts, classes, world, ListKind::Ranges)?;
+    push_lists(&mut parts, classes, world, ListKind::Locations)?;
     for number in 0..world.units().len() {
         parts.push(Part::Unit(number as u32))?;
     }

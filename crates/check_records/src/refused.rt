@@ -1,20 +1,21 @@
 // Whether the records of a certificate are accepted.
 ghost use Rattle.std.specs.Prelude.{◌≡◌, ◌↔◌, length, IfOk, IfSome, IsNone};
+ghost use Rattle.dw_base.specs.declared.classes.Classes.{Classes as AnyClasses};
 ghost use Rattle.dw_base.specs.declared.fault.Reach.{Reach};
 ghost use Rattle.certificates.specs.Reading.{record_of, CanBeWritten};
 ghost use Rattle.value_links.specs.World.{IsWorldOf};
 ghost use Rattle.check_records.specs.Accepted.{IsAccepted, IsFirstRefused, IsNamedBy};
-ghost use Rattle.check_records.specs.Parts.{HasRecords, IsFor};
+ghost use Rattle.check_records.specs.Parts.{HasRecords, IsFor, program_count};
 ghost use Rattle.check_records.specs.inside.Judged.{IsVerdictOn, IsJudgeOf};
 ghost use Rattle.check_records.specs.inside.Parts.{part_of, IsThere, IsBehindPrograms};
 ghost use Rattle.value_links.specs.Reading.{Reading};
 
 use crate::lists::judge_list;
-use crate::parts::{Part, parts_of_file};
+use crate::parts::{Part, parts_of_file, searched_programs};
 use crate::programs::judge_program;
 use crate::units::judge_unit;
 use certificates::{MAGIC, Proof, read_record};
-use dw_base::NoMemory;
+use dw_base::{Classes, NoMemory};
 use list_lookup::{Owned, TableMaps, owned_lists};
 use same_meaning::Reason;
 use std::alloc::Global;
@@ -79,7 +80,7 @@ impl Judge {
 // Why a file isn't accepted, of whose parts the one with a number isn't, by its pair, item or slot. So many parts are programs.
 fn reason_of(programs: u32, number: u32, part: Part, n: u32) -> Reason
     requires { IsBehindPrograms part programs number }
-    ensures { (s : Reading) → length s.links.programs ≡ programs → IsNamedBy s (part_of part) number n result }
+    ensures { (classes : AnyClasses) (s : Reading) → program_count classes s ≡ programs → IsNamedBy classes s (part_of part) number n result }
 {
     match part {
         Part::Program(program) => Reason::Line(program, n),
@@ -91,22 +92,23 @@ fn reason_of(programs: u32, number: u32, part: Part, n: u32) -> Reason
 /// Whether each record of a certificate, which has those of a written file's parts, is accepted: None where each is, and else the first part
 /// whose record isn't, and by what: the pair of line_base and line_range of a line number program (DWARF 5 section 6.2), the item of a list
 /// (sections 2.6.2 and 2.17.3), or the slot of a unit (section 7.5). All count from 0, and lists go on from range lists to location lists, those
-/// that are frozen left out.
+/// that are kept left out.
 ///
 /// One record is held at a time, with the rows, the items or the slots of its part. The only error is want of memory.
 pub fn first_refused(
     alloc: Global,
+    classes: Classes,
     written: &World<'_>,
     certificate: &[u8],
 ) -> Result<Option<Reason>, NoMemory>
     requires world { (reach : Reach) × IsWorldOf written.now.image reach written.now }
-    requires each { HasRecords written.now.image certificate.now }
-    ensures accepted { IfOk result (λ reason. IsNone reason ↔ IsAccepted written.now.image certificate.now) }
-    ensures refused { IfOk result (λ reason. IfSome reason (IsFirstRefused written.now.image certificate.now)) }
+    requires each { HasRecords classes written.now.image certificate.now }
+    ensures accepted { IfOk result (λ reason. IsNone reason ↔ IsAccepted classes written.now.image certificate.now) }
+    ensures refused { IfOk result (λ reason. IfSome reason (IsFirstRefused classes written.now.image certificate.now)) }
 {
-    let parts = parts_of_file(alloc, written)?;
+    let parts = parts_of_file(alloc, classes, written)?;
     let judge = Judge::of(alloc, written)?;
-    let programs = written.programs().len() as u32;
+    let programs = searched_programs(classes, written) as u32;
     let mut at = MAGIC.len();
     for (number, part) in parts.iter().enumerate() {
         let Some(read) = read_record(alloc, certificate, at)? else {

@@ -1,4 +1,5 @@
 pub mod Sums
+pub mod ClassCodes
 pub mod TallyLaws
 pub mod Best
 pub mod RowLaws

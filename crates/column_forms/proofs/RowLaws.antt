@@ -2,6 +2,8 @@
 use Rattle.std.proofs.Common.{◌≡◌, ◌<◌, ◌+◌, ◌*◌, ℕ, zero, suc, List, [], ◌∷◌, ◌++◌, length, get_or, ◌∙◌, sym, ap, refl, subst, arith, inl, inr}
 use Rattle.std.proofs.lemmas.Bool.{cases_lt}
 use Rattle.std.proofs.lemmas.List.{length-append}
+use Rattle.dw_base.specs.declared.classes.Classes.{Classes}
+use Rattle.dw_base.specs.Classes.{every}
 use Rattle.form_codec.specs.declared.value.Value.{Value}
 use Rattle.abbrev_tables.specs.declared.decl.Spec.{Spec}
 use Rattle.abbrev_tables.specs.Listings.{spec_at}
@@ -40,27 +42,30 @@ spec_is (y ∷ ys) (suc k) x lt e = spec_is ys k x (omega arith) e
 pub chosen_none : (columns : List Spec) (rows : ℕ) (values : List Value) → AreChosen columns rows 0 values []
 chosen_none columns rows values = record { many = refl; each = λ section j lt. absurd (omega arith) }
 
-pub chosen_more : (columns : List Spec) (rows count : ℕ) (values : List Value) (chosen : List Spec) (new : Spec) → AreChosen columns rows count values chosen → ((section : List ℕ) → AreHere section values → AreSpelled (spec_at columns count).form (spec_at columns count).constant (meanings_in section (column_of values (length columns) count rows)) → IsChosen (spec_at columns count) (meanings_in section (column_of values (length columns) count rows)) new) → AreChosen columns rows (count + 1) values (chosen ++ new ∷ [])
+pub chosen_more : (columns : List Spec) (rows count : ℕ) (values : List Value) (chosen : List Spec) (new : Spec) → AreChosen columns rows count values chosen → ((section : List ℕ) → AreHere section values → AreSpelled (spec_at columns count).name (spec_at columns count).form (spec_at columns count).constant (meanings_in section (column_of values (length columns) count rows)) → IsChosen every (spec_at columns count) (meanings_in section (column_of values (length columns) count rows)) new) → AreChosen columns rows (count + 1) values (chosen ++ new ∷ [])
 chosen_more columns rows count values chosen new a n = record {
   many = length-append chosen (new ∷ []) ∙ ap (λ z. z + 1) a.many;
   each = λ section j lt here s. elim (cases_lt j count) [
-    | inl less ↦ subst (λ (z : Spec). IsChosen (spec_at columns j) (meanings_in section (column_of values (length columns) j rows)) z) (sym (spec_before chosen new j (omega (arith, a.many)))) (a.each section j less here s)
+    | inl less ↦ subst (λ (z : Spec). IsChosen every (spec_at columns j) (meanings_in section (column_of values (length columns) j rows)) z) (sym (spec_before chosen new j (omega (arith, a.many)))) (a.each section j less here s)
     | inr more ↦
         let e : count ≡ j = omega arith in
         let last : spec_at (chosen ++ new ∷ []) count ≡ new = ap (λ z. spec_at (chosen ++ new ∷ []) z) (sym a.many) ∙ spec_last chosen new in
-        let t = subst (λ (z : ℕ). AreSpelled (spec_at columns z).form (spec_at columns z).constant (meanings_in section (column_of values (length columns) z rows))) (sym e) s in
-        subst (λ (z : ℕ). IsChosen (spec_at columns z) (meanings_in section (column_of values (length columns) z rows)) (spec_at (chosen ++ new ∷ []) z)) e (subst (λ (z : Spec). IsChosen (spec_at columns count) (meanings_in section (column_of values (length columns) count rows)) z) (sym last) (n section here t))
+        let t = subst (λ (z : ℕ). AreSpelled (spec_at columns z).name (spec_at columns z).form (spec_at columns z).constant (meanings_in section (column_of values (length columns) z rows))) (sym e) s in
+        subst (λ (z : ℕ). IsChosen every (spec_at columns z) (meanings_in section (column_of values (length columns) z rows)) (spec_at (chosen ++ new ∷ []) z)) e (subst (λ (z : Spec). IsChosen every (spec_at columns count) (meanings_in section (column_of values (length columns) count rows)) z) (sym last) (n section here t))
   ];
 }
 
--- one more column, whose tally chooses its form
-pub chosen_next : (columns : List Spec) (rows count width : ℕ) (values ds : List Value) (chosen : List Spec) (old new : Spec) (t : Tallying) → ds ≡ values → width ≡ length columns → count < length columns → old ≡ get_or columns count old → AreChosen columns rows count values chosen → ((section : List ℕ) → AreHere section ds → IsTally section (column_of ds width count rows) t) → ((section : List ℕ) (vs : List Value) → IsTally section vs t → AreSpelled old.form old.constant (meanings_in section vs) → IsChosen old (meanings_in section vs) new) → AreChosen columns rows (count + 1) values (chosen ++ new ∷ [])
-chosen_next columns rows count width values ds chosen old new t same wide inside at a tallied best =
+-- one more column, whose tally, which has its name, chooses its form
+pub chosen_next : (columns : List Spec) (rows count width : ℕ) (values ds : List Value) (chosen : List Spec) (named old new : Spec) (t : Tallying) (classes : Classes) → ds ≡ values → width ≡ length columns → count < length columns → named ≡ get_or columns count named → old ≡ get_or columns count old → classes ≡ every → t.name ≡ named.name → AreChosen columns rows count values chosen → ((section : List ℕ) → AreHere section ds → IsTally section (column_of ds width count rows) t) → ((section : List ℕ) (vs : List Value) → t.name ≡ old.name → IsTally section vs t → AreSpelled old.name old.form old.constant (meanings_in section vs) → IsChosen classes old (meanings_in section vs) new) → AreChosen columns rows (count + 1) values (chosen ++ new ∷ [])
+chosen_next columns rows count width values ds chosen named old new t classes same wide inside at_name at all name a tallied best =
+    let first : named ≡ spec_at columns count = spec_is columns count named inside at_name in
     let here : old ≡ spec_at columns count = spec_is columns count old inside at in
+    let own : t.name ≡ old.name = name ∙ ap (λ z. z.name) (first ∙ sym here) in
     chosen_more columns rows count values chosen new a (λ section h s.
     let vs : List Value = column_of values (length columns) count rows in
     let tally : IsTally section vs t = subst (λ (w : ℕ). IsTally section (column_of values w count rows) t) wide (subst (λ (z : List Value). IsTally section (column_of z width count rows) t) same (tallied section (subst (λ (z : List Value). AreHere section z) (sym same) h))) in
-    subst (λ (z : Spec). IsChosen z (meanings_in section vs) new) here (best section vs tally (subst (λ (z : Spec). AreSpelled z.form z.constant (meanings_in section vs)) (sym here) s)))
+    let spelled = subst (λ (z : Spec). AreSpelled z.name z.form z.constant (meanings_in section vs)) (sym here) s in
+    subst (λ (z : Spec). IsChosen every z (meanings_in section vs) new) here (subst (λ (z : Classes). IsChosen z old (meanings_in section vs) new) all (best section vs own tally spelled)))
 
 pub one_more : (n : ℕ) → suc n ≡ n + 1
 one_more n = omega arith

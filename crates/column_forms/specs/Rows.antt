@@ -1,5 +1,6 @@
 -- Columns of the values of a declaration's entries, which stand row by row: an entry is a row.
 use Rattle.std.specs.Prelude.{◌≡◌, ◌<◌, ◌+◌, ◌*◌, ℕ, zero, suc, List, [], ◌∷◌, ◌++◌, length, slice_index_or}
+use Rattle.dw_base.specs.Classes.{every}
 use Rattle.form_codec.specs.declared.value.Value.{Value}
 use Rattle.form_codec.specs.declared.value.Value.TheVariants as value
 use Rattle.abbrev_tables.specs.declared.decl.Spec.{Spec}
@@ -24,4 +25,4 @@ AreHere section values = (k : ℕ) → k < length values → IsHere section (val
 -- each of the first so many new columns is the old one in its least form, where the old form spells its values
 pub record AreChosen (columns : List Spec) (rows count : ℕ) (values : List Value) (chosen : List Spec) : Type 0 where
   pub many : length chosen ≡ count
-  pub each : (section : List ℕ) (j : ℕ) → j < count → AreHere section values → AreSpelled (spec_at columns j).form (spec_at columns j).constant (meanings_in section (column_of values (length columns) j rows)) → IsChosen (spec_at columns j) (meanings_in section (column_of values (length columns) j rows)) (spec_at chosen j)
+  pub each : (section : List ℕ) (j : ℕ) → j < count → AreHere section values → AreSpelled (spec_at columns j).name (spec_at columns j).form (spec_at columns j).constant (meanings_in section (column_of values (length columns) j rows)) → IsChosen every (spec_at columns j) (meanings_in section (column_of values (length columns) j rows)) (spec_at chosen j)

@@ -1,11 +1,15 @@
 // The least form among those that admit all values.
-ghost use Rattle.std.specs.Prelude.{◌≡◌, ◌≤◌, ◌<◌, ◌+◌, ◌^◌, ◌↔◌, ℕ, length, IsTrue, true};
+ghost use Rattle.std.specs.Prelude.{◌≡◌, ◌≤◌, ◌<◌, ◌+◌, ◌^◌, ◌↔◌, ℕ, List, length, IsTrue, true};
 ghost use Rattle.form_codec.specs.Columns.{ComesFirst};
 ghost use Rattle.column_forms.specs.Tallies.{AreBounded, candidate_at};
-ghost use Rattle.column_forms.specs.inside.Choices.{IsBest, IsBetter, bytes_of};
+ghost use Rattle.column_forms.specs.inside.Choices.{AdmitsUnsigned, IsPassedOver, IsBest, IsBetter, bytes_of};
 
 use crate::tally::Candidate;
-use dw_base::constants::DW_FORM_IMPLICIT_CONST;
+use dw_base::Classes;
+use dw_base::constants::{
+    DW_AT_CONST_VALUE, DW_AT_HIGH_PC, DW_FORM_ADDRX1, DW_FORM_ADDRX4, DW_FORM_IMPLICIT_CONST,
+    DW_FORM_SDATA, DW_FORM_UDATA,
+};
 use leb_codec::len_s;
 
 /// A form, and the bytes of a column in it.
@@ -59,15 +63,47 @@ fn better(best: Option<Choice>, other: Choice, input: u64) -> Choice
     }
 }
 
-/// The form that takes the fewest bytes among the candidates that admit all values: of several the one of the input, or
-/// else the one with the lowest code. None: no candidate admits all values.
-pub fn best_of(candidates: &[Candidate], constant: i64, input: u64) -> Option<Choice>
-    requires { (k : ℕ) → k < length candidates.now → (candidate_at candidates.now k).size + 2 ^ 64 ≤ 2 ^ 128 }
-    ensures { IsBest candidates.now constant input (length candidates.now) result }
+// Whether DW_FORM_udata admits all values.
+fn admits_unsigned(candidates: &[Candidate]) -> bool
+    ensures { IsTrue result ↔ AdmitsUnsigned candidates.now }
 {
+    for candidate in candidates {
+        if candidate.form == DW_FORM_UDATA && candidate.admits {
+            return true;
+        }
+    }
+    false
+}
+
+// Whether the classes leave out the form with a code, under a name and of values that DW_FORM_udata admits or doesn't.
+fn is_passed_over(classes: Classes, name: u64, unsigned: bool, code: u64) -> bool
+    ensures { (candidates : List Candidate) → (IsTrue unsigned ↔ AdmitsUnsigned candidates) → IsTrue result ↔ IsPassedOver classes name candidates code }
+{
+    match code {
+        DW_FORM_ADDRX1..=DW_FORM_ADDRX4 => !classes.indexes,
+        DW_FORM_IMPLICIT_CONST => !classes.implicit
+            && (name == DW_AT_HIGH_PC || name == DW_AT_CONST_VALUE),
+        DW_FORM_SDATA => !classes.signed && unsigned,
+        _ => false,
+    }
+}
+
+/// The form of the classes that takes the fewest bytes for the attribute with a name, among the candidates that admit all values: of several the
+/// one of the input, or else the one with the lowest code. None: no such candidate admits all values.
+pub fn best_of(
+    candidates: &[Candidate],
+    classes: Classes,
+    name: u64,
+    constant: i64,
+    input: u64,
+) -> Option<Choice>
+    requires { (k : ℕ) → k < length candidates.now → (candidate_at candidates.now k).size + 2 ^ 64 ≤ 2 ^ 128 }
+    ensures { IsBest classes name candidates.now constant input (length candidates.now) result }
+{
+    let unsigned = admits_unsigned(candidates);
     let mut best = None;
     for i in 0..candidates.len() {
-        if candidates[i].admits {
+        if candidates[i].admits && !is_passed_over(classes, name, unsigned, candidates[i].form) {
             best = Some(better(best, choice_of(candidates[i], constant), input));
         }
     }

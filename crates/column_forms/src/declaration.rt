@@ -5,13 +5,14 @@ ghost use Rattle.column_forms.specs.Rows.{AreChosen, AreHere, column_of};
 
 use crate::tally::Tally;
 use abbrev_tables::Spec;
-use dw_base::NoMemory;
+use dw_base::{Classes, NoMemory};
 use form_codec::Value;
 use std::alloc::Global;
 
 // The sums of a column over all rows.
 fn tally_of(
     alloc: Global,
+    name: u64,
     values: &[Value],
     width: usize,
     column: usize,
@@ -20,9 +21,10 @@ fn tally_of(
     requires inside { column < width }
     requires some { 0 < rows }
     requires all { length values.now ≡ rows * width }
-    ensures { IfOk result (λ t. (section : List ℕ) → AreHere section values.now → IsTally section (column_of values.now width column rows) t) }
+    ensures name { IfOk result (λ t. t.name ≡ name) }
+    ensures tally { IfOk result (λ t. (section : List ℕ) → AreHere section values.now → IsTally section (column_of values.now width column rows) t) }
 {
-    let mut tally = Tally::new(alloc, &values[column])?;
+    let mut tally = Tally::new(alloc, name, &values[column])?;
     for row in 1..rows {
         tally.add(&values[row * width + column]);
     }
@@ -50,8 +52,15 @@ pub fn choose(
     let width = specs.len();
     let mut chosen = Vec::new(alloc);
     for column in 0..width {
-        let tally = tally_of(alloc, values, width, column, uses as usize)?;
-        chosen.push(tally.best(specs[column]))?;
+        let tally = tally_of(
+            alloc,
+            specs[column].name,
+            values,
+            width,
+            column,
+            uses as usize,
+        )?;
+        chosen.push(tally.best(Classes::every(), specs[column]))?;
     }
     Ok(chosen)
 }

@@ -4,12 +4,12 @@ ghost use Rattle.form_codec.specs.declared.value.Value.{Value as AValue};
 ghost use Rattle.form_codec.specs.Columns.{AreSpelled, IsLeastForm};
 ghost use Rattle.column_forms.specs.Tallies.{meanings_in};
 ghost use Rattle.column_forms.specs.Rows.{AreHere};
-ghost use Rattle.column_forms.specs.TableColumns.{AreTalliesOf, AddsRow, HaveRoomForRow, HaveAtMost, AreBestFor};
+ghost use Rattle.column_forms.specs.TableColumns.{AreTalliesOf, HaveNames, AddsRow, HaveRoomForRow, HaveAtMost, AreBestFor};
 ghost use Rattle.column_forms.specs.inside.TableColumns.{IsNextTally, HasOneMore, IsBestOfTally, IsLeastOfTally};
 
 use crate::tally::Tally;
 use abbrev_tables::Spec;
-use dw_base::NoMemory;
+use dw_base::{Classes, NoMemory};
 use form_codec::Value;
 use std::alloc::Global;
 use std::marker::Model;
@@ -31,35 +31,40 @@ impl Model for Tallies {
     ghost view = { λ t. t.columns.items };
 }
 
-// Counts one more value of a column.
-fn count_in(slot: &mut Option<Tally>, alloc: Global, value: &Value) -> Result<(), NoMemory>
+// Counts one more value of a column of the attribute with a name.
+fn count_in(
+    slot: &mut Option<Tally>,
+    alloc: Global,
+    name: u64,
+    value: &Value,
+) -> Result<(), NoMemory>
     requires { IfSome slot.old (λ tally. tally.count < 2 ^ 63) }
-    ensures next { OnOk result (IsNextTally value.now slot.old slot.new) }
+    ensures next { OnOk result (IsNextTally name value.now slot.old slot.new) }
     ensures more { OnOk result (HasOneMore slot.old slot.new) }
 {
     match slot {
         Some(tally) => tally.add(value),
-        None => *slot = Some(Tally::new(alloc, value)?),
+        None => *slot = Some(Tally::new(alloc, name, value)?),
     }
     Ok(())
 }
 
 // A column in its best form, or as it is where it has no value.
-fn best_for(tally: &Option<Tally>, column: Spec) -> Spec
-    ensures { IsBestOfTally tally.now column result }
+fn best_for(tally: &Option<Tally>, classes: Classes, column: Spec) -> Spec
+    ensures { IsBestOfTally classes tally.now column result }
 {
     match tally {
-        Some(tally) => tally.best(column),
+        Some(tally) => tally.best(classes, column),
         None => column,
     }
 }
 
 // Whether a column that has values is in a least form.
-fn is_least_for(tally: &Option<Tally>, column: Spec) -> bool
-    ensures { IsLeastOfTally tally.now column result }
+fn is_least_for(tally: &Option<Tally>, classes: Classes, column: Spec) -> bool
+    ensures { IsLeastOfTally classes tally.now column result }
 {
     match tally {
-        Some(tally) => tally.is_least(column),
+        Some(tally) => tally.is_least(classes, column),
         // A column without a value takes no bytes, and isn't asked for.
         None => true,
     }
@@ -70,7 +75,7 @@ impl Tallies {
     pub fn new(alloc: Global, count: usize) -> Result<Tallies, NoMemory>
         ensures count { IfOk result (λ tallies. length tallies ≡ count) }
         ensures few { IfOk result (λ tallies. HaveAtMost 0 tallies) }
-        ensures none { IfOk result (λ tallies. (section : List ℕ) → AreTalliesOf section (λ (k : ℕ). []) tallies) }
+        ensures none { IfOk result (λ tallies. (section : List ℕ) (names : ℕ → ℕ) → AreTalliesOf section names (λ (k : ℕ). []) tallies) }
     {
         let mut columns = Vec::new(alloc);
         for _ in 0..count {
@@ -79,40 +84,57 @@ impl Tallies {
         Ok(Tallies { columns })
     }
 
-    /// Counts the values of one more entry, whose declaration has the columns from `first` on. The only error is want of
+    /// Counts the values of one more entry, whose declaration has these columns, numbered from `first` on. The only error is want of
     /// memory, after which nothing is said of the sums.
-    pub fn add_row(&mut self, alloc: Global, first: usize, row: &[Value]) -> Result<(), NoMemory>
+    pub fn add_row(
+        &mut self,
+        alloc: Global,
+        first: usize,
+        columns: &[Spec],
+        row: &[Value],
+    ) -> Result<(), NoMemory>
         requires inside { first + length row.now ≤ length self.old }
+        requires width { length columns.now ≡ length row.now }
         requires room { HaveRoomForRow self.old }
         ensures count { length self.new ≡ length self.old }
         ensures few { OnOk result ((n : ℕ) → HaveAtMost n self.old → HaveAtMost (n + 1) self.new) }
-        ensures added { OnOk result ((section : List ℕ) (before after : ℕ → List AValue) → AreHere section row.now → AddsRow first row.now before after → AreTalliesOf section before self.old → AreTalliesOf section after self.new) }
+        ensures added { OnOk result ((section : List ℕ) (names : ℕ → ℕ) (before after : ℕ → List AValue) → AreHere section row.now → HaveNames names first columns.now → AddsRow first row.now before after → AreTalliesOf section names before self.old → AreTalliesOf section names after self.new) }
     {
         for j in 0..row.len() {
-            count_in(&mut self.columns[first + j], alloc, &row[j])?;
+            count_in(
+                &mut self.columns[first + j],
+                alloc,
+                columns[j].name,
+                &row[j],
+            )?;
         }
         Ok(())
     }
 
-    /// The columns, each in the form in which its values and its constant take the fewest bytes, as `Tally::best` says; one
+    /// The columns, each in the form of the classes in which its values and its constant take the fewest bytes, as `Tally::best` says; one
     /// without a value is kept. `columns` are those whose values were counted, in their order. The only error is want of memory.
-    pub fn best(&self, alloc: Global, columns: &[Spec]) -> Result<Vec<Spec>, NoMemory>
+    pub fn best(
+        &self,
+        alloc: Global,
+        classes: Classes,
+        columns: &[Spec],
+    ) -> Result<Vec<Spec>, NoMemory>
         requires { length columns.now ≡ length self.now }
-        ensures { IfOk result (λ best. (section : List ℕ) (values : ℕ → List AValue) → AreTalliesOf section values self.now → AreBestFor section values columns.now best.items) }
+        ensures { IfOk result (λ best. (section : List ℕ) (names : ℕ → ℕ) (values : ℕ → List AValue) → HaveNames names 0 columns.now → AreTalliesOf section names values self.now → AreBestFor classes section values columns.now best.items) }
     {
         let mut best = Vec::new(alloc);
         for k in 0..columns.len() {
-            best.push(best_for(&self.columns[k], columns[k]))?;
+            best.push(best_for(&self.columns[k], classes, columns[k]))?;
         }
         Ok(best)
     }
 
-    /// Whether the column with a number is in a form that takes the fewest bytes, as `Tally::is_least` says; of one without a value
+    /// Whether the column with a number is in a form of the classes that takes the fewest bytes, as `Tally::is_least` says; of one without a value
     /// nothing is said. `column` is the one whose values were counted.
-    pub fn is_least(&self, k: usize, column: Spec) -> bool
+    pub fn is_least(&self, k: usize, classes: Classes, column: Spec) -> bool
         requires { k < length self.now }
-        ensures { (section : List ℕ) (values : ℕ → List AValue) → AreTalliesOf section values self.now → values k ≢ [] → AreSpelled column.form column.constant (meanings_in section (values k)) → IsTrue result ↔ IsLeastForm (meanings_in section (values k)) column.form column.constant }
+        ensures { (section : List ℕ) (names : ℕ → ℕ) (values : ℕ → List AValue) → names k ≡ column.name → AreTalliesOf section names values self.now → values k ≢ [] → AreSpelled column.name column.form column.constant (meanings_in section (values k)) → IsTrue result ↔ IsLeastForm classes column.name (meanings_in section (values k)) column.form column.constant }
     {
-        is_least_for(&self.columns[k], column)
+        is_least_for(&self.columns[k], classes, column)
     }
 }

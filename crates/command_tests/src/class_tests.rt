@@ -126,8 +126,8 @@ fn units_and_tables_that_are_untidy(rt: HostRuntime) -> Result<(), Fail> {
     Ok(())
 }
 
-// A line number program without opcodes, whose opcode_base is 10.
-const TEN: [u8; 31] = [
+/// A line number program without opcodes, whose opcode_base is 10.
+pub const TEN: [u8; 31] = [
     0x1b, 0, 0, 0, 5, 0, 8, 0, 0x13, 0, 0, 0, 1, 1, 1, 0xfb, 0x0e, 0x0a, 0, 1, 1, 1, 1, 0, 0, 0, 1,
     0, 0, 0, 0,
 ];

@@ -23,6 +23,8 @@ mod make_tests;
 #[cfg(test)]
 mod overlap_tests;
 #[cfg(test)]
+mod packages_tests;
+#[cfg(test)]
 mod range_tests;
 #[cfg(test)]
 mod sample_tests;

@@ -6,8 +6,8 @@ use std::alloc::{AllocError, Global};
 use std::process::Abort;
 use std::test::Fail;
 
-// A contribution without slots that has this list, at 12.
-fn contribution(alloc: Global, list: &[u8]) -> Result<Vec<u8>, AllocError> {
+/// A contribution without slots that has this list, at 12.
+pub fn contribution(alloc: Global, list: &[u8]) -> Result<Vec<u8>, AllocError> {
     let length = (list.len() as u64).saturating_add(8);
     let mut bytes = length.to_le_bytes()[..4].to_vec(alloc)?;
     bytes.extend_from_slice(&[5, 0, 8, 0, 0, 0, 0, 0])?;
@@ -194,8 +194,8 @@ fn long_range_lists(rt: HostRuntime) -> Result<(), Fail> {
     Ok(())
 }
 
-// A declaration with DW_AT_ranges and DW_AT_start_scope.
-const TWO_LISTS: [u8; 10] = [1, 0x11, 0, 0x55, 0x17, 0x2c, 0x17, 0, 0, 0];
+/// A declaration with DW_AT_ranges and DW_AT_start_scope.
+pub const TWO_LISTS: [u8; 10] = [1, 0x11, 0, 0x55, 0x17, 0x2c, 0x17, 0, 0, 0];
 
 // Two lists that share their end become two lists.
 #[test]

@@ -21,7 +21,7 @@ const GCC_ABBREVS: [u8; 71] = [
     0, 0x0b, 0x0b, 0x3e, 0x0b, 3, 8, 0, 0, 0,
 ];
 
-const GCC_LOCATIONS: [u8; 30] = [
+pub const GCC_LOCATIONS: [u8; 30] = [
     0x1a, 0, 0, 0, 5, 0, 8, 0, 0, 0, 0, 0, 0, 1, 1, 0, 4, 0, 4, 1, 0x55, 4, 4, 0x10, 4, 0xa3, 1,
     0x55, 0x9f, 0,
 ];
@@ -40,7 +40,7 @@ pub const CLANG_ABBREVS: [u8; 76] = [
     0x0b, 0x3b, 0x0b, 0x49, 0x13, 0, 0, 4, 0x24, 0, 3, 0x25, 0x3e, 0x0b, 0x0b, 0x0b, 0, 0, 0,
 ];
 
-const CLANG_RANGES: [u8; 23] = [
+pub const CLANG_RANGES: [u8; 23] = [
     0x13, 0, 0, 0, 5, 0, 8, 0, 1, 0, 0, 0, 4, 0, 0, 0, 3, 0, 0x10, 3, 1, 8, 0,
 ];
 
@@ -49,14 +49,14 @@ pub const CLANG_LOCATIONS: [u8; 32] = [
     1, 0x55, 0x9f, 0,
 ];
 
-const CLANG_ADDRESSES: [u8; 24] = [
+pub const CLANG_ADDRESSES: [u8; 24] = [
     0x14, 0, 0, 0, 5, 0, 8, 0, 0, 0x10, 0x40, 0, 0, 0, 0, 0, 0, 0x20, 0x40, 0, 0, 0, 0, 0,
 ];
 
 // The DW_AT_high_pc of the root and of the function, 16, has one byte in place of 8, and DW_AT_type (twice) and DW_AT_sibling have one in
 // place of 4. So the unit is 23 bytes shorter (0x4a for 0x61), and the base type stands at 0x46, where these three name it. The list
 // stands at 16, and the view pairs, (0, 1) and (1, 0), directly before it, at 12.
-const LEAST_GCC_INFO_WITH_LISTS: [u8; 78] = [
+pub const LEAST_GCC_INFO_WITH_LISTS: [u8; 78] = [
     0x4a, 0, 0, 0, 5, 0, 1, 8, 0, 0, 0, 0, // the header
     1, 0, 0, 0, 0, 0x1d, 0, 0, 0, 0, 4, 0, 0, 0, 0, 0x10, 0x40, 0, 0, 0, 0, 0, 0x10, 0, 0, 0, 0, // the root at 0x0c
     2, 0x66, 0, 1, 0x46, 0, 0x10, 0x40, 0, 0, 0, 0, 0, 0x10, 1, 0x9c, 0x46, // the function at 0x27
@@ -66,21 +66,21 @@ const LEAST_GCC_INFO_WITH_LISTS: [u8; 78] = [
 
 // The two DW_AT_high_pc (0x12) are data1 (0x0b) in place of data8 (7), and DW_AT_type (0x49) and DW_AT_sibling (1) are ref_udata (0x15) in
 // place of ref4 (0x13).
-const LEAST_GCC_ABBREVS_WITH_LISTS: [u8; 71] = [
+pub const LEAST_GCC_ABBREVS_WITH_LISTS: [u8; 71] = [
     1, 0x11, 1, 0x25, 0x0e, 0x13, 0x0b, 3, 0x1f, 0x1b, 0x1f, 0x11, 1, 0x12, 0x0b, 0x10, 0x17, 0, 0,
     2, 0x2e, 1, 0x3f, 0x19, 3, 8, 0x3a, 0x21, 1, 0x3b, 0x0b, 0x49, 0x15, 0x11, 1, 0x12, 0x0b, 0x40,
     0x18, 1, 0x15, 0, 0, 3, 5, 0, 3, 8, 0x3b, 0x0b, 0x49, 0x15, 2, 0x17, 0xb7, 0x42, 0x17, 0, 0, 4,
     0x24, 0, 0x0b, 0x0b, 0x3e, 0x0b, 3, 8, 0, 0, 0,
 ];
 
-// The same with the view pairs behind their list, which stands at 12: they stand at 26, and their first number has a byte too many.
-const GCC_PAIRS_BEHIND: [u8; 31] = [
+/// The same with the view pairs behind their list, which stands at 12: they stand at 26, and their first number has a byte too many.
+pub const GCC_PAIRS_BEHIND: [u8; 31] = [
     0x1b, 0, 0, 0, 5, 0, 8, 0, 0, 0, 0, 0, 4, 0, 4, 1, 0x55, 4, 4, 0x10, 4, 0xa3, 1, 0x55, 0x9f, 0,
     0x80, 0, 1, 1, 0,
 ];
 
-// The unit of gcc whose parameter has its DW_AT_location, at 0x54, and its DW_AT_GNU_locviews, at 0x58, at these places.
-fn gcc_info(list: u8, pairs: u8) -> [u8; 101] {
+/// The unit of gcc whose parameter has its DW_AT_location, at 0x54, and its DW_AT_GNU_locviews, at 0x58, at these places.
+pub fn gcc_info(list: u8, pairs: u8) -> [u8; 101] {
     let mut info = GCC_INFO;
     info[0x54] = list;
     info[0x58] = pairs;
@@ -205,8 +205,8 @@ fn lists_in_the_manner_of_clang(rt: HostRuntime) -> Result<(), Fail> {
     Ok(())
 }
 
-// The first location has DW_OP_lit0 and DW_OP_convert to the base type, which stands at 0x48, in place of DW_OP_reg5.
-const CONVERTED_LOCATIONS: [u8; 34] = [
+/// The first location has DW_OP_lit0 and DW_OP_convert to the base type, which stands at 0x48, in place of DW_OP_reg5.
+pub const CONVERTED_LOCATIONS: [u8; 34] = [
     0x1e, 0, 0, 0, 5, 0, 8, 0, 1, 0, 0, 0, 4, 0, 0, 0, 1, 0, 4, 0, 4, 3, 0x30, 0xa8, 0x48, 4, 4,
     0x10, 4, 0xa3, 1, 0x55, 0x9f, 0,
 ];

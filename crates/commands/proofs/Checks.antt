@@ -3,6 +3,7 @@ use Rattle.std.proofs.Common.{◌≡◌, ◌≢◌, ◌≤◌, ◌<◌, ◌++◌
 use Rattle.std.specs.Prelude.{◌⊎◌, option_map, string_bytes}
 use Rattle.std.specs.Option.{ForSome}
 use Rattle.std.proofs.lemmas.Bool.{cases_lt}
+use Rattle.dw_base.specs.declared.classes.Classes.{Classes}
 use Rattle.dw_base.specs.declared.fault.Fault.{Fault}
 use Rattle.dw_base.specs.declared.fault.Kind.TheVariants.{Limit}
 use Rattle.dw_base.specs.declared.fault.Reach.{Reach}
@@ -11,11 +12,11 @@ use Rattle.dw_base.specs.Host.{Rose, AddsPart}
 use Rattle.elf_sections.specs.Faults.{file_limit}
 use Rattle.value_links.specs.Faults.{IsValid as IsValidWithin}
 use Rattle.value_links.specs.Laws.{FirstFaultsDecide}
-use Rattle.verdict.specs.Accepts.{Accepts, IsAllLeast}
+use Rattle.verdict.specs.Accepts.{Accepts, IsAllLeast, IsAllKept}
 use Rattle.commands.specs.File.{IsValid, IsValidOutput}
 use Rattle.commands.specs.Words.{Names}
 use Rattle.commands.specs.Words.Command.{Check}
-use Rattle.commands.specs.Run.{OfFiles, IsToldAs, FailsToRead, input_limit, output_limit}
+use Rattle.commands.specs.Run.{OfBothFiles, OfFiles, IsToldAs, FailsToRead, input_limit, output_limit}
 use Rattle.commands.specs.Said.{acceptance_text, input_refusal_text, output_refusal_text, IsRefusal, IsRejection}
 use Rattle.commands.specs.declared.check.Answer.{Answer}
 use Rattle.commands.specs.declared.check.Answer.TheVariants.{Accepted, Refused, Rejected}
@@ -54,11 +55,12 @@ valid_told decide reach told front read valid = λ b e.
 -- THE ANSWER TO THE FILES
 
 -- the files are accepted
-pub record ToldAccepted (told : List ℕ → Option (List ℕ)) (n : Names) : Type 0 where
+pub record ToldAccepted (classes : Classes) (told : List ℕ → Option (List ℕ)) (n : Names) : Type 0 where
   pub valid : ForSome (told n.input) IsValid
   pub output_valid : ForSome (told n.output) IsValidOutput
-  pub accepted : OfFiles Accepts told n
-  pub least : ForSome (told n.output) IsAllLeast
+  pub accepted : OfFiles (Accepts classes) told n
+  pub least : ForSome (told n.output) (IsAllLeast classes)
+  pub kept : OfBothFiles (IsAllKept classes) told n
 
 -- one of them has a fault, which the line names
 pub record ToldRefused (told : List ℕ → Option (List ℕ)) (n : Names) (line : List ℕ) : Type 0 where
@@ -66,34 +68,35 @@ pub record ToldRefused (told : List ℕ → Option (List ℕ)) (n : Names) (line
   pub long : ForSome (told n.input) (λ file. input_limit < length file → line ≡ input_refusal_text Limit 0)
   pub output_long : ForSome (told n.input) (λ file. IsValid file → ForSome (told n.output) (λ written. output_limit < length written → line ≡ output_refusal_text Limit 0))
 
-abbrev pub ToldAnswer : (List ℕ → Option (List ℕ)) → Names → Answer → Type 0
-ToldAnswer told n Accepted = ToldAccepted told n
-ToldAnswer told n (Refused line) = ToldRefused told n (string_bytes line)
-ToldAnswer told n (Rejected line) = IsRejection told n line.items
+abbrev pub ToldAnswer : Classes → (List ℕ → Option (List ℕ)) → Names → Answer → Type 0
+ToldAnswer classes told n Accepted = ToldAccepted classes told n
+ToldAnswer classes told n (Refused line) = ToldRefused told n (string_bytes line)
+ToldAnswer classes told n (Rejected line) = IsRejection classes told n line.items
 
-accepts_same : (a b c x y z : List ℕ) → a ≡ x → b ≡ y → c ≡ z → Accepts a b c → Accepts x y z
-accepts_same a b c x y z e f g accepts =
-    subst (λ (l : List ℕ). Accepts l y z) e (subst (λ (l : List ℕ). Accepts a l z) f (subst (λ (l : List ℕ). Accepts a b l) g accepts))
+accepts_same : (classes : Classes) (a b c x y z : List ℕ) → a ≡ x → b ≡ y → c ≡ z → Accepts classes a b c → Accepts classes x y z
+accepts_same classes a b c x y z e f g accepts =
+    subst (λ (l : List ℕ). Accepts classes l y z) e (subst (λ (l : List ℕ). Accepts classes a l z) f (subst (λ (l : List ℕ). Accepts classes a b l) g accepts))
 
 -- the answer to what was read is that to the files
-answer_told : FirstFaultsDecide → (told : List ℕ → Option (List ℕ)) (n : Names) (file written cert : List ℕ) (answer : Answer) → IsFrontOf Narrow (told n.input) file → IsFrontOf Wide (told n.output) written → IsToldAs (told n.certificate) cert → IsAnswer file written cert answer → ToldAnswer told n answer
-answer_told decide told n file written cert Accepted read_file read_written read_cert is =
+answer_told : (classes : Classes) → FirstFaultsDecide → (told : List ℕ → Option (List ℕ)) (n : Names) (file written cert : List ℕ) (answer : Answer) → IsFrontOf Narrow (told n.input) file → IsFrontOf Wide (told n.output) written → IsToldAs (told n.certificate) cert → IsAnswer classes file written cert answer → ToldAnswer classes told n answer
+answer_told classes decide told n file written cert Accepted read_file read_written read_cert is =
     let same_file = valid_told decide Narrow (told n.input) file read_file is.0.valid in
     let same_written = valid_told decide Wide (told n.output) written read_written is.0.still_valid in
     record {
       valid = λ b e. subst IsValid (same_file b e) is.0.valid;
       output_valid = λ b e. subst IsValidOutput (same_written b e) is.0.still_valid;
-      accepted = λ x y z e f g. accepts_same file written cert x y z (same_file x e) (same_written y f) (read_cert z g) is.0;
-      least = λ b e. subst IsAllLeast (same_written b e) is.1;
+      accepted = λ x y z e f g. accepts_same classes file written cert x y z (same_file x e) (same_written y f) (read_cert z g) is.0;
+      least = λ b e. subst (IsAllLeast classes) (same_written b e) is.1.0;
+      kept = λ x y e f. subst (λ (z : List ℕ). IsAllKept classes z y) (same_file x e) (subst (IsAllKept classes file) (same_written y f) is.1.1);
     }
-answer_told decide told n file written cert (Refused line) read_file read_written read_cert (inl (fault, named, text)) =
+answer_told classes decide told n file written cert (Refused line) read_file read_written read_cert (inl (fault, named, text)) =
     let has = fault_told decide Narrow (told n.input) file fault read_file named in
     record {
       refusal = inl (fault.kind, fault.place, (λ b e. (has b e).has), text);
       long = λ b e past. text ∙ ap (λ (f : Fault). input_refusal_text f.kind f.place) ((has b e).long past);
       output_long = λ b e valid. let f = (has b e).has in absurd (valid f.pass fault.kind fault.place f.fault);
     }
-answer_told decide told n file written cert (Refused line) read_file read_written read_cert (inr (fault, valid, named, text)) =
+answer_told classes decide told n file written cert (Refused line) read_file read_written read_cert (inr (fault, valid, named, text)) =
     let same_file = valid_told decide Narrow (told n.input) file read_file valid in
     let has = fault_told decide Wide (told n.output) written fault read_written named in
     record {
@@ -101,7 +104,7 @@ answer_told decide told n file written cert (Refused line) read_file read_writte
       long = λ b e past. absurd (valid_short decide Narrow b (subst IsValid (same_file b e) valid) past);
       output_long = λ b e _ w f past. text ∙ ap (λ (f : Fault). output_refusal_text f.kind f.place) ((has w f).long past);
     }
-answer_told decide told n file written cert (Rejected line) read_file read_written read_cert (reason, rejected, text) =
+answer_told classes decide told n file written cert (Rejected line) read_file read_written read_cert (reason, rejected, text) =
     let same_file = valid_told decide Narrow (told n.input) file read_file rejected.valid in
     let same_written = valid_told decide Wide (told n.output) written read_written rejected.output_valid in
     (file, written, cert, reason, same_file, same_written, read_cert, rejected, text)
@@ -123,8 +126,8 @@ known_one status result (inr (inl e)) a b c = (omega arith, ((λ is. omega (arit
 known_one status result (inr (inr e)) a b c = (omega arith, ((λ is. omega (arith, e, is)), (λ is. omega (arith, e, is))))
 
 -- the answer was said, or some front of it
-pub ends_answered : (told : List ℕ → Option (List ℕ)) (n : Names) (answer : Answer) (old new : Option (List ℕ)) (reads risen : List ℕ → ℕ) (before now result : ℕ) → ToldAnswer told n answer → SaysOrStops (status_of answer) before now result → (result ≡ status_of answer → new ≡ option_map (λ b. b ++ line_of answer) old) → ((result ≡ 5) ⊎ (result ≡ 6) → AddsPart old (line_of answer) new) → ((f : List ℕ) → risen f ≡ reads f) → EndsCheck told n old new reads risen before now result
-ends_answered told n Accepted old new reads risen before now result is says said part still =
+pub ends_answered : (classes : Classes) (told : List ℕ → Option (List ℕ)) (n : Names) (answer : Answer) (old new : Option (List ℕ)) (reads risen : List ℕ → ℕ) (before now result : ℕ) → ToldAnswer classes told n answer → SaysOrStops (status_of answer) before now result → (result ≡ status_of answer → new ≡ option_map (λ b. b ++ line_of answer) old) → ((result ≡ 5) ⊎ (result ≡ 6) → AddsPart old (line_of answer) new) → ((f : List ℕ) → risen f ≡ reads f) → EndsCheck classes told n old new reads risen before now result
+ends_answered classes told n Accepted old new reads risen before now result is says said part still =
     let other : (s : ℕ) → 0 ≢ s → s ≢ 5 → s ≢ 6 → result ≡ s → ⊥ = (λ s. no_other 0 s result says.which) in
     record {
       known = known_one 0 result says.which (omega arith) (omega arith) (omega arith);
@@ -138,6 +141,7 @@ ends_answered told n Accepted old new reads risen before now result is says said
       output_valid = λ _. is.output_valid;
       accepted = λ _. is.accepted;
       least = λ _. is.least;
+      kept = λ _. is.kept;
       rejected = λ seven. absurd (other 7 (omega arith) (omega arith) (omega arith) seven);
       said = said;
       quiet = λ four. absurd (other 4 (omega arith) (omega arith) (omega arith) four);
@@ -155,7 +159,7 @@ ends_answered told n Accepted old new reads risen before now result is says said
           ]);
       rejects = λ file written cert e f g valid output_valid unaccepted well. absurd (unaccepted (is.accepted file written cert e f g));
     }
-ends_answered told n (Refused line) old new reads risen before now result is says said part still =
+ends_answered classes told n (Refused line) old new reads risen before now result is says said part still =
     let other : (s : ℕ) → 3 ≢ s → s ≢ 5 → s ≢ 6 → result ≡ s → ⊥ = (λ s. no_other 3 s result says.which) in
     let both : (file written : List ℕ) → told n.input ≡ Some file → told n.output ≡ Some written → IsValid file → IsValidOutput written → ⊥ =
     (λ file written e f valid output_valid.
@@ -176,6 +180,7 @@ ends_answered told n (Refused line) old new reads risen before now result is say
       output_valid = λ zero. absurd (other 0 (omega arith) (omega arith) (omega arith) zero);
       accepted = λ zero. absurd (other 0 (omega arith) (omega arith) (omega arith) zero);
       least = λ zero. absurd (other 0 (omega arith) (omega arith) (omega arith) zero);
+      kept = λ zero. absurd (other 0 (omega arith) (omega arith) (omega arith) zero);
       rejected = λ seven. absurd (other 7 (omega arith) (omega arith) (omega arith) seven);
       said = λ zero. absurd (other 0 (omega arith) (omega arith) (omega arith) zero);
       quiet = λ four. absurd (other 4 (omega arith) (omega arith) (omega arith) four);
@@ -184,7 +189,7 @@ ends_answered told n (Refused line) old new reads risen before now result is say
       refuses = λ fault well. says.which;
       rejects = λ file written cert e f g valid output_valid unaccepted well. absurd (both file written e f valid output_valid);
     }
-ends_answered told n (Rejected line) old new reads risen before now result is says said part still =
+ends_answered classes told n (Rejected line) old new reads risen before now result is says said part still =
     let other : (s : ℕ) → 7 ≢ s → s ≢ 5 → s ≢ 6 → result ≡ s → ⊥ = (λ s. no_other 7 s result says.which) in
     let (file, written, cert, reason, same_file, same_written, same_cert, rejected, text) = is in
     record {
@@ -199,11 +204,12 @@ ends_answered told n (Rejected line) old new reads risen before now result is sa
       output_valid = λ zero. absurd (other 0 (omega arith) (omega arith) (omega arith) zero);
       accepted = λ zero. absurd (other 0 (omega arith) (omega arith) (omega arith) zero);
       least = λ zero. absurd (other 0 (omega arith) (omega arith) (omega arith) zero);
+      kept = λ zero. absurd (other 0 (omega arith) (omega arith) (omega arith) zero);
       rejected = λ seven. (line.items, is, said seven);
       said = λ zero. absurd (other 0 (omega arith) (omega arith) (omega arith) zero);
       quiet = λ four. absurd (other 4 (omega arith) (omega arith) (omega arith) four);
       stopped = λ late. inr (line.items, inr (inr is), part late);
-      complete = λ right well calm. let (a, b, c, e, f, g, accepts) = right in absurd (rejected.unaccepted (accepts_same a b c file written cert (sym (same_file a e)) (sym (same_written b f)) (sym (same_cert c g)) accepts));
+      complete = λ right well calm. let (a, b, c, e, f, g, accepts) = right in absurd (rejected.unaccepted (accepts_same classes a b c file written cert (sym (same_file a e)) (sym (same_written b f)) (sym (same_cert c g)) accepts));
       refuses = λ fault well.
           absurd (elim fault [
             | inl (a, e, bad) ↦ bad (subst IsValid (same_file a e) rejected.valid)
@@ -213,13 +219,13 @@ ends_answered told n (Rejected line) old new reads risen before now result is sa
     }
 
 -- the same of the answer to what was read
-pub ends_judged : FirstFaultsDecide → (told : List ℕ → Option (List ℕ)) (n : Names) (file written cert : List ℕ) (answer : Answer) (old new : Option (List ℕ)) (reads risen : List ℕ → ℕ) (before now result : ℕ) → IsFrontOf Narrow (told n.input) file → IsFrontOf Wide (told n.output) written → IsToldAs (told n.certificate) cert → IsAnswer file written cert answer → SaysOrStops (status_of answer) before now result → (result ≡ status_of answer → new ≡ option_map (λ b. b ++ line_of answer) old) → ((result ≡ 5) ⊎ (result ≡ 6) → AddsPart old (line_of answer) new) → ((f : List ℕ) → risen f ≡ reads f) → EndsCheck told n old new reads risen before now result
-ends_judged decide told n file written cert answer old new reads risen before now result read_file read_written read_cert is says said part still =
-    ends_answered told n answer old new reads risen before now result (answer_told decide told n file written cert answer read_file read_written read_cert is) says said part still
+pub ends_judged : (classes : Classes) → FirstFaultsDecide → (told : List ℕ → Option (List ℕ)) (n : Names) (file written cert : List ℕ) (answer : Answer) (old new : Option (List ℕ)) (reads risen : List ℕ → ℕ) (before now result : ℕ) → IsFrontOf Narrow (told n.input) file → IsFrontOf Wide (told n.output) written → IsToldAs (told n.certificate) cert → IsAnswer classes file written cert answer → SaysOrStops (status_of answer) before now result → (result ≡ status_of answer → new ≡ option_map (λ b. b ++ line_of answer) old) → ((result ≡ 5) ⊎ (result ≡ 6) → AddsPart old (line_of answer) new) → ((f : List ℕ) → risen f ≡ reads f) → EndsCheck classes told n old new reads risen before now result
+ends_judged classes decide told n file written cert answer old new reads risen before now result read_file read_written read_cert is says said part still =
+    ends_answered classes told n answer old new reads risen before now result (answer_told classes decide told n file written cert answer read_file read_written read_cert is) says said part still
 
 -- nothing was said, and memory was wanting or a read failed
-quiet_end : (told : List ℕ → Option (List ℕ)) (n : Names) (status : ℕ) (old new : Option (List ℕ)) (reads risen : List ℕ → ℕ) (before now result : ℕ) → (status ≡ 4) ⊎ (status ≡ 6) → (status ≡ 4 → FailsToRead reads risen (Check n)) → ((f : List ℕ) → reads f < risen f → status ≡ 4) → result ≡ status → new ≡ old → now ≡ before → EndsCheck told n old new reads risen before now result
-quiet_end told n status old new reads risen before now result which cause rose is same still =
+quiet_end : (classes : Classes) (told : List ℕ → Option (List ℕ)) (n : Names) (status : ℕ) (old new : Option (List ℕ)) (reads risen : List ℕ → ℕ) (before now result : ℕ) → (status ≡ 4) ⊎ (status ≡ 6) → (status ≡ 4 → FailsToRead reads risen (Check n)) → ((f : List ℕ) → reads f < risen f → status ≡ 4) → result ≡ status → new ≡ old → now ≡ before → EndsCheck classes told n old new reads risen before now result
+quiet_end classes told n status old new reads risen before now result which cause rose is same still =
     let one : (result ≡ 4) ⊎ (result ≡ 6) = elim which [ inl four ↦ inl (is ∙ four) | inr six ↦ inr (is ∙ six) ] in
     let other : (s : ℕ) → s ≢ 4 → s ≢ 6 → result ≡ s → ⊥ = (λ s a b e. elim one [ inl four ↦ a (sym e ∙ four) | inr six ↦ b (sym e ∙ six) ]) in
     let stops : ¬ FailsToRead reads risen (Check n) → result ≡ 6 = (λ well. elim one [ inl four ↦ absurd (well (cause (sym is ∙ four))) | inr six ↦ six ]) in
@@ -235,6 +241,7 @@ quiet_end told n status old new reads risen before now result which cause rose i
       output_valid = λ zero. absurd (other 0 (omega arith) (omega arith) zero);
       accepted = λ zero. absurd (other 0 (omega arith) (omega arith) zero);
       least = λ zero. absurd (other 0 (omega arith) (omega arith) zero);
+      kept = λ zero. absurd (other 0 (omega arith) (omega arith) zero);
       rejected = λ seven. absurd (other 7 (omega arith) (omega arith) seven);
       said = λ zero. absurd (other 0 (omega arith) (omega arith) zero);
       quiet = λ _. same;
@@ -245,13 +252,13 @@ quiet_end told n status old new reads risen before now result which cause rose i
     }
 
 -- the files couldn't be read, or memory was wanting
-pub ends_unread : (T : Type 0) (told : List ℕ → Option (List ℕ)) (n : Names) (e : Ending) (old new : Option (List ℕ)) (reads risen : List ℕ → ℕ) (before now result : ℕ) → OnlyReadFault {T = T} (FailsToRead reads risen (Check n)) reads risen (Err e) → EndsFor e old new before now result → EndsCheck told n old new reads risen before now result
-ends_unread T told n (ending.Refused fault) old new reads risen before now result read ends = absurd read
-ends_unread T told n ending.ReadFault old new reads risen before now result read ends =
-    quiet_end told n 4 old new reads risen before now result (inl refl) (λ _. read) (λ _ _. refl) ends.which ends.said ends.still
-ends_unread T told n ending.WriteFault old new reads risen before now result read ends = absurd read
-ends_unread T told n ending.NoMemory old new reads risen before now result read ends =
-    quiet_end told n 6 old new reads risen before now result (inr refl) (λ four. absurd (omega arith)) (λ f higher. absurd (omega (arith, read f, higher))) ends.which ends.said ends.still
+pub ends_unread : (T : Type 0) (classes : Classes) (told : List ℕ → Option (List ℕ)) (n : Names) (e : Ending) (old new : Option (List ℕ)) (reads risen : List ℕ → ℕ) (before now result : ℕ) → OnlyReadFault {T = T} (FailsToRead reads risen (Check n)) reads risen (Err e) → EndsFor e old new before now result → EndsCheck classes told n old new reads risen before now result
+ends_unread T classes told n (ending.Refused fault) old new reads risen before now result read ends = absurd read
+ends_unread T classes told n ending.ReadFault old new reads risen before now result read ends =
+    quiet_end classes told n 4 old new reads risen before now result (inl refl) (λ _. read) (λ _ _. refl) ends.which ends.said ends.still
+ends_unread T classes told n ending.WriteFault old new reads risen before now result read ends = absurd read
+ends_unread T classes told n ending.NoMemory old new reads risen before now result read ends =
+    quiet_end classes told n 6 old new reads risen before now result (inr refl) (λ four. absurd (omega arith)) (λ f higher. absurd (omega (arith, read f, higher))) ends.which ends.said ends.still
 
 -- the same where the counts stay as they are from then on
 pub read_on : (T : Type 0) (n : Names) (e : Ending) (reads middle risen : List ℕ → ℕ) → ((f : List ℕ) → risen f ≡ middle f) → OnlyReadFault {T = T} (FailsToRead reads middle (Check n)) reads middle (Err e) → OnlyReadFault {T = T} (FailsToRead reads risen (Check n)) reads risen (Err e)

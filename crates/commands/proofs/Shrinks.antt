@@ -4,6 +4,7 @@ use Rattle.std.specs.Prelude.{◌⊎◌, OnOk, IsSome, option_map}
 use Rattle.std.specs.Option.{ForSome}
 use Rattle.std.proofs.lemmas.Bool.{false≢true}
 use Rattle.std.proofs.lemmas.Result.{on_ok_weaker}
+use Rattle.dw_base.specs.declared.classes.Classes.{Classes}
 use Rattle.dw_base.specs.declared.fault.Kind.TheVariants.{Limit}
 use Rattle.dw_base.specs.declared.fault.Reach.TheVariants.{Narrow}
 use Rattle.dw_base.specs.Host.{Rose}
@@ -108,10 +109,10 @@ caused old middle new output certificate (Err ending.NoMemory) kept h = λ f. h 
 -- THREE FILES THAT CAN BE CHECKED
 
 -- what was written beside an input that stays can be checked, and is accepted
-pub can_be_checked : (old new : List ℕ → Option (List ℕ)) (n : Names) → new n.input ≡ old n.input → WritesBoth Accepts old new n.input n.output n.certificate → WritesAccepted old new n
-can_be_checked old new n stays writes = λ in_told out_told cert_told. (stays, of_input (old n.input) refl in_told out_told cert_told)
+pub can_be_checked : (classes : Classes) (old new : List ℕ → Option (List ℕ)) (n : Names) → new n.input ≡ old n.input → WritesBoth (Accepts classes) old new n.input n.output n.certificate → WritesAccepted classes old new n
+can_be_checked classes old new n stays writes = λ in_told out_told cert_told. (stays, of_input (old n.input) refl in_told out_told cert_told)
   where
-    of_input : (told : Option (List ℕ)) → old n.input ≡ told → IsSome told → IsSome (old n.output) → IsSome (old n.certificate) → ReadsValid new (Check n)
+    of_input : (told : Option (List ℕ)) → old n.input ≡ told → IsSome told → IsSome (old n.output) → IsSome (old n.certificate) → ReadsValid classes new (Check n)
     of_input None is some out_told cert_told = absurd (false≢true some)
     of_input (Some file) is some out_told cert_told =
         let w = writes file is out_told cert_told in

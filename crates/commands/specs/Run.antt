@@ -1,6 +1,7 @@
 -- What is written under the names of the output and of the certificate, what fails, and when the work can be done.
 use Rattle.std.specs.Prelude.{◌≡◌, ◌⊎◌, ℕ, List, Option, Some, IsSome}
 use Rattle.std.specs.Option.{ForSome}
+use Rattle.dw_base.specs.declared.classes.Classes.{Classes}
 use Rattle.dw_base.specs.Host.{Rose}
 use Rattle.dw_base.specs.declared.fault.Reach.TheVariants.{Narrow, Wide}
 use Rattle.elf_sections.specs.Faults.{file_limit}
@@ -31,6 +32,10 @@ WritesOut P old new output = IsSome (old output) → (written : List ℕ) × (ne
 -- a file holds what it held, and no more of its writes have failed
 abbrev pub IsUntouched : (List ℕ → Option (List ℕ)) → (List ℕ → Option (List ℕ)) → (List ℕ → ℕ) → (List ℕ → ℕ) → List ℕ → Type 0
 IsUntouched old new before now f = (new f ≡ old f) × (now f ≡ before f)
+
+-- this holds of the bytes of the first two files, where both are told
+abbrev pub OfBothFiles : (List ℕ → List ℕ → Type 0) → (List ℕ → Option (List ℕ)) → Names → Type 0
+OfBothFiles P told n = (file written : List ℕ) → told n.input ≡ Some file → told n.output ≡ Some written → P file written
 
 -- this holds of the bytes of the three files, where all of them are told
 abbrev pub OfFiles : (List ℕ → List ℕ → List ℕ → Type 0) → (List ℕ → Option (List ℕ)) → Names → Type 0
@@ -68,15 +73,15 @@ WritesWell before now says (Make drawing) = ¬ Rose (before drawing.output) (now
 
 -- The work can be done: the file that is read, where one is, is told and has no fault. Of a check all three files are told, and the second
 -- is accepted.
-abbrev pub ReadsValid : (List ℕ → Option (List ℕ)) → Command → Type 0
-ReadsValid told (Shrink n) = (file : List ℕ) × (told n.input ≡ Some file) × IsValid file
-ReadsValid told (Check n) = (file written cert : List ℕ) × (told n.input ≡ Some file) × (told n.output ≡ Some written) × (told n.certificate ≡ Some cert) × Accepts file written cert
-ReadsValid told (Stat input) = (file : List ℕ) × (told input ≡ Some file) × IsValid file
-ReadsValid told (Make drawing) = Unit {0}
+abbrev pub ReadsValid : Classes → (List ℕ → Option (List ℕ)) → Command → Type 0
+ReadsValid classes told (Shrink n) = (file : List ℕ) × (told n.input ≡ Some file) × IsValid file
+ReadsValid classes told (Check n) = (file written cert : List ℕ) × (told n.input ≡ Some file) × (told n.output ≡ Some written) × (told n.certificate ≡ Some cert) × Accepts classes file written cert
+ReadsValid classes told (Stat input) = (file : List ℕ) × (told input ≡ Some file) × IsValid file
+ReadsValid classes told (Make drawing) = Unit {0}
 
 -- Where all three files of these names were told, the input is as it was, and all three can be checked now and are accepted.
-abbrev pub WritesAccepted : (List ℕ → Option (List ℕ)) → (List ℕ → Option (List ℕ)) → Names → Type 0
-WritesAccepted old new n = IsSome (old n.input) → IsSome (old n.output) → IsSome (old n.certificate) → (new n.input ≡ old n.input) × ReadsValid new (Check n)
+abbrev pub WritesAccepted : Classes → (List ℕ → Option (List ℕ)) → (List ℕ → Option (List ℕ)) → Names → Type 0
+WritesAccepted classes old new n = IsSome (old n.input) → IsSome (old n.output) → IsSome (old n.certificate) → (new n.input ≡ old n.input) × ReadsValid classes new (Check n)
 
 -- a file that is read is told and has a fault; of a check this is the first, or the second
 abbrev pub HasFault : (List ℕ → Option (List ℕ)) → Command → Type 0

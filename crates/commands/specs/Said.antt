@@ -8,6 +8,7 @@ use Rattle.commands.specs.Words.Command.{Shrink, Check, Stat, Make}
 use Rattle.commands.specs.Run.{OfFiles, IsToldAs, input_limit, output_limit}
 use Rattle.commands.specs.Summary.{SaysSummary, SaysSummaryPart}
 use Rattle.std.specs.Fmt.{decimal}
+use Rattle.dw_base.specs.declared.classes.Classes.{Classes}
 use Rattle.dw_base.specs.Fault.{name_of as kind_name}
 use Rattle.dw_base.specs.Host.{AddsPart}
 use Rattle.dw_base.specs.declared.fault.Kind.{Kind}
@@ -82,17 +83,17 @@ abbrev pub IsRefusal : (List ℕ → Option (List ℕ)) → Names → List ℕ �
 IsRefusal told n line = IsInputRefusal (told n.input) line ⊎ IsOutputRefusal (told n.input) (told n.output) line
 
 -- the line tells why three files are rejected, which are those that are told
-abbrev pub IsRejection : (List ℕ → Option (List ℕ)) → Names → List ℕ → Type 0
-IsRejection told n line =
-    (file written cert : List ℕ) × (reason : Reason) × IsToldAs (told n.input) file × IsToldAs (told n.output) written × IsToldAs (told n.certificate) cert × IsRejected file written cert reason × (line ≡ rejection_text file reason)
+abbrev pub IsRejection : Classes → (List ℕ → Option (List ℕ)) → Names → List ℕ → Type 0
+IsRejection classes told n line =
+    (file written cert : List ℕ) × (reason : Reason) × IsToldAs (told n.input) file × IsToldAs (told n.output) written × IsToldAs (told n.certificate) cert × IsRejected classes file written cert reason × (line ≡ rejection_text file reason)
 
 -- the line tells that they are accepted, as they are where they are told
-abbrev pub IsAcceptance : (List ℕ → Option (List ℕ)) → Names → List ℕ → Type 0
-IsAcceptance told n line = OfFiles Accepts told n × (line ≡ acceptance_text)
+abbrev pub IsAcceptance : Classes → (List ℕ → Option (List ℕ)) → Names → List ℕ → Type 0
+IsAcceptance classes told n line = OfFiles (Accepts classes) told n × (line ≡ acceptance_text)
 
 -- the line is one that a check says
-abbrev pub IsCheckLine : (List ℕ → Option (List ℕ)) → Names → List ℕ → Type 0
-IsCheckLine told n line = IsAcceptance told n line ⊎ (IsRefusal told n line ⊎ IsRejection told n line)
+abbrev pub IsCheckLine : Classes → (List ℕ → Option (List ℕ)) → Names → List ℕ → Type 0
+IsCheckLine classes told n line = IsAcceptance classes told n line ⊎ (IsRefusal told n line ⊎ IsRejection classes told n line)
 
 -- what was said is a line of which P holds
 abbrev pub SaysLine : (List ℕ → Type 0) → Option (List ℕ) → Option (List ℕ) → Type 0
@@ -122,22 +123,22 @@ SaysLong told before now (Stat input) = ForSome (told input) (λ file. input_lim
 SaysLong told before now (Make drawing) = ⊥
 
 -- what was said is why three files are rejected; a check alone says so
-abbrev pub SaysRejection : (List ℕ → Option (List ℕ)) → Option (List ℕ) → Option (List ℕ) → Command → Type 0
-SaysRejection told before now (Check n) = SaysLine (IsRejection told n) before now
-SaysRejection told before now _ = ⊥
+abbrev pub SaysRejection : Classes → (List ℕ → Option (List ℕ)) → Option (List ℕ) → Option (List ℕ) → Command → Type 0
+SaysRejection classes told before now (Check n) = SaysLine (IsRejection classes told n) before now
+SaysRejection classes told before now _ = ⊥
 
 -- what was said where the work was done: that three files are accepted, or the line of a summary, where one is asked for, and else
 -- nothing
-abbrev pub SaysDone : (List ℕ → Option (List ℕ)) → Option (List ℕ) → Option (List ℕ) → Command → Type 0
-SaysDone told before now (Shrink n) = now ≡ before
-SaysDone told before now (Check n) = now ≡ option_map (λ b. b ++ acceptance_text) before
-SaysDone told before now (Stat input) = SaysSummary (told input) before now
-SaysDone told before now (Make drawing) = now ≡ before
+abbrev pub SaysDone : Classes → (List ℕ → Option (List ℕ)) → Option (List ℕ) → Option (List ℕ) → Command → Type 0
+SaysDone classes told before now (Shrink n) = now ≡ before
+SaysDone classes told before now (Check n) = now ≡ option_map (λ b. b ++ acceptance_text) before
+SaysDone classes told before now (Stat input) = SaysSummary classes (told input) before now
+SaysDone classes told before now (Make drawing) = now ≡ before
 
 -- What was said where the work ended early: nothing, or some front of a line, which may be that of a summary or of a check where one is
 -- asked for.
-abbrev pub StopsSaying : (List ℕ → Option (List ℕ)) → Option (List ℕ) → Option (List ℕ) → Command → Type 0
-StopsSaying told before now (Shrink n) = SaysPart (told n.input) before now
-StopsSaying told before now (Check n) = SaysFront (IsCheckLine told n) before now
-StopsSaying told before now (Stat input) = SaysPart (told input) before now ⊎ SaysSummaryPart (told input) before now
-StopsSaying told before now (Make drawing) = now ≡ before
+abbrev pub StopsSaying : Classes → (List ℕ → Option (List ℕ)) → Option (List ℕ) → Option (List ℕ) → Command → Type 0
+StopsSaying classes told before now (Shrink n) = SaysPart (told n.input) before now
+StopsSaying classes told before now (Check n) = SaysFront (IsCheckLine classes told n) before now
+StopsSaying classes told before now (Stat input) = SaysPart (told input) before now ⊎ SaysSummaryPart classes (told input) before now
+StopsSaying classes told before now (Make drawing) = now ≡ before

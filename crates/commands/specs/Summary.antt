@@ -3,6 +3,7 @@ use Rattle.std.specs.Prelude.{◌≡◌, ◌++◌, ℕ, List, length, codes, Opt
 use Rattle.std.specs.Option.{ForSome}
 use Rattle.std.specs.List.{sum_by}
 use Rattle.std.specs.Fmt.{decimal}
+use Rattle.dw_base.specs.declared.classes.Classes.{Classes}
 use Rattle.line_write.specs.Meaning.{ProgramMeaning}
 use Rattle.list_model.specs.declared.entry.ListKind.TheVariants.{Ranges, Locations}
 use Rattle.value_links.specs.Debug.{Debug, UnitMeaning, Means}
@@ -39,17 +40,17 @@ summary_text file written debug =
     ++ codes "}\n"
 
 -- a valid file, one that may be written for it, and what it means
-pub record IsSummed (file written : List ℕ) (debug : Debug) : Type 0 where
+pub record IsSummed (classes : Classes) (file written : List ℕ) (debug : Debug) : Type 0 where
   pub valid : IsValid file
-  pub whole : IsWhole file written
+  pub whole : IsWhole classes file written
   pub means : Means file debug
 
 -- what was said is that line, of a file which is the one that is told, if it is
-abbrev pub SaysSummary : Option (List ℕ) → Option (List ℕ) → Option (List ℕ) → Type 0
-SaysSummary told before now =
-    (file : List ℕ) × (written : List ℕ) × (debug : Debug) × (ForSome told (λ b. file ≡ b)) × IsSummed file written debug × (now ≡ option_map (λ b. b ++ summary_text file written debug) before)
+abbrev pub SaysSummary : Classes → Option (List ℕ) → Option (List ℕ) → Option (List ℕ) → Type 0
+SaysSummary classes told before now =
+    (file : List ℕ) × (written : List ℕ) × (debug : Debug) × (ForSome told (λ b. file ≡ b)) × IsSummed classes file written debug × (now ≡ option_map (λ b. b ++ summary_text file written debug) before)
 
 -- or some front of it
-abbrev pub SaysSummaryPart : Option (List ℕ) → Option (List ℕ) → Option (List ℕ) → Type 0
-SaysSummaryPart told before now =
-    (file : List ℕ) × (written : List ℕ) × (debug : Debug) × (ForSome told (λ b. file ≡ b)) × IsSummed file written debug × AddsPart before (summary_text file written debug) now
+abbrev pub SaysSummaryPart : Classes → Option (List ℕ) → Option (List ℕ) → Option (List ℕ) → Type 0
+SaysSummaryPart classes told before now =
+    (file : List ℕ) × (written : List ℕ) × (debug : Debug) × (ForSome told (λ b. file ≡ b)) × IsSummed classes file written debug × AddsPart before (summary_text file written debug) now

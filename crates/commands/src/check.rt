@@ -12,7 +12,7 @@ use crate::ending::Ending;
 use crate::reading::{INPUT_LIMIT, NO_LIMIT, OUTPUT_LIMIT, read_file};
 use crate::rejection::rejection;
 use crate::saying::{end, input_refusal, output_refusal, say};
-use dw_base::{Fault, Host, Kind, NoMemory, Reach, Refusal};
+use dw_base::{Classes, Fault, Host, Kind, NoMemory, Reach, Refusal};
 use std::alloc::Global;
 use value_links::{World, first_faults_decide};
 use verdict::verdict;
@@ -82,15 +82,16 @@ fn read_world<'a>(alloc: Global, file: &'a [u8], reach: Reach) -> Result<World<'
 // The answer to two files that are in order, and a certificate.
 fn answer_for(
     alloc: Global,
+    classes: Classes,
     before: &World<'_>,
     after: &World<'_>,
     certificate: &[u8],
 ) -> Result<Answer, NoMemory>
     requires before { IsWorldOf before.now.image Narrow before.now }
     requires after { IsWorldOf after.now.image Wide after.now }
-    ensures { IfOk result (IsAnswer before.now.image after.now.image certificate.now) }
+    ensures { IfOk result (IsAnswer classes before.now.image after.now.image certificate.now) }
 {
-    match verdict(alloc, before, after, certificate)? {
+    match verdict(alloc, classes, before, after, certificate)? {
         None => Ok(Answer::Accepted),
         Some(reason) => Ok(Answer::Rejected(rejection(alloc, before.image(), reason)?)),
     }
@@ -99,26 +100,33 @@ fn answer_for(
 // The answer to the bytes of a file that may have been written for one that is in order.
 fn judge_written(
     alloc: Global,
+    classes: Classes,
     before: &World<'_>,
     written: &[u8],
     certificate: &[u8],
 ) -> Result<Answer, NoMemory>
     requires { IsWorldOf before.now.image Narrow before.now }
-    ensures { IfOk result (IsAnswer before.now.image written.now certificate.now) }
+    ensures { IfOk result (IsAnswer classes before.now.image written.now certificate.now) }
 {
     match read_world(alloc, written, Reach::Wide) {
-        Ok(after) => answer_for(alloc, before, &after, certificate),
+        Ok(after) => answer_for(alloc, classes, before, &after, certificate),
         Err(Refusal::Refused(fault)) => Ok(Answer::Refused(output_refusal(alloc, fault)?)),
         Err(Refusal::NoMemory) => Err(NoMemory),
     }
 }
 
 // The answer to the bytes of three files. Faults of the first are looked for before those of the second.
-fn judge(alloc: Global, file: &[u8], written: &[u8], certificate: &[u8]) -> Result<Answer, NoMemory>
-    ensures { IfOk result (IsAnswer file.now written.now certificate.now) }
+fn judge(
+    alloc: Global,
+    classes: Classes,
+    file: &[u8],
+    written: &[u8],
+    certificate: &[u8],
+) -> Result<Answer, NoMemory>
+    ensures { IfOk result (IsAnswer classes file.now written.now certificate.now) }
 {
     match read_world(alloc, file, Reach::Narrow) {
-        Ok(before) => judge_written(alloc, &before, written, certificate),
+        Ok(before) => judge_written(alloc, classes, &before, written, certificate),
         Err(Refusal::Refused(fault)) => Ok(Answer::Refused(input_refusal(alloc, fault)?)),
         Err(Refusal::NoMemory) => Err(NoMemory),
     }
@@ -127,12 +135,13 @@ fn judge(alloc: Global, file: &[u8], written: &[u8], certificate: &[u8]) -> Resu
 // Reads the three files, in their order, and answers what they come to.
 fn examine<H: Host>(
     alloc: Global,
+    classes: Classes,
     input: &str,
     output: &str,
     certificate: &str,
     host: &mut H,
 ) -> Result<Answer, Ending>
-    ensures answer { IfOk result (λ answer. (file written cert : List ℕ) × IsFrontOf Narrow (H.bytes host.old input.now) file × IsFrontOf Wide (H.bytes host.old output.now) written × IsToldAs (H.bytes host.old certificate.now) cert × IsAnswer file written cert answer) }
+    ensures answer { IfOk result (λ answer. (file written cert : List ℕ) × IsFrontOf Narrow (H.bytes host.old input.now) file × IsFrontOf Wide (H.bytes host.old output.now) written × IsToldAs (H.bytes host.old certificate.now) cert × IsAnswer classes file written cert answer) }
     ensures files { (f : List ℕ) → H.bytes host.new f ≡ H.bytes host.old f }
     ensures said { H.said host.new ≡ H.said host.old }
     ensures reads { OnlyReadFault (Rose (H.read_faults host.old input.now) (H.read_faults host.new input.now) ⊎ (Rose (H.read_faults host.old output.now) (H.read_faults host.new output.now) ⊎ Rose (H.read_faults host.old certificate.now) (H.read_faults host.new certificate.now))) (H.read_faults host.old) (H.read_faults host.new) result }
@@ -142,25 +151,26 @@ fn examine<H: Host>(
     let file = read_file(alloc, input, INPUT_LIMIT, host)?;
     let written = read_file(alloc, output, OUTPUT_LIMIT, host)?;
     let cert = read_file(alloc, certificate, NO_LIMIT, host)?;
-    Ok(judge(alloc, &file, &written, &cert)?)
+    Ok(judge(alloc, classes, &file, &written, &cert)?)
 }
 
-/// Reads the three files, and says whether the second is accepted as written for the first, with the third as its certificate. No file is
+/// Reads the three files, and says whether the second is accepted as written for the first, with the third as its certificate, in some classes. No file is
 /// written.
 pub fn check<H: Host>(
     alloc: Global,
+    classes: Classes,
     input: &str,
     output: &str,
     certificate: &str,
     host: &mut H,
 ) -> u8
-    ensures ends { EndsCheck (H.bytes host.old) (record { input = input.now; output = output.now; certificate = certificate.now }) (H.said host.old) (H.said host.new) (H.read_faults host.old) (H.read_faults host.new) (H.say_faults host.old) (H.say_faults host.new) result }
+    ensures ends { EndsCheck classes (H.bytes host.old) (record { input = input.now; output = output.now; certificate = certificate.now }) (H.said host.old) (H.said host.new) (H.read_faults host.old) (H.read_faults host.new) (H.say_faults host.old) (H.say_faults host.new) result }
     ensures files { (f : List ℕ) → H.bytes host.new f ≡ H.bytes host.old f }
     ensures writes { (f : List ℕ) → H.write_faults host.new f ≡ H.write_faults host.old f }
 {
     // A law, which costs nothing: a fault of the first pass is one of the file.
     first_faults_decide();
-    match examine(alloc, input, output, certificate, host) {
+    match examine(alloc, classes, input, output, certificate, host) {
         Ok(answer) => say(host, answer.line(), answer.status()),
         Err(ending) => end(alloc, ending, host),
     }

@@ -5,6 +5,7 @@
 mod anew;
 mod check;
 mod ending;
+mod for_packages;
 mod make;
 mod reading;
 mod rejection;
@@ -16,4 +17,5 @@ mod words;
 mod writing;
 
 pub use anew::rewrite_file;
-pub use running::run;
+pub use for_packages::run_packaged;
+pub use running::{run, run_in};

@@ -12,12 +12,13 @@ use crate::anew::rewrite_file;
 use crate::ending::Ending;
 use crate::reading::read_input;
 use crate::writing::write_files;
-use dw_base::Host;
+use dw_base::{Classes, Host};
 use std::alloc::Global;
 
-/// Reads the input, and writes the output and its certificate.
+/// Reads the input, and writes the output and its certificate, in some classes.
 pub fn shrink<H: Host>(
     alloc: Global,
+    classes: Classes,
     input: &str,
     output: &str,
     certificate: &str,
@@ -25,12 +26,12 @@ pub fn shrink<H: Host>(
 ) -> Result<(), Ending>
     requires apart { output.now ≢ certificate.now }
     ensures valid { OnOk result (ForSome (H.bytes host.old input.now) IsValid) }
-    ensures written { OnOk result (Writes IsWhole (H.bytes host.old) (H.bytes host.new) input.now output.now) }
-    ensures certified { OnOk result (Certifies IsCertificate (H.bytes host.old) (H.bytes host.new) output.now certificate.now) }
-    ensures certified_first { OnOk result (Certifies IsFirstCertificate (H.bytes host.old) (H.bytes host.new) output.now certificate.now) }
-    ensures accepted { OnOk result (WritesBoth Accepts (H.bytes host.old) (H.bytes host.new) input.now output.now certificate.now) }
+    ensures written { OnOk result (Writes (IsWhole classes) (H.bytes host.old) (H.bytes host.new) input.now output.now) }
+    ensures certified { OnOk result (Certifies (IsCertificate classes) (H.bytes host.old) (H.bytes host.new) output.now certificate.now) }
+    ensures certified_first { OnOk result (Certifies (IsFirstCertificate classes) (H.bytes host.old) (H.bytes host.new) output.now certificate.now) }
+    ensures accepted { OnOk result (WritesBoth (Accepts classes) (H.bytes host.old) (H.bytes host.new) input.now output.now certificate.now) }
     ensures later { IsSome (H.bytes host.old output.now) → H.write_faults host.old output.now < H.write_faults host.new output.now → H.bytes host.new certificate.now ≡ H.bytes host.old certificate.now }
-    ensures whole { IsSome (H.bytes host.old certificate.now) → IsUntouched (H.bytes host.old) (H.bytes host.new) (H.write_faults host.old) (H.write_faults host.new) certificate.now ⊎ Writes IsWhole (H.bytes host.old) (H.bytes host.new) input.now output.now }
+    ensures whole { IsSome (H.bytes host.old certificate.now) → IsUntouched (H.bytes host.old) (H.bytes host.new) (H.write_faults host.old) (H.write_faults host.new) certificate.now ⊎ Writes (IsWhole classes) (H.bytes host.old) (H.bytes host.new) input.now output.now }
     ensures refused { EndsByFault (H.bytes host.old input.now) result }
     ensures long { RefusesLong (H.bytes host.old input.now) result }
     ensures files { LeavesFiles (H.bytes host.old) (H.bytes host.new) result }
@@ -43,7 +44,7 @@ pub fn shrink<H: Host>(
     ensures says { H.say_faults host.new ≡ H.say_faults host.old }
 {
     let file = read_input(alloc, input, host)?;
-    let written = rewrite_file(alloc, &file)?;
+    let written = rewrite_file(alloc, classes, &file)?;
     // All memory was found: nothing was written yet.
     write_files(output, certificate, &written, host)
 }

@@ -18,10 +18,10 @@ ghost use Rattle.commands.specs.declared.ending.Ending.TheVariants.{WriteFault};
 ghost use Rattle.commands.specs.inside.Run.{HasReadCause, EndsByFault, RefusesLong};
 ghost use Rattle.commands.specs.inside.Summary.{AreSizes, AreCounts, IsLineOf, sizes_data, summary_data};
 
-use crate::anew::rewrite_file;
+use crate::anew::rewrite_held;
 use crate::ending::Ending;
 use crate::reading::read_input;
-use dw_base::{Host, Reach, Refusal};
+use dw_base::{Classes, Host, Reach, Refusal};
 use elf_sections::Image;
 use entry_read::Unit;
 use line_machine::{Head, count_rows};
@@ -121,16 +121,6 @@ fn counts_of(world: &World<'_>) -> Counts
     }
 }
 
-// The sizes and the counts of a file. Nothing else that is read of it is kept.
-fn read_numbers(alloc: Global, file: &[u8]) -> Result<(Sizes, Counts), Refusal>
-    ensures sizes { IfOk result (λ numbers. AreSizes file.now numbers.0) }
-    ensures counts { IfOk result (λ numbers. (debug : Debug) × Means file.now debug × AreCounts debug numbers.1) }
-    ensures refused { IfErr result (λ refusal. NamesFault file.now Narrow refusal) }
-{
-    let world = World::read(alloc, file, Reach::Narrow)?;
-    Ok((sizes_of(world.image()), counts_of(&world)))
-}
-
 // The sizes of a valid file. Of it no more than its headers are read.
 fn read_sizes(alloc: Global, file: &[u8]) -> Result<Sizes, AllocError>
     requires { IsValidWithin file.now Wide }
@@ -193,22 +183,29 @@ fn summary_line(
 }
 
 // The line of a file.
-fn line_of(alloc: Global, file: &[u8]) -> Result<String, Refusal>
+fn line_of(alloc: Global, classes: Classes, file: &[u8]) -> Result<String, Refusal>
     ensures valid { IfOk result (λ _. IsValid file.now) }
-    ensures line { IfOk result (λ text. IsLineOf file.now (string_bytes text)) }
+    ensures line { IfOk result (λ text. IsLineOf classes file.now (string_bytes text)) }
     ensures refused { IfErr result (λ refusal. NamesFault file.now Narrow refusal) }
 {
-    let (old, counts) = read_numbers(alloc, file)?;
-    let written = rewrite_file(alloc, file)?;
+    let world = World::read(alloc, file, Reach::Narrow)?;
+    let old = sizes_of(world.image());
+    let counts = counts_of(&world);
+    let written = rewrite_held(alloc, classes, world)?;
     let new = read_sizes(alloc, &written.file)?;
     Ok(summary_line(alloc, &old, &new, &counts)?)
 }
 
-/// Reads the input, and tells in a line of JSON what writing it anew would win: how many bytes the sections that are written anew have
+/// Reads the input, and tells in a line of JSON what writing it anew in some classes would win: how many bytes the sections that are written anew have
 /// in it and in the output, and how many entries, rows of line number programs and units it has. Nothing is written.
-pub fn summarise<H: Host>(alloc: Global, input: &str, host: &mut H) -> Result<String, Ending>
+pub fn summarise<H: Host>(
+    alloc: Global,
+    classes: Classes,
+    input: &str,
+    host: &mut H,
+) -> Result<String, Ending>
     ensures valid { OnOk result (ForSome (H.bytes host.old input.now) IsValid) }
-    ensures line { IfOk result (λ text. (file : List ℕ) × ForSome (H.bytes host.old input.now) (λ b. file ≡ b) × IsLineOf file (string_bytes text)) }
+    ensures line { IfOk result (λ text. (file : List ℕ) × ForSome (H.bytes host.old input.now) (λ b. file ≡ b) × IsLineOf classes file (string_bytes text)) }
     ensures refused { EndsByFault (H.bytes host.old input.now) result }
     ensures long { RefusesLong (H.bytes host.old input.now) result }
     ensures unwritten { IfErr result (λ ending. ending ≡ WriteFault → ⊥) }
@@ -219,5 +216,5 @@ pub fn summarise<H: Host>(alloc: Global, input: &str, host: &mut H) -> Result<St
     ensures says { H.say_faults host.new ≡ H.say_faults host.old }
 {
     let file = read_input(alloc, input, host)?;
-    Ok(line_of(alloc, &file)?)
+    Ok(line_of(alloc, classes, &file)?)
 }

@@ -3,19 +3,49 @@
 // Names of attributes (section 7.5.4).
 pub const DW_AT_LOCATION: u64 = 0x02;
 
+pub const DW_AT_ORDERING: u64 = 0x09;
+
+pub const DW_AT_BYTE_SIZE: u64 = 0x0b;
+
+pub const DW_AT_BIT_SIZE: u64 = 0x0d;
+
 pub const DW_AT_STMT_LIST: u64 = 0x10;
 
 pub const DW_AT_LOW_PC: u64 = 0x11;
 
+pub const DW_AT_HIGH_PC: u64 = 0x12;
+
+pub const DW_AT_LANGUAGE: u64 = 0x13;
+
+pub const DW_AT_VISIBILITY: u64 = 0x17;
+
 pub const DW_AT_STRING_LENGTH: u64 = 0x19;
+
+pub const DW_AT_CONST_VALUE: u64 = 0x1c;
+
+pub const DW_AT_INLINE: u64 = 0x20;
 
 pub const DW_AT_RETURN_ADDR: u64 = 0x2a;
 
 pub const DW_AT_START_SCOPE: u64 = 0x2c;
 
+pub const DW_AT_ACCESSIBILITY: u64 = 0x32;
+
+pub const DW_AT_CALLING_CONVENTION: u64 = 0x36;
+
 pub const DW_AT_DATA_MEMBER_LOCATION: u64 = 0x38;
 
+pub const DW_AT_DECL_COLUMN: u64 = 0x39;
+
+pub const DW_AT_DECL_FILE: u64 = 0x3a;
+
+pub const DW_AT_DECL_LINE: u64 = 0x3b;
+
+pub const DW_AT_ENCODING: u64 = 0x3e;
+
 pub const DW_AT_FRAME_BASE: u64 = 0x40;
+
+pub const DW_AT_IDENTIFIER_CASE: u64 = 0x42;
 
 pub const DW_AT_SEGMENT: u64 = 0x46;
 
@@ -23,9 +53,23 @@ pub const DW_AT_STATIC_LINK: u64 = 0x48;
 
 pub const DW_AT_USE_LOCATION: u64 = 0x4a;
 
+pub const DW_AT_VIRTUALITY: u64 = 0x4c;
+
 pub const DW_AT_VTABLE_ELEM_LOCATION: u64 = 0x4d;
 
 pub const DW_AT_RANGES: u64 = 0x55;
+
+pub const DW_AT_CALL_COLUMN: u64 = 0x57;
+
+pub const DW_AT_CALL_FILE: u64 = 0x58;
+
+pub const DW_AT_CALL_LINE: u64 = 0x59;
+
+pub const DW_AT_DECIMAL_SIGN: u64 = 0x5e;
+
+pub const DW_AT_DIGIT_COUNT: u64 = 0x5f;
+
+pub const DW_AT_ENDIANITY: u64 = 0x65;
 
 pub const DW_AT_STR_OFFSETS_BASE: u64 = 0x72;
 
@@ -34,6 +78,10 @@ pub const DW_AT_ADDR_BASE: u64 = 0x73;
 pub const DW_AT_RNGLISTS_BASE: u64 = 0x74;
 
 pub const DW_AT_MACROS: u64 = 0x79;
+
+pub const DW_AT_ALIGNMENT: u64 = 0x88;
+
+pub const DW_AT_DEFAULTED: u64 = 0x8b;
 
 pub const DW_AT_LOCLISTS_BASE: u64 = 0x8c;
 

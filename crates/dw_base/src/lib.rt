@@ -1,6 +1,7 @@
 //! What all crates share: faults and their kinds, the outside, and two hosts in memory.
 #![tactic(auto)]
 
+mod classes;
 pub mod constants;
 mod fault;
 mod files;
@@ -11,6 +12,7 @@ mod record;
 #[cfg(test)]
 mod tests;
 
+pub use classes::Classes;
 pub use fault::{Fault, Kind, NoMemory, Reach, Refusal, Span};
 pub use files::NamedFile;
 pub use host::{Host, Stop};

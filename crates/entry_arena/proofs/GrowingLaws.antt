@@ -67,9 +67,9 @@ module _ (section more : List ℕ) where
   values_stay [] (v ∷ vs) from to none = none
   values_stay (c ∷ cs) [] from to none = none
   values_stay (c ∷ cs) (v ∷ vs) from to (next, spelled, placed, rest) =
-      let lies : LiesIn (length section) v = lies_in (length section) from next v spelled.inside (lies_between section c.form c.constant v from next spelled placed) in
-      let there = spells_stay (SpellsValue c.form c.constant (meant_in section v)) from next spelled in
-      let meant = subst (λ (m : Meaning). SpellsBetween (SpellsValue c.form c.constant m) (section ++ more) from next) (sym (meant_stays v lies)) there in
+      let lies : LiesIn (length section) v = lies_in (length section) from next v spelled.inside (lies_between section c.name c.form c.constant v from next spelled placed) in
+      let there = spells_stay (SpellsValue c.name c.form c.constant (meant_in section v)) from next spelled in
+      let meant = subst (λ (m : Meaning). SpellsBetween (SpellsValue c.name c.form c.constant m) (section ++ more) from next) (sym (meant_stays v lies)) there in
       (next, meant, placed, values_stay cs vs next to rest)
 
   module _ (ds : List Declared) where

@@ -102,8 +102,8 @@ module _ (section : List ℕ) (from next : ℕ) (order : from ≤ next) (inside 
   lies v shape spelled placed = tt
 
 -- what is spelled from a place up to another lends bytes between them
-pub lies_between : (section : List ℕ) (code : ℕ) (constant : ℤ) (v : Value) (from next : ℕ) → SpellsBetween (SpellsValue code constant (meant_in section v)) section from next → IsPlaced v from next → LiesBetween from next v
-lies_between section code constant v from next p placed = lies section from next p.order p.inside v (shape_of p.spelled.form constant) p.spelled.spelled placed
+pub lies_between : (section : List ℕ) (name code : ℕ) (constant : ℤ) (v : Value) (from next : ℕ) → SpellsBetween (SpellsValue name code constant (meant_in section v)) section from next → IsPlaced v from next → LiesBetween from next v
+lies_between section name code constant v from next p placed = lies section from next p.order p.inside v (shape_of p.spelled.form name constant) p.spelled.spelled placed
 
 pub lies_in : (size from to : ℕ) (v : Value) → to ≤ size → LiesBetween from to v → LiesIn size v
 lies_in size from to (value.Wide16 s) most p = omega (arith, p.1)

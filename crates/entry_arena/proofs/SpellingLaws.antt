@@ -144,13 +144,13 @@ values_found section (c ∷ cs) [] from to order inside none = absurd none
 values_found section (c ∷ cs) (m ∷ ms) from to order inside (first, rest, spelled, more, whole) =
     let k = cut section from to first rest order inside whole in
     let before : k.mid ≤ to = k.before in
-    let here : SpellsValue c.form c.constant m (bytes_between section from k.mid) = subst (λ (z : List ℕ). SpellsValue c.form c.constant m z) (sym k.first) spelled in
-    let v = shape_value section (shape_of here.form c.constant) m from k.mid k.after (omega arith) here.spelled in
+    let here : SpellsValue c.name c.form c.constant m (bytes_between section from k.mid) = subst (λ (z : List ℕ). SpellsValue c.name c.form c.constant m z) (sym k.first) spelled in
+    let v = shape_value section (shape_of here.form c.name c.constant) m from k.mid k.after (omega arith) here.spelled in
     let others = values_found section cs ms k.mid to k.before inside (subst (λ (z : List ℕ). SpellsValues cs ms z) (sym k.second) more) in
     record {
       values = v.value ∷ others.values;
       means = ap (λ z. z ∷ map (meant_in section) others.values) v.means ∙ ap (λ z. m ∷ z) others.means;
-      valued = (k.mid, (record { order = k.after; inside = omega arith; spelled = subst (λ (z : Meaning). SpellsValue c.form c.constant z (bytes_between section from k.mid)) (sym v.means) here }), v.placed, others.valued);
+      valued = (k.mid, (record { order = k.after; inside = omega arith; spelled = subst (λ (z : Meaning). SpellsValue c.name c.form c.constant z (bytes_between section from k.mid)) (sym v.means) here }), v.placed, others.valued);
     }
 
 -- and back

@@ -62,21 +62,21 @@ values_front section (c ∷ cs) (v ∷ vs) from to (suc k) (next, spelled, place
     (front.0, (next, spelled, placed, front.1))
 
 -- bytes that begin with a column's value have no fault there
-column_whole : (section : List ℕ) (c : Spec) (v : Value) (kind : Kind) (from next to : ℕ) → SpellsBetween (SpellsValue c.form c.constant (meant_in section v)) section from next → next ≤ to → FaultValue c.form c.constant kind (bytes_between section from to) → ⊥
+column_whole : (section : List ℕ) (c : Spec) (v : Value) (kind : Kind) (from next to : ℕ) → SpellsBetween (SpellsValue c.name c.form c.constant (meant_in section v)) section from next → next ≤ to → FaultValue c.name c.form c.constant kind (bytes_between section from to) → ⊥
 column_whole section c v kind from next to p inside fault =
-    value_whole c.form c.constant kind (meant_in section v) (bytes_between section from next) (bytes_between section next to) p.spelled (subst (λ (z : List ℕ). FaultValue c.form c.constant kind z) (between_split section from next to p.order inside) fault)
+    value_whole c.name c.form c.constant kind (meant_in section v) (bytes_between section from next) (bytes_between section next to) p.spelled (subst (λ (z : List ℕ). FaultValue c.name c.form c.constant kind z) (between_split section from next to p.order inside) fault)
 
 -- nor do those that begin with the values of all columns
-columns_whole : (section : List ℕ) (before : List Spec) (c : Spec) (after : List Spec) (vs ws : List Value) (kind : Kind) (from at end to : ℕ) → ValuesBetween section (before ++ c ∷ after) vs from end → end ≤ to → ValuesBetween section before ws from at → FaultValue c.form c.constant kind (bytes_between section at to) → ⊥
+columns_whole : (section : List ℕ) (before : List Spec) (c : Spec) (after : List Spec) (vs ws : List Value) (kind : Kind) (from at end to : ℕ) → ValuesBetween section (before ++ c ∷ after) vs from end → end ≤ to → ValuesBetween section before ws from at → FaultValue c.name c.form c.constant kind (bytes_between section at to) → ⊥
 columns_whole section [] c after [] ws kind from at end to none inside there fault = none
 columns_whole section [] c after (v ∷ vs) [] kind from at end to (next, spelled, placed, more) inside there fault =
     let rest : next ≤ end = values_rise section after vs next end more in
-    column_whole section c v kind from next to spelled (omega arith) (subst (λ (z : ℕ). FaultValue c.form c.constant kind (bytes_between section z to)) (sym there) fault)
+    column_whole section c v kind from next to spelled (omega arith) (subst (λ (z : ℕ). FaultValue c.name c.form c.constant kind (bytes_between section z to)) (sym there) fault)
 columns_whole section [] c after (v ∷ vs) (w ∷ ws) kind from at end to valued inside there fault = there
 columns_whole section (b ∷ before) c after [] ws kind from at end to none inside there fault = none
 columns_whole section (b ∷ before) c after (v ∷ vs) [] kind from at end to valued inside there fault = there
 columns_whole section (b ∷ before) c after (v ∷ vs) (w ∷ ws) kind from at end to (next, spelled, placed, more) inside (next2, also, put, others) fault =
-    let same : next2 ≡ next = (spells_once (SpellsValue b.form b.constant) (value_once b.form b.constant) section (meant_in section w) (meant_in section v) from next2 next also spelled).0 in
+    let same : next2 ≡ next = (spells_once (SpellsValue b.name b.form b.constant) (value_once b.name b.form b.constant) section (meant_in section w) (meant_in section v) from next2 next also spelled).0 in
     columns_whole section before c after vs ws kind next at end to more inside (subst (λ (z : ℕ). ValuesBetween section before ws z at) same others) fault
 
 -- bytes that begin with a code aren't those of a cut or wide one

@@ -25,9 +25,9 @@ pub record SpansEnd (section : List ℕ) (values : List Value) (place : ℕ) : T
   pub rise : SpansRise values (length section)
   pub end : (i : ℕ) → i < length values → EndsBy place (value_at values i)
 
-value_ends : (section : List ℕ) (code : ℕ) (constant : ℤ) (values : List Value) (v : Value) (from next : ℕ) → SpansEnd section values from → SpellsBetween (SpellsValue code constant (meant_in section v)) section from next → IsPlaced v from next → SpansEnd section (values ++ v ∷ []) next
-value_ends section code constant values v from next spans spelled placed =
-    let lies = lies_between section code constant v from next spelled placed in
+value_ends : (section : List ℕ) (name code : ℕ) (constant : ℤ) (values : List Value) (v : Value) (from next : ℕ) → SpansEnd section values from → SpellsBetween (SpellsValue name code constant (meant_in section v)) section from next → IsPlaced v from next → SpansEnd section (values ++ v ∷ []) next
+value_ends section name code constant values v from next spans spelled placed =
+    let lies = lies_between section name code constant v from next spelled placed in
     record {
       rise = spans_more values v (length section) spans.rise (lies_in (length section) from next v spelled.inside lies) (λ i inside. comes_before (value_at values i) v from next (spans.end i inside) lies);
       end = λ i inside. at_more (λ z. EndsBy next z) values v (value.Addr 0) i (λ l. ends_later (value_at values i) from next spelled.order (spans.end i l)) (λ _. ends_by v from next lies) inside;
@@ -39,7 +39,7 @@ values_end section [] [] values from to e spans = (omega arith, subst (λ (l : L
 values_end section [] (v ∷ vs) values from to p spans = absurd p
 values_end section (c ∷ cs) [] values from to p spans = absurd p
 values_end section (c ∷ cs) (v ∷ vs) values from to (next, spelled, placed, rest) spans =
-    let more = values_end section cs vs (values ++ v ∷ []) next to rest (value_ends section c.form c.constant values v from next spans spelled placed) in
+    let more = values_end section cs vs (values ++ v ∷ []) next to rest (value_ends section c.name c.form c.constant values v from next spans spelled placed) in
     (omega (arith, spelled.order, more.0), subst (λ (l : List Value). SpansEnd section l to) (append_assoc values (v ∷ []) vs) more.1)
 
 -- numbers below a count
@@ -183,12 +183,12 @@ module _ (section : List ℕ) (ds : List Declared) (start : ℕ) (items : List I
   walked_orderly = walk_orderly section ds items (nothing_from start) now [] chains (listed_nothing section start) walked
 
   -- a value of the entry that stands next may be pushed, after those before it
-  pub walked_value : (values_at from next : ℕ) (columns : List Spec) (values : List Value) (code : ℕ) (constant : ℤ) (v : Value) → now.place ≤ values_at → ValuesBetween section columns values values_at from → SpellsBetween (SpellsValue code constant (meant_in section v)) section from next → IsPlaced v from next → IsNextValue (held_with section now values) v
-  walked_value values_at from next columns values code constant v starts valued spelled placed =
+  pub walked_value : (values_at from next : ℕ) (columns : List Spec) (values : List Value) (name code : ℕ) (constant : ℤ) (v : Value) → now.place ≤ values_at → ValuesBetween section columns values values_at from → SpellsBetween (SpellsValue name code constant (meant_in section v)) section from next → IsPlaced v from next → IsNextValue (held_with section now values) v
+  walked_value values_at from next columns values name code constant v starts valued spelled placed =
       let o = walked_orderly in
       let spans : SpansEnd section now.values values_at = record { rise = o.spans.rise; end = λ i inside. ends_later (value_at now.values i) now.place values_at starts (o.spans.end i inside) } in
       let more = values_end section columns values now.values values_at from valued spans in
-      let lies = lies_between section code constant v from next spelled placed in
+      let lies = lies_between section name code constant v from next spelled placed in
       record {
         inside = lies_in (length section) from next v spelled.inside lies;
         after = λ i inside. comes_before (value_at (now.values ++ values) i) v from next (more.1.end i inside) lies;

@@ -46,7 +46,7 @@ are_bytes (suc (suc zero)) h = omega arith
 are_bytes (suc (suc (suc zero))) h = omega arith
 are_bytes (suc (suc (suc (suc k)))) h = absurd (omega arith)
 
-a_sibling : SpellsValue 19 (pos 0) (Meaning.InUnit 18) sibling
+a_sibling : SpellsValue 1 19 (pos 0) (Meaning.InUnit 18) sibling
 unfolding number
 a_sibling = record { form = form.Ref4; known = refl; small = are_bytes; spelled = (refl, refl) }
 

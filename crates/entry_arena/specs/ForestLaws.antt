@@ -80,7 +80,7 @@ pub record FaultyColumn (section : List ℕ) (ds : List Declared) (from to : ℕ
   pub values : List Value
   pub valued : ValuesBetween section before values values_at at
   pub inside : at ≤ to
-  pub fault : FaultValue column.form column.constant kind (bytes_between section at to)
+  pub fault : FaultValue column.name column.form column.constant kind (bytes_between section at to)
 
 -- The bytes from a place up to an end aren't empty (else a chain would be cut), and have none of these faults: a code that
 -- the end cuts (Short) or that doesn't fit (LebWide), a code of no declaration (CodeMissing), and a value that doesn't stand

@@ -27,7 +27,7 @@ WalksStandBefore = (section : List ℕ) (ds : List Declared) (start : ℕ) (item
 
 -- after some values of the entry that stands next, its next value is the next one in order
 abbrev pub ValuesComeNext : Type 0
-ValuesComeNext = (section : List ℕ) (ds : List Declared) (start : ℕ) (items : List Item) (now : Listed) (chains : List ℕ) → Walks section ds (nothing_from start) [] items now chains → (values_at from next : ℕ) (columns : List Spec) (values : List Value) (code : ℕ) (constant : ℤ) (v : Value) → now.place ≤ values_at → ValuesBetween section columns values values_at from → SpellsBetween (SpellsValue code constant (meant_in section v)) section from next → IsPlaced v from next → IsNextValue (held_with section now values) v
+ValuesComeNext = (section : List ℕ) (ds : List Declared) (start : ℕ) (items : List Item) (now : Listed) (chains : List ℕ) → Walks section ds (nothing_from start) [] items now chains → (values_at from next : ℕ) (columns : List Spec) (values : List Value) (name code : ℕ) (constant : ℤ) (v : Value) → now.place ≤ values_at → ValuesBetween section columns values values_at from → SpellsBetween (SpellsValue name code constant (meant_in section v)) section from next → IsPlaced v from next → IsNextValue (held_with section now values) v
 
 -- after its values, the entry is
 abbrev pub EntriesComeNext : Type 0

@@ -17,7 +17,7 @@ pub data Subtrees : Type 0 where
 
 -- the values of columns, one after the other
 abbrev pub SpellsValues : List Spec → List Meaning → List ℕ → Type 0
-SpellsValues columns values bytes = JoinedBy (λ (c : Spec). SpellsValue c.form c.constant) columns values bytes
+SpellsValues columns values bytes = JoinedBy (λ (c : Spec). SpellsValue c.name c.form c.constant) columns values bytes
 
 -- an entry: the code of its declaration, and the values of its columns
 pub record SpellsEntry (ds : List Declared) (number : ℕ) (values : List Meaning) (bytes : List ℕ) : Type 0 where

@@ -28,7 +28,7 @@ abbrev pub ValuesBetween : List ℕ → List Spec → List Value → ℕ → ℕ
 ValuesBetween section [] [] from to = from ≡ to
 ValuesBetween section [] (v ∷ vs) from to = ⊥
 ValuesBetween section (c ∷ cs) [] from to = ⊥
-ValuesBetween section (c ∷ cs) (v ∷ vs) from to = (next : ℕ) × SpellsBetween (SpellsValue c.form c.constant (meant_in section v)) section from next × IsPlaced v from next × ValuesBetween section cs vs next to
+ValuesBetween section (c ∷ cs) (v ∷ vs) from to = (next : ℕ) × SpellsBetween (SpellsValue c.name c.form c.constant (meant_in section v)) section from next × IsPlaced v from next × ValuesBetween section cs vs next to
 
 -- the declaration with a number; past the end of the table there is none, and an empty one stands for it
 abbrev pub declared_at : List Declared → ℕ → Declared

@@ -52,19 +52,19 @@ code_found info code at to p Short short wide = code_not_short info code at to p
 code_found info code at to p Wide short wide = code_not_wide info code at to p (wide.0 refl)
 
 -- the value that was read ends where the one does that stands there
-pub value_ends : (info : List ℕ) (code : ℕ) (constant : ℤ) (at : ℕ) (r : ReadValue) → IsReadValue code constant info at (length info) r → (meaning : Meaning) (to : ℕ) → SpellsBetween (SpellsValue code constant meaning) info at to → r.end ≡ to
-value_ends info code constant at r read meaning to stands =
-    (spells_once (SpellsValue code constant) (value_once code constant) info (meant_in info r.value) meaning at r.end to (record { order = read.starts; inside = read.inside; spelled = read.spelled }) stands).0
+pub value_ends : (info : List ℕ) (name code : ℕ) (constant : ℤ) (at : ℕ) (r : ReadValue) → IsReadValue name code constant info at (length info) r → (meaning : Meaning) (to : ℕ) → SpellsBetween (SpellsValue name code constant meaning) info at to → r.end ≡ to
+value_ends info name code constant at r read meaning to stands =
+    (spells_once (SpellsValue name code constant) (value_once name code constant) info (meant_in info r.value) meaning at r.end to (record { order = read.starts; inside = read.inside; spelled = read.spelled }) stands).0
 
-pub value_found : (info : List ℕ) (code : ℕ) (constant : ℤ) (meaning : Meaning) (at to : ℕ) (kind : Kind) → SpellsBetween (SpellsValue code constant meaning) info at to → FaultValue code constant kind (take (length info - at) (drop at info)) → ⊥
-value_found info code constant meaning at to kind p fault =
-    value_whole code constant kind meaning (bytes_between info at to) (bytes_between info to (length info)) p.spelled (subst (λ (z : List ℕ). FaultValue code constant kind z) (between_split info at to (length info) p.order p.inside) fault)
+pub value_found : (info : List ℕ) (name code : ℕ) (constant : ℤ) (meaning : Meaning) (at to : ℕ) (kind : Kind) → SpellsBetween (SpellsValue name code constant meaning) info at to → FaultValue name code constant kind (take (length info - at) (drop at info)) → ⊥
+value_found info name code constant meaning at to kind p fault =
+    value_whole name code constant kind meaning (bytes_between info at to) (bytes_between info to (length info)) p.spelled (subst (λ (z : List ℕ). FaultValue name code constant kind z) (between_split info at to (length info) p.order p.inside) fault)
 
 -- the first of values of columns
 record HasFirst (info : List ℕ) (c : Spec) (cs : List Spec) (at to : ℕ) : Type 0 where
   value : Value
   next : ℕ
-  spelled : SpellsBetween (SpellsValue c.form c.constant (meant_in info value)) info at next
+  spelled : SpellsBetween (SpellsValue c.name c.form c.constant (meant_in info value)) info at next
   rest : List Value
   valued : ValuesBetween info cs rest next to
 
@@ -81,13 +81,13 @@ first_there info columns i at to rest inside valued =
     let more : drop i columns ≡ spec_at columns i ∷ drop (i + 1) columns = drop_more columns i (record { name = 0; form = 0; constant = pos 0 }) inside in
     first_of_values info (spec_at columns i) (drop (i + 1) columns) rest at to (subst (λ (z : List Spec). ValuesBetween info z rest at to) more valued)
 
-pub value_there : (info : List ℕ) (columns : List Spec) (from i at : ℕ) → i < length columns → StandsOn info columns from i at → (values : List Value) × (to : ℕ) × ValuesBetween info columns values from to → (meaning : Meaning) × (next : ℕ) × SpellsBetween (SpellsValue (spec_at columns i).form (spec_at columns i).constant meaning) info at next
+pub value_there : (info : List ℕ) (columns : List Spec) (from i at : ℕ) → i < length columns → StandsOn info columns from i at → (values : List Value) × (to : ℕ) × ValuesBetween info columns values from to → (meaning : Meaning) × (next : ℕ) × SpellsBetween (SpellsValue (spec_at columns i).name (spec_at columns i).form (spec_at columns i).constant meaning) info at next
 value_there info columns from i at inside on (values, to, valued) =
     let there = on values to valued in
     let f = first_there info columns i at to there.0 inside there.1 in
     (meant_in info f.value, f.next, f.spelled)
 
-pub stands_past : (info : List ℕ) (columns : List Spec) (from i at end : ℕ) → i < length columns → StandsOn info columns from i at → ((meaning : Meaning) (next : ℕ) → SpellsBetween (SpellsValue (spec_at columns i).form (spec_at columns i).constant meaning) info at next → end ≡ next) → StandsOn info columns from (i + 1) end
+pub stands_past : (info : List ℕ) (columns : List Spec) (from i at end : ℕ) → i < length columns → StandsOn info columns from i at → ((meaning : Meaning) (next : ℕ) → SpellsBetween (SpellsValue (spec_at columns i).name (spec_at columns i).form (spec_at columns i).constant meaning) info at next → end ≡ next) → StandsOn info columns from (i + 1) end
 stands_past info columns from i at end inside on ends values to valued =
     let there = on values to valued in
     let f = first_there info columns i at to there.0 inside there.1 in

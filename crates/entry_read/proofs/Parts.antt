@@ -27,8 +27,8 @@ code_read info at n to value order inside within t fits =
     (omega arith, omega arith, record { order = omega arith; inside = omega arith; spelled = subst (λ (z : List ℕ). Uleb value z) same (s, fits) })
 
 -- one more value
-pub values_push : (info : List ℕ) (columns : List Spec) (values : List Value) (c : Spec) (v : Value) (from mid to : ℕ) → ValuesBetween info columns values from mid → SpellsBetween (SpellsValue c.form c.constant (meant_in info v)) info mid to → IsPlaced v mid to → ValuesBetween info (columns ++ c ∷ []) (values ++ v ∷ []) from to
-values_push info [] [] c v from mid to e s p = (to, subst (λ (z : ℕ). SpellsBetween (SpellsValue c.form c.constant (meant_in info v)) info z to) (sym e) s, subst (λ (z : ℕ). IsPlaced v z to) (sym e) p, refl)
+pub values_push : (info : List ℕ) (columns : List Spec) (values : List Value) (c : Spec) (v : Value) (from mid to : ℕ) → ValuesBetween info columns values from mid → SpellsBetween (SpellsValue c.name c.form c.constant (meant_in info v)) info mid to → IsPlaced v mid to → ValuesBetween info (columns ++ c ∷ []) (values ++ v ∷ []) from to
+values_push info [] [] c v from mid to e s p = (to, subst (λ (z : ℕ). SpellsBetween (SpellsValue c.name c.form c.constant (meant_in info v)) info z to) (sym e) s, subst (λ (z : ℕ). IsPlaced v z to) (sym e) p, refl)
 values_push info [] (w ∷ values) c v from mid to e s p = absurd e
 values_push info (d ∷ columns) [] c v from mid to e s p = absurd e
 values_push info (d ∷ columns) (w ∷ values) c v from mid to (next, t, q, rest) s p = (next, t, q, values_push info columns values c v next mid to rest s p)

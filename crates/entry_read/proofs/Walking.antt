@@ -32,18 +32,18 @@ held_as : (info : List ℕ) (f : Arena) (values : List Value) → f.section ≡ 
 held_as info f values e = ap (λ z. record { section = z; entries = f.entries; values = f.values ++ values; ends = f.ends }) (sym e)
 
 -- a value that was read
-value_spelled : (info : List ℕ) (at end i : ℕ) (columns : List Spec) (r : ReadValue) → IsReadValue (spec_at columns i).form (spec_at columns i).constant info at end r → end ≤ length info → SpellsBetween (SpellsValue (spec_at columns i).form (spec_at columns i).constant (meant_in info r.value)) info at r.end
+value_spelled : (info : List ℕ) (at end i : ℕ) (columns : List Spec) (r : ReadValue) → IsReadValue (spec_at columns i).name (spec_at columns i).form (spec_at columns i).constant info at end r → end ≤ length info → SpellsBetween (SpellsValue (spec_at columns i).name (spec_at columns i).form (spec_at columns i).constant (meant_in info r.value)) info at r.end
 value_spelled info at end i columns r read inside = record { order = read.starts; inside = let most : r.end ≤ end = read.inside in omega arith; spelled = read.spelled }
 
 -- a value of the entry that stands next may be pushed
-pub value_next : (info : List ℕ) (f mid : Arena) (from at end i : ℕ) (columns : List Spec) (r : ReadValue) → IsWalkedBy info f from → AddsValues info (take i columns) f from mid at → IsReadValue (spec_at columns i).form (spec_at columns i).constant info at end r → end ≤ length info → IsNextValue mid r.value
+pub value_next : (info : List ℕ) (f mid : Arena) (from at end i : ℕ) (columns : List Spec) (r : ReadValue) → IsWalkedBy info f from → AddsValues info (take i columns) f from mid at → IsReadValue (spec_at columns i).name (spec_at columns i).form (spec_at columns i).constant info at end r → end ≤ length info → IsNextValue mid r.value
 value_next info f mid from at end i columns r (ds, chains, place, le, w) a read inside =
     let c : Spec = spec_at columns i in
-    let next = walked_value info ds w.start w.items (listed_to f place) chains w.walked from at r.end (take i columns) a.values c.form c.constant r.value le a.valued (value_spelled info at end i columns r read inside) read.placed in
+    let next = walked_value info ds w.start w.items (listed_to f place) chains w.walked from at r.end (take i columns) a.values c.name c.form c.constant r.value le a.valued (value_spelled info at end i columns r read inside) read.placed in
     subst (λ (z : Arena). IsNextValue z r.value) (sym a.held) (subst (λ (z : Arena). IsNextValue z r.value) (held_as info f a.values w.section) next)
 
 -- a value more was appended
-pub value_added : (info : List ℕ) (f mid new : Arena) (from at end i : ℕ) (columns : List Spec) (r : ReadValue) → i < length columns → AddsValues info (take i columns) f from mid at → IsReadValue (spec_at columns i).form (spec_at columns i).constant info at end r → end ≤ length info → new ≡ with_value mid r.value → AddsValues info (take (i + 1) columns) f from new r.end
+pub value_added : (info : List ℕ) (f mid new : Arena) (from at end i : ℕ) (columns : List Spec) (r : ReadValue) → i < length columns → AddsValues info (take i columns) f from mid at → IsReadValue (spec_at columns i).name (spec_at columns i).form (spec_at columns i).constant info at end r → end ≤ length info → new ≡ with_value mid r.value → AddsValues info (take (i + 1) columns) f from new r.end
 value_added info f mid new from at end i columns r l a read inside e =
     let c : Spec = spec_at columns i in
     let more : take (i + 1) columns ≡ take i columns ++ c ∷ [] = take_more columns i (record { name = 0; form = 0; constant = pos 0 }) l in
@@ -54,7 +54,7 @@ value_added info f mid new from at end i columns r l a read inside e =
     }
 
 -- a value has a fault
-pub column_fault : (info : List ℕ) (f mid : Arena) (from at end i : ℕ) (columns : List Spec) (kind : Kind) → i < length columns → AddsValues info (take i columns) f from mid at → at ≤ end → FaultValue (spec_at columns i).form (spec_at columns i).constant kind (bytes_between info at end) → FaultOfColumns info end columns from kind at
+pub column_fault : (info : List ℕ) (f mid : Arena) (from at end i : ℕ) (columns : List Spec) (kind : Kind) → i < length columns → AddsValues info (take i columns) f from mid at → at ≤ end → FaultValue (spec_at columns i).name (spec_at columns i).form (spec_at columns i).constant kind (bytes_between info at end) → FaultOfColumns info end columns from kind at
 column_fault info f mid from at end i columns kind l a inside fault = record {
   before = take i columns;
   column = spec_at columns i;

@@ -13,7 +13,7 @@ use Rattle.entry_arena.specs.Trees.{SpellsBetween, declared_at}
 
 -- these bytes spell the value of a column, and none is too many
 abbrev pub IsWritten : Spec → Meaning → List ℕ → Type 0
-IsWritten column meaning bytes = SpellsValue column.form column.constant meaning bytes × SpellsShortest column.form meaning bytes
+IsWritten column meaning bytes = SpellsValue column.name column.form column.constant meaning bytes × SpellsShortest column.name column.form meaning bytes
 
 -- the values of columns stand in such bytes, one after the other from a place up to another
 abbrev pub WrittenBetween : List ℕ → List Spec → List Value → ℕ → ℕ → Type 0

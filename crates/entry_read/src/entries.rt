@@ -119,7 +119,15 @@ fn read_values<'a>(
 {
     let mut at = from;
     for column in columns {
-        let read = read_value(info, at, end, column.form, column.constant, origin)?;
+        let read = read_value(
+            info,
+            at,
+            end,
+            column.name,
+            column.form,
+            column.constant,
+            origin,
+        )?;
         forest.push_value(read.value)?;
         at = read.end;
     }

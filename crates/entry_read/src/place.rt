@@ -26,12 +26,20 @@ fn code_end(info: &[u8], at: usize) -> usize
     }
 }
 
-// Where the value of a form at a place ends.
-fn value_end(info: &[u8], at: usize, form: u64, constant: i64) -> usize
-    requires { (meaning : Meaning) × (to : ℕ) × SpellsBetween (SpellsValue form constant meaning) info.now at to }
-    ensures { (meaning : Meaning) (to : ℕ) → SpellsBetween (SpellsValue form constant meaning) info.now at to → result ≡ to }
+// Where the value of a column at a place ends.
+fn value_end(info: &[u8], at: usize, column: Spec) -> usize
+    requires { (meaning : Meaning) × (to : ℕ) × SpellsBetween (SpellsValue column.name column.form column.constant meaning) info.now at to }
+    ensures { (meaning : Meaning) (to : ℕ) → SpellsBetween (SpellsValue column.name column.form column.constant meaning) info.now at to → result ≡ to }
 {
-    match read_value(info, at, info.len(), form, constant, 0) {
+    match read_value(
+        info,
+        at,
+        info.len(),
+        column.name,
+        column.form,
+        column.constant,
+        0,
+    ) {
         Ok(read) => read.end,
         // A value that stands there has no fault.
         Err(_) => unreachable!(),
@@ -45,7 +53,7 @@ fn values_end(info: &[u8], from: usize, columns: &[Spec]) -> usize
 {
     let mut at = from;
     for column in columns {
-        at = value_end(info, at, column.form, column.constant);
+        at = value_end(info, at, *column);
     }
     at
 }

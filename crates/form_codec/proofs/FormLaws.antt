@@ -35,56 +35,56 @@ match_map None f g h = f h
 match_map (Some e) f g h = g e h
 
 -- only implicit_const's spelling depends on the constant
-spelled_by : (f : Form) (c d : ℤ) (meaning : Meaning) (bytes : List ℕ) → ((v : ℤ) → FitsSigned w64 v → meaning ≡ Whole v → v ≡ d) → SpellsShape (shape_of f c) meaning bytes → SpellsShape (shape_of f d) meaning bytes
-spelled_by form.ImplicitConst c d meaning bytes same p =
+pub spelled_by : (name : ℕ) (f : Form) (c d : ℤ) (meaning : Meaning) (bytes : List ℕ) → ((v : ℤ) → FitsSigned w64 v → meaning ≡ Whole v → v ≡ d) → SpellsShape (shape_of f name c) meaning bytes → SpellsShape (shape_of f name d) meaning bytes
+spelled_by name form.ImplicitConst c d meaning bytes same p =
     let e : c ≡ d = same c p.1 p.2 in
     (p.0, subst (λ (z : ℤ). FitsSigned w64 z) e p.1, p.2 ∙ ap (λ z. Whole z) e)
-spelled_by f c d meaning bytes same p = p
+spelled_by name f c d meaning bytes same p = p
 
 -- the form of a code other than implicit_const's takes no constant
-pub any_constant : (code : ℕ) (c d : ℤ) (meaning : Meaning) (bytes : List ℕ) → code ≢ code_of form.ImplicitConst → SpellsValue code c meaning bytes → SpellsValue code d meaning bytes
-any_constant code c d meaning bytes other s = record {
+pub any_constant : (name code : ℕ) (c d : ℤ) (meaning : Meaning) (bytes : List ℕ) → code ≢ code_of form.ImplicitConst → SpellsValue name code c meaning bytes → SpellsValue name code d meaning bytes
+any_constant name code c d meaning bytes other s = record {
   form = s.form;
   known = s.known;
   small = s.small;
   spelled = spelled_else s.form c d meaning bytes (λ is. other (sym s.known ∙ ap (λ z. code_of z) is)) s.spelled;
 }
   where
-    spelled_else : (f : Form) (c d : ℤ) (meaning : Meaning) (bytes : List ℕ) → (f ≡ form.ImplicitConst → ⊥) → SpellsShape (shape_of f c) meaning bytes → SpellsShape (shape_of f d) meaning bytes
+    spelled_else : (f : Form) (c d : ℤ) (meaning : Meaning) (bytes : List ℕ) → (f ≡ form.ImplicitConst → ⊥) → SpellsShape (shape_of f name c) meaning bytes → SpellsShape (shape_of f name d) meaning bytes
     spelled_else form.ImplicitConst c d meaning bytes never p = absurd (never refl)
     spelled_else f c d meaning bytes never p = p
 
 -- implicit_const spells its constant by nothing
-pub constant_spelled : (c : ℤ) (meaning : Meaning) (bytes : List ℕ) → SpellsValue (code_of form.ImplicitConst) c meaning bytes → (bytes ≡ []) × FitsSigned w64 c × (meaning ≡ Whole c)
-constant_spelled c meaning bytes s =
+pub constant_spelled : (name : ℕ) (c : ℤ) (meaning : Meaning) (bytes : List ℕ) → SpellsValue name (code_of form.ImplicitConst) c meaning bytes → (bytes ≡ []) × FitsSigned w64 c × (meaning ≡ Whole c)
+constant_spelled name c meaning bytes s =
     let same : s.form ≡ form.ImplicitConst = code_once s.form form.ImplicitConst s.known in
-    subst (λ (z : Form). SpellsShape (shape_of z c) meaning bytes) same s.spelled
+    subst (λ (z : Form). SpellsShape (shape_of z name c) meaning bytes) same s.spelled
 
-pub spells_constant : (c : ℤ) → FitsSigned w64 c → SpellsValue (code_of form.ImplicitConst) c (Whole c) []
-spells_constant c fits = record {
+pub spells_constant : (name : ℕ) (c : ℤ) → FitsSigned w64 c → SpellsValue name (code_of form.ImplicitConst) c (Whole c) []
+spells_constant name c fits = record {
   form = form.ImplicitConst;
   known = refl;
   small = λ k lt. absurd (omega arith);
   spelled = (refl, fits, refl);
 }
 
-pub constant_held : (f : Form) (c : ℤ) → FitsSigned w64 c → HasConstant (shape_of f c)
-constant_held form.ImplicitConst c fits = fits
-constant_held f c fits = tt
+pub constant_held : (name : ℕ) (f : Form) (c : ℤ) → FitsSigned w64 c → HasConstant (shape_of f name c)
+constant_held name form.ImplicitConst c fits = fits
+constant_held name f c fits = tt
 
-pub form_encoding : (f : Form) (v : Value) (c : ℤ) → ((section : List ℕ) (w : ℤ) → FitsSigned w64 w → meant_in section v ≡ Whole w → w ≡ c) → (e : Encoding) → IsEncoding (shape_of f c) v e → IsFormEncoding f v e
-form_encoding f v c same e enc = record {
+pub form_encoding : (name : ℕ) (f : Form) (v : Value) (c : ℤ) → ((section : List ℕ) (w : ℤ) → FitsSigned w64 w → meant_in section v ≡ Whole w → w ≡ c) → (e : Encoding) → IsEncoding (shape_of f name c) v e → IsFormEncoding name f v e
+form_encoding name f v c same e enc = record {
   constant = c;
   shape = enc;
   shortest = λ section bytes others other i written s.
-      enc.shortest section bytes others i written (spelled_by f other c (meant_in section v) others (same section) s);
+      enc.shortest section bytes others i written (spelled_by name f other c (meant_in section v) others (same section) s);
 }
 
-pub form_none : (f : Form) (v : Value) (c : ℤ) → ((section : List ℕ) (w : ℤ) → FitsSigned w64 w → meant_in section v ≡ Whole w → w ≡ c) → HasNoEncoding (shape_of f c) v → HasNoForm f v
-form_none f v c same none section bytes other i small s = none section bytes i small (spelled_by f other c (meant_in section v) bytes (same section) s)
+pub form_none : (name : ℕ) (f : Form) (v : Value) (c : ℤ) → ((section : List ℕ) (w : ℤ) → FitsSigned w64 w → meant_in section v ≡ Whole w → w ≡ c) → HasNoEncoding (shape_of f name c) v → HasNoForm name f v
+form_none name f v c same none section bytes other i small s = none section bytes i small (spelled_by name f other c (meant_in section v) bytes (same section) s)
 
 -- something is written
-encodes_some : (section : List ℕ) (e : Encoding) → (bytes : List ℕ) × Encodes section e bytes
+pub encodes_some : (section : List ℕ) (e : Encoding) → (bytes : List ℕ) × Encodes section e bytes
 encodes_some section encoding.Nothing = ([], refl)
 encodes_some section (encoding.Fixed w n) = (low_bytes w n, refl)
 encodes_some section (encoding.Uleb n) =
@@ -101,21 +101,21 @@ encodes_some section (encoding.Bytes span) = (bytes_in section span, refl)
 encodes_some section (encoding.Text span) = (bytes_in section span ++ 0 ∷ [], refl)
 
 -- a spelling in a form, by the form of a code
-pub in_form : (code : ℕ) (f : Form) (c : ℤ) (meaning : Meaning) (bytes : List ℕ) → code_of f ≡ code → SpellsValue code c meaning bytes → SpellsShape (shape_of f c) meaning bytes
-in_form code f c meaning bytes known s =
+pub in_form : (name code : ℕ) (f : Form) (c : ℤ) (meaning : Meaning) (bytes : List ℕ) → code_of f ≡ code → SpellsValue name code c meaning bytes → SpellsShape (shape_of f name c) meaning bytes
+in_form name code f c meaning bytes known s =
     let same : s.form ≡ f = code_once s.form f (s.known ∙ sym known) in
-    subst (λ (z : Form). SpellsShape (shape_of z c) meaning bytes) same s.spelled
+    subst (λ (z : Form). SpellsShape (shape_of z name c) meaning bytes) same s.spelled
 
-spelling : (code : ℕ) (f : Form) (v : Value) (e : Encoding) (section bytes : List ℕ) → code_of f ≡ code → (enc : IsFormEncoding f v e) → IsValueIn section v → Encodes section e bytes → SpellsValue code enc.constant (meant_in section v) bytes
-spelling code f v e section bytes known enc i written = record {
+spelling : (name code : ℕ) (f : Form) (v : Value) (e : Encoding) (section bytes : List ℕ) → code_of f ≡ code → (enc : IsFormEncoding name f v e) → IsValueIn section v → Encodes section e bytes → SpellsValue name code enc.constant (meant_in section v) bytes
+spelling name code f v e section bytes known enc i written = record {
   form = f;
   known = known;
   small = enc.shape.small section bytes i written;
   spelled = enc.shape.spells section bytes i written;
 }
 
-pub admitted : (code : ℕ) (f : Form) (v : Value) (e : Encoding) (section : List ℕ) → code_of f ≡ code → is_written f ≡ true → IsFormEncoding f v e → IsValueIn section v → Admits code (meant_in section v)
-admitted code f v e section known chosen enc i =
+pub admitted : (name code : ℕ) (f : Form) (v : Value) (e : Encoding) (section : List ℕ) → code_of f ≡ code → is_written f ≡ true → IsFormEncoding name f v e → IsValueIn section v → Admits name code (meant_in section v)
+admitted name code f v e section known chosen enc i =
     let b = encodes_some section e in
     record {
       form = f;
@@ -123,30 +123,30 @@ admitted code f v e section known chosen enc i =
       written = chosen;
       constant = enc.constant;
       bytes = b.0;
-      spelled = spelling code f v e section b.0 known enc i b.1;
+      spelled = spelling name code f v e section b.0 known enc i b.1;
     }
 
-pub not_admitted : (code : ℕ) (f : Form) (v : Value) (section : List ℕ) → code_of f ≡ code → HasNoForm f v → IsValueIn section v → Admits code (meant_in section v) → ⊥
-not_admitted code f v section known none i a =
-    none section a.bytes a.constant i a.spelled.small (in_form code f a.constant (meant_in section v) a.bytes known a.spelled)
+pub not_admitted : (name code : ℕ) (f : Form) (v : Value) (section : List ℕ) → code_of f ≡ code → HasNoForm name f v → IsValueIn section v → Admits name code (meant_in section v) → ⊥
+not_admitted name code f v section known none i a =
+    none section a.bytes a.constant i a.spelled.small (in_form name code f a.constant (meant_in section v) a.bytes known a.spelled)
 
-pub not_written : (code : ℕ) (f : Form) (meaning : Meaning) → code_of f ≡ code → is_written f ≡ false → Admits code meaning → ⊥
-not_written code f meaning known never a =
+pub not_written : (name code : ℕ) (f : Form) (meaning : Meaning) → code_of f ≡ code → is_written f ≡ false → Admits name code meaning → ⊥
+not_written name code f meaning known never a =
     let same : a.form ≡ f = code_once a.form f (a.known ∙ sym known) in
     let chosen : is_written f ≡ true = subst (λ (z : Form). is_written z ≡ true) same a.written in
     absurd (cc (never, chosen))
 
-pub not_known : (code : ℕ) (meaning : Meaning) → ((f : Form) → code_of f ≡ code → ⊥) → Admits code meaning → ⊥
-not_known code meaning none a = none a.form a.known
+pub not_known : (name code : ℕ) (meaning : Meaning) → ((f : Form) → code_of f ≡ code → ⊥) → Admits name code meaning → ⊥
+not_known name code meaning none a = none a.form a.known
 
-pub code_encoding : (code : ℕ) (f : Form) (v : Value) → code_of f ≡ code → (e : Encoding) → IsFormEncoding f v e → IsCodeEncoding code v e
-code_encoding code f v known e enc = record { form = f; known = known; encoding = enc }
+pub code_encoding : (name code : ℕ) (f : Form) (v : Value) → code_of f ≡ code → (e : Encoding) → IsFormEncoding name f v e → IsCodeEncoding name code v e
+code_encoding name code f v known e enc = record { form = f; known = known; encoding = enc }
 
-pub code_none : (code : ℕ) (f : Form) (v : Value) → code_of f ≡ code → HasNoForm f v → HasNoCode code v
-code_none code f v known none section bytes c i s = none section bytes c i s.small (in_form code f c (meant_in section v) bytes known s)
+pub code_none : (name code : ℕ) (f : Form) (v : Value) → code_of f ≡ code → HasNoForm name f v → HasNoCode name code v
+code_none name code f v known none section bytes c i s = none section bytes c i s.small (in_form name code f c (meant_in section v) bytes known s)
 
-pub code_unknown : (code : ℕ) (v : Value) → ((f : Form) → code_of f ≡ code → ⊥) → HasNoCode code v
-code_unknown code v none section bytes c i s = none s.form s.known
+pub code_unknown : (name code : ℕ) (v : Value) → ((f : Form) → code_of f ≡ code → ⊥) → HasNoCode name code v
+code_unknown name code v none section bytes c i s = none s.form s.known
 
 data_not_text : (size n : ℕ) (text : List ℕ) → data_of size n ≡ Text text → ⊥
 data_not_text size n text =
@@ -174,31 +174,32 @@ text_clear (UlebCounted kind) text bytes p = absurd (content_not_text kind p.bod
 text_clear Sixteen text bytes p = absurd (cc (p.1))
 text_clear ZeroEnded text bytes p = subst (λ (z : List ℕ). HasNoZero z) (text_same text p.text p.holds) p.clear
 
-value_clear : (code : ℕ) (section : List ℕ) (v : Value) → Admits code (meant_in section v) → IsClear section v
-value_clear code section (value.Text span) a = text_clear (shape_of a.spelled.form a.constant) (bytes_in section span) a.bytes a.spelled.spelled
-value_clear code section v a = tt
+value_clear : (name code : ℕ) (section : List ℕ) (v : Value) → Admits name code (meant_in section v) → IsClear section v
+value_clear name code section (value.Text span) a = text_clear (shape_of a.spelled.form name a.constant) (bytes_in section span) a.bytes a.spelled.spelled
+value_clear name code section v a = tt
 
-pub value_in : (code : ℕ) (section : List ℕ) (v : Value) → AreBytes section → LiesIn (length section) v → Admits code (meant_in section v) → IsValueIn section v
-value_in code section v small inside a = record { small = small; inside = inside; clear = value_clear code section v a }
+pub value_in : (name code : ℕ) (section : List ℕ) (v : Value) → AreBytes section → LiesIn (length section) v → Admits name code (meant_in section v) → IsValueIn section v
+value_in name code section v small inside a = record { small = small; inside = inside; clear = value_clear name code section v a }
 
-flag_shape : (code : ℕ) (f : Form) (c : ℤ) → code_of f ≡ code → code ≡ code_of form.Flag → shape_of f c ≡ Number One role.Truth
-flag_shape code f c known is =
+-- the form with flag's code has the shape of a flag
+pub flag_shape : (name code : ℕ) (f : Form) (c : ℤ) → code_of f ≡ code → code ≡ code_of form.Flag → shape_of f name c ≡ Number One role.Truth
+flag_shape name code f c known is =
     let same : f ≡ form.Flag = code_once f form.Flag (known ∙ is) in
-    ap (λ z. shape_of z c) same
+    ap (λ z. shape_of z name c) same
 
-pub shortest_written : (code : ℕ) (v : Value) (e : Encoding) (section bytes : List ℕ) → IsCodeEncoding code v e → IsValueIn section v → Encodes section e bytes → SpellsShortest code (meant_in section v) bytes
-shortest_written code v e section bytes enc i written = record {
+pub shortest_written : (name code : ℕ) (v : Value) (e : Encoding) (section bytes : List ℕ) → IsCodeEncoding name code v e → IsValueIn section v → Encodes section e bytes → SpellsShortest name code (meant_in section v) bytes
+shortest_written name code v e section bytes enc i written = record {
   constant = enc.encoding.constant;
-  spelled = spelling code enc.form v e section bytes enc.known enc.encoding i written;
+  spelled = spelling name code enc.form v e section bytes enc.known enc.encoding i written;
   shortest = λ other others s.
-      enc.encoding.shortest section bytes others other i written (in_form code enc.form other (meant_in section v) others enc.known s);
-  flag = λ is k lt. enc.encoding.shape.flag section bytes i written (flag_shape code enc.form enc.encoding.constant enc.known is) k lt;
+      enc.encoding.shortest section bytes others other i written (in_form name code enc.form other (meant_in section v) others enc.known s);
+  flag = λ is k lt. enc.encoding.shape.flag section bytes i written (flag_shape name code enc.form enc.encoding.constant enc.known is) k lt;
 }
 
-pub shortest_some : (code : ℕ) (v : Value) (e : Encoding) (section : List ℕ) (size : ℕ) → IsCodeEncoding code v e → IsValueIn section v → ((bytes : List ℕ) → Encodes section e bytes → size ≡ length bytes) → (written : List ℕ) × SpellsShortest code (meant_in section v) written × (size ≡ length written)
-shortest_some code v e section size enc i sized =
+pub shortest_some : (name code : ℕ) (v : Value) (e : Encoding) (section : List ℕ) (size : ℕ) → IsCodeEncoding name code v e → IsValueIn section v → ((bytes : List ℕ) → Encodes section e bytes → size ≡ length bytes) → (written : List ℕ) × SpellsShortest name code (meant_in section v) written × (size ≡ length written)
+shortest_some name code v e section size enc i sized =
     let b = encodes_some section e in
-    (b.0, shortest_written code v e section b.0 enc i b.1, sized b.0 b.1)
+    (b.0, shortest_written name code v e section b.0 enc i b.1, sized b.0 b.1)
 
 counted_few : (m : Meaning) (a b : ℕ) → a ≤ b → counted m a ≤ counted m b
 counted_few (Expression bytes) a b le = omega arith
@@ -239,14 +240,14 @@ placed_inside (value.Expr span) at end size h p = omega arith
 placed_inside (value.Text span) at end size h p = omega (arith, p.1)
 placed_inside v at end size h p = tt
 
-spelled_clear : (code : ℕ) (constant : ℤ) (section bytes : List ℕ) (v : Value) → SpellsValue code constant (meant_in section v) bytes → IsClear section v
-spelled_clear code constant section bytes (value.Text span) s = text_clear (shape_of s.form constant) (bytes_in section span) bytes s.spelled
-spelled_clear code constant section bytes v s = tt
+spelled_clear : (name code : ℕ) (constant : ℤ) (section bytes : List ℕ) (v : Value) → SpellsValue name code constant (meant_in section v) bytes → IsClear section v
+spelled_clear name code constant section bytes (value.Text span) s = text_clear (shape_of s.form name constant) (bytes_in section span) bytes s.spelled
+spelled_clear name code constant section bytes v s = tt
 
 -- what was read is a value of its section
-pub read_in : (code : ℕ) (constant : ℤ) (section : List ℕ) (at end : ℕ) (r : ReadValue) → end ≤ length section → AreBytes section → IsReadValue code constant section at end r → IsValueIn section r.value
-read_in code constant section at end r inside small read = record {
+pub read_in : (name code : ℕ) (constant : ℤ) (section : List ℕ) (at end : ℕ) (r : ReadValue) → end ≤ length section → AreBytes section → IsReadValue name code constant section at end r → IsValueIn section r.value
+read_in name code constant section at end r inside small read = record {
   small = small;
   inside = placed_inside r.value at r.end (length section) (omega (arith, read.inside)) read.placed;
-  clear = spelled_clear code constant section (take (r.end - at) (drop at section)) r.value read.spelled;
+  clear = spelled_clear name code constant section (take (r.end - at) (drop at section)) r.value read.spelled;
 }

@@ -6,3 +6,6 @@ pub mod NumberLaws
 pub mod WriteLaws
 pub mod FormLaws
 pub mod SizeLaws
+pub mod ShortestLaws
+pub mod NameLaws
+pub mod ColumnLaws

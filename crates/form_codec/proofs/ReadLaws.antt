@@ -154,8 +154,8 @@ meant_in_front (value.Expr span) at end n l h p = ap (λ z. Expression z) (part_
 meant_in_front (value.Text span) at end n l h p = ap (λ z. Text z) (part_of_front span.at span.len n l (omega (arith, p.1)))
 meant_in_front v at end n l h p = refl
 
-pub value_read : (form : Form) (constant : ℤ) (section : List ℕ) (at end : ℕ) (r : ReadValue) → at ≤ end → end ≤ length section → AreBytes section → IsReadShape (shape_of form constant) (take end section) at r → IsReadValue (code_of form) constant section at end r
-value_read form constant section at end r starts inside small read =
+pub value_read : (name : ℕ) (form : Form) (constant : ℤ) (section : List ℕ) (at end : ℕ) (r : ReadValue) → at ≤ end → end ≤ length section → AreBytes section → IsReadShape (shape_of form name constant) (take end section) at r → IsReadValue name (code_of form) constant section at end r
+value_read name form constant section at end r starts inside small read =
     let size : length (take end section) ≡ end = length-take-le end section inside in
     let few : r.end ≤ end = omega (arith, read.inside) in
     let up : at ≤ r.end = read.starts in
@@ -173,11 +173,11 @@ value_read form constant section at end r starts inside small read =
       placed = read.placed;
     }
 
-pub fault_read : (form : Form) (constant : ℤ) (kind : Kind) (section : List ℕ) (at end : ℕ) → at ≤ end → FaultShape (shape_of form constant) kind (drop at (take end section)) → FaultValue (code_of form) constant kind (take (end - at) (drop at section))
-fault_read form constant kind section at end starts fault =
+pub fault_read : (name : ℕ) (form : Form) (constant : ℤ) (kind : Kind) (section : List ℕ) (at end : ℕ) → at ≤ end → FaultShape (shape_of form name constant) kind (drop at (take end section)) → FaultValue name (code_of form) constant kind (take (end - at) (drop at section))
+fault_read name form constant kind section at end starts fault =
     let e : end ≡ at + (end - at) = omega arith in
     record {
       form = form;
       known = refl;
-      fault = subst (λ (b : List ℕ). FaultShape (shape_of form constant) kind b) (ap (λ k. drop at (take k section)) e ∙ drop-take at (end - at) section) fault;
+      fault = subst (λ (b : List ℕ). FaultShape (shape_of form name constant) kind b) (ap (λ k. drop at (take k section)) e ∙ drop-take at (end - at) section) fault;
     }

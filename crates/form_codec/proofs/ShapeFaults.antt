@@ -80,7 +80,7 @@ shape_whole shape kind.Text meaning a x p f = shape_not_unended shape meaning a 
 shape_whole shape kind meaning a x p f = absurd f
 
 -- bytes that begin with a value have no fault
-pub value_whole : (code : ℕ) (constant : ℤ) (kind : Kind) (meaning : Meaning) (a x : List ℕ) → SpellsValue code constant meaning a → FaultValue code constant kind (a ++ x) → ⊥
-value_whole code constant kind meaning a x p f =
+pub value_whole : (name code : ℕ) (constant : ℤ) (kind : Kind) (meaning : Meaning) (a x : List ℕ) → SpellsValue name code constant meaning a → FaultValue name code constant kind (a ++ x) → ⊥
+value_whole name code constant kind meaning a x p f =
     let same : f.form ≡ p.form = code_once f.form p.form (f.known ∙ sym p.known) in
-    shape_whole (shape_of p.form constant) kind meaning a x p.spelled (subst (λ (z : Form). FaultShape (shape_of z constant) kind (a ++ x)) same f.fault)
+    shape_whole (shape_of p.form name constant) kind meaning a x p.spelled (subst (λ (z : Form). FaultShape (shape_of z name constant) kind (a ++ x)) same f.fault)

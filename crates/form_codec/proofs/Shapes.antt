@@ -79,7 +79,7 @@ shape_once Sixteen v w a b x y p q h =
 shape_once ZeroEnded v w a b x y p q h = zero_ended_once v w a b x y p q h
 
 -- values end by themselves
-pub value_once : (code : ℕ) (constant : ℤ) → HasUniqueFronts (SpellsValue code constant)
-value_once code constant v w a b x y p q h =
+pub value_once : (name code : ℕ) (constant : ℤ) → HasUniqueFronts (SpellsValue name code constant)
+value_once name code constant v w a b x y p q h =
     let same : p.form ≡ q.form = code_once p.form q.form (p.known ∙ sym q.known) in
-    shape_once (shape_of q.form constant) v w a b x y (subst (λ (f : Form). SpellsShape (shape_of f constant) v a) same p.spelled) q.spelled h
+    shape_once (shape_of q.form name constant) v w a b x y (subst (λ (f : Form). SpellsShape (shape_of f name constant) v a) same p.spelled) q.spelled h

@@ -50,7 +50,7 @@ zero_small : AreBytes (0 ∷ [])
 zero_small zero lt = omega arith
 zero_small (suc k) lt = absurd (omega arith)
 
-below_eight : (w : Width) (n : ℕ) → n < 256 ^ size_of w → n < 2 ^ 64
+pub below_eight : (w : Width) (n : ℕ) → n < 256 ^ size_of w → n < 2 ^ 64
 below_eight One n h = omega arith
 below_eight Two n h = omega arith
 below_eight Three n h = omega arith
@@ -65,7 +65,8 @@ truth_small section v w n means least =
       | inr few ↦ few
     ]
 
-one_byte : (n k : ℕ) → n ≤ 1 → get_or (low_bytes One n) k 0 ≤ 1
+-- the byte of a number that is at most 1 is at most 1
+pub one_byte : (n k : ℕ) → n ≤ 1 → get_or (low_bytes One n) k 0 ≤ 1
 one_byte n zero few = omega arith
 one_byte n (suc k) few = omega arith
 

@@ -54,8 +54,8 @@ FaultShape shape LebWide rest = IsShapeWide shape rest
 FaultShape shape Text rest = IsShapeUnended shape rest
 FaultShape shape kind rest = ⊥
 
--- the fault of this kind of bytes that are to begin with a value of the form with this code; its place is their first byte
-pub record FaultValue (code : ℕ) (constant : ℤ) (kind : Kind) (rest : List ℕ) : Type 0 where
+-- the fault of this kind of bytes that are to begin with a value of the form with this code under this name; its place is their first byte
+pub record FaultValue (name code : ℕ) (constant : ℤ) (kind : Kind) (rest : List ℕ) : Type 0 where
   pub form : Form
   pub known : code_of form ≡ code
-  pub fault : FaultShape (shape_of form constant) kind rest
+  pub fault : FaultShape (shape_of form name constant) kind rest

@@ -14,6 +14,7 @@ use Rattle.form_codec.specs.declared.form.Role.{Role}
 use Rattle.form_codec.specs.declared.form.Role.TheVariants as role
 use Rattle.form_codec.specs.declared.form.Content.{Content}
 use Rattle.form_codec.specs.declared.form.Content.TheVariants as content
+use Rattle.form_codec.specs.Signs.{constant_role}
 
 -- the bytes of a width
 abbrev pub size_of : Width → ℕ
@@ -72,51 +73,52 @@ code_of Addrx4 = 44
 abbrev pub IsKnown : ℕ → Type 0
 IsKnown code = (form : Form) × (code_of form ≡ code)
 
--- the bytes of each form, and what a number or a block in them is; the constant stands in the declaration.
+-- the bytes of each form under an attribute's name, and what a number or a block in them is; the constant stands in the declaration.
+-- A constant of fixed size tells its sign only where the name does.
 -- The offsets of the 32-bit DWARF format have 4 bytes.
-abbrev pub shape_of : Form → ℤ → Shape
-shape_of Addr constant = Number Eight role.Address
-shape_of Block2 constant = Counted Two
-shape_of Block4 constant = Counted Four
-shape_of Block1 constant = Counted One
-shape_of Block constant = UlebCounted content.Data
-shape_of Data1 constant = Number One role.Data
-shape_of Data2 constant = Number Two role.Data
-shape_of Data4 constant = Number Four role.Data
-shape_of Data8 constant = Number Eight role.Data
-shape_of Data16 constant = Sixteen
-shape_of Sdata constant = BySleb
-shape_of Udata constant = ByUleb role.Unsigned
-shape_of ImplicitConst constant = Constant constant
-shape_of Flag constant = Number One role.Truth
-shape_of FlagPresent constant = Present
-shape_of String constant = ZeroEnded
-shape_of Strp constant = Number Four role.StrOffset
-shape_of LineStrp constant = Number Four role.LineStrOffset
-shape_of StrpSup constant = Number Four role.SupStr
-shape_of Strx constant = ByUleb role.StrIndex
-shape_of Strx1 constant = Number One role.StrIndex
-shape_of Strx2 constant = Number Two role.StrIndex
-shape_of Strx3 constant = Number Three role.StrIndex
-shape_of Strx4 constant = Number Four role.StrIndex
-shape_of Addrx constant = ByUleb role.AddrIndex
-shape_of Addrx1 constant = Number One role.AddrIndex
-shape_of Addrx2 constant = Number Two role.AddrIndex
-shape_of Addrx3 constant = Number Three role.AddrIndex
-shape_of Addrx4 constant = Number Four role.AddrIndex
-shape_of Ref1 constant = Number One role.LocalRef
-shape_of Ref2 constant = Number Two role.LocalRef
-shape_of Ref4 constant = Number Four role.LocalRef
-shape_of Ref8 constant = Number Eight role.LocalRef
-shape_of RefUdata constant = ByUleb role.LocalRef
-shape_of RefAddr constant = Number Four role.SectionRef
-shape_of RefSig8 constant = Number Eight role.Signature
-shape_of RefSup4 constant = Number Four role.SupRef
-shape_of RefSup8 constant = Number Eight role.SupRef
-shape_of SecOffset constant = Number Four role.Offset
-shape_of Exprloc constant = UlebCounted content.Expression
-shape_of Loclistx constant = ByUleb role.LocIndex
-shape_of Rnglistx constant = ByUleb role.RangeIndex
+abbrev pub shape_of : Form → ℕ → ℤ → Shape
+shape_of Addr name constant = Number Eight role.Address
+shape_of Block2 name constant = Counted Two
+shape_of Block4 name constant = Counted Four
+shape_of Block1 name constant = Counted One
+shape_of Block name constant = UlebCounted content.Data
+shape_of Data1 name constant = Number One (constant_role name)
+shape_of Data2 name constant = Number Two (constant_role name)
+shape_of Data4 name constant = Number Four (constant_role name)
+shape_of Data8 name constant = Number Eight (constant_role name)
+shape_of Data16 name constant = Sixteen
+shape_of Sdata name constant = BySleb
+shape_of Udata name constant = ByUleb role.Unsigned
+shape_of ImplicitConst name constant = Constant constant
+shape_of Flag name constant = Number One role.Truth
+shape_of FlagPresent name constant = Present
+shape_of String name constant = ZeroEnded
+shape_of Strp name constant = Number Four role.StrOffset
+shape_of LineStrp name constant = Number Four role.LineStrOffset
+shape_of StrpSup name constant = Number Four role.SupStr
+shape_of Strx name constant = ByUleb role.StrIndex
+shape_of Strx1 name constant = Number One role.StrIndex
+shape_of Strx2 name constant = Number Two role.StrIndex
+shape_of Strx3 name constant = Number Three role.StrIndex
+shape_of Strx4 name constant = Number Four role.StrIndex
+shape_of Addrx name constant = ByUleb role.AddrIndex
+shape_of Addrx1 name constant = Number One role.AddrIndex
+shape_of Addrx2 name constant = Number Two role.AddrIndex
+shape_of Addrx3 name constant = Number Three role.AddrIndex
+shape_of Addrx4 name constant = Number Four role.AddrIndex
+shape_of Ref1 name constant = Number One role.LocalRef
+shape_of Ref2 name constant = Number Two role.LocalRef
+shape_of Ref4 name constant = Number Four role.LocalRef
+shape_of Ref8 name constant = Number Eight role.LocalRef
+shape_of RefUdata name constant = ByUleb role.LocalRef
+shape_of RefAddr name constant = Number Four role.SectionRef
+shape_of RefSig8 name constant = Number Eight role.Signature
+shape_of RefSup4 name constant = Number Four role.SupRef
+shape_of RefSup8 name constant = Number Eight role.SupRef
+shape_of SecOffset name constant = Number Four role.Offset
+shape_of Exprloc name constant = UlebCounted content.Expression
+shape_of Loclistx name constant = ByUleb role.LocIndex
+shape_of Rnglistx name constant = ByUleb role.RangeIndex
 
 -- the value of an attribute, with its bytes and without places. Bits has a width in bytes, and so has InSup.
 pub data Meaning : Type 0 where
@@ -209,12 +211,12 @@ SpellsShape (UlebCounted kind) meaning bytes = IsUlebCounted kind meaning bytes
 SpellsShape Sixteen meaning bytes = (length bytes ≡ 16) × (meaning ≡ SixteenBytes bytes)
 SpellsShape ZeroEnded meaning bytes = IsZeroEnded meaning bytes
 
--- bytes of the form with this code, and with the constant of its declaration, spell this value
-pub record SpellsValue (code : ℕ) (constant : ℤ) (meaning : Meaning) (bytes : List ℕ) : Type 0 where
+-- under this name bytes of the form with this code, and with the constant of its declaration, spell this value
+pub record SpellsValue (name code : ℕ) (constant : ℤ) (meaning : Meaning) (bytes : List ℕ) : Type 0 where
   pub form : Form
   pub known : code_of form ≡ code
   pub small : AreBytes bytes
-  pub spelled : SpellsShape (shape_of form constant) meaning bytes
+  pub spelled : SpellsShape (shape_of form name constant) meaning bytes
 
 -- ref1, ref2, ref4 and ref8 are read and never written
 abbrev pub is_written : Form → Bool
@@ -224,20 +226,20 @@ is_written Ref4 = false
 is_written Ref8 = false
 is_written form = true
 
--- the form with this code can be chosen for this value: some bytes of it spell the value
-pub record Admits (code : ℕ) (meaning : Meaning) : Type 0 where
+-- the form with this code can be chosen for this value of an attribute with this name: some bytes of it spell the value
+pub record Admits (name code : ℕ) (meaning : Meaning) : Type 0 where
   pub form : Form
   pub known : code_of form ≡ code
   pub written : is_written form ≡ true
   pub constant : ℤ
   pub bytes : List ℕ
-  pub spelled : SpellsValue code constant meaning bytes
+  pub spelled : SpellsValue name code constant meaning bytes
 
--- the shortest bytes of the form with this code that spell this value; a flag is 0 or 1
-pub record SpellsShortest (code : ℕ) (meaning : Meaning) (bytes : List ℕ) : Type 0 where
+-- the shortest bytes of the form with this code that spell this value under this name; a flag is 0 or 1
+pub record SpellsShortest (name code : ℕ) (meaning : Meaning) (bytes : List ℕ) : Type 0 where
   pub constant : ℤ
-  pub spelled : SpellsValue code constant meaning bytes
-  pub shortest : (other : ℤ) (others : List ℕ) → SpellsValue code other meaning others → length bytes ≤ length others
+  pub spelled : SpellsValue name code constant meaning bytes
+  pub shortest : (other : ℤ) (others : List ℕ) → SpellsValue name code other meaning others → length bytes ≤ length others
   pub flag : code ≡ code_of Flag → (k : ℕ) → k < length bytes → slice_index bytes k ≤ 1
 
 -- how many of so many bytes count in a column: expressions and local references have sizes of their own

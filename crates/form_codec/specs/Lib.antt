@@ -1,6 +1,7 @@
 pub mod Columns
 pub mod Faults
 pub mod Forms
+pub mod Signs
 pub mod Values
 pub mod Wholes
 pub mod Written

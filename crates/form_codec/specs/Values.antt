@@ -63,8 +63,8 @@ pub record IsValueIn (bytes : List ℕ) (v : Value) : Type 0 where
   pub clear : IsClear bytes v
 
 -- what was read is what the bytes from a place up to the answered end spell
-pub record IsReadValue (code : ℕ) (constant : ℤ) (section : List ℕ) (at end : ℕ) (r : ReadValue) : Type 0 where
+pub record IsReadValue (name code : ℕ) (constant : ℤ) (section : List ℕ) (at end : ℕ) (r : ReadValue) : Type 0 where
   pub starts : at ≤ r.end
   pub inside : r.end ≤ end
-  pub spelled : SpellsValue code constant (meant_in section r.value) (take (r.end - at) (drop at section))
+  pub spelled : SpellsValue name code constant (meant_in section r.value) (take (r.end - at) (drop at section))
   pub placed : IsPlaced r.value at r.end

@@ -3,6 +3,7 @@ ghost use Rattle.std.specs.Prelude.{◌≡◌, ◌≢◌, ◌+◌, ◌-◌, ◌*
 ghost use Rattle.form_codec.specs.declared.form.Form.{Form as AnyForm};
 ghost use Rattle.form_codec.specs.Forms.{code_of, shape_of, size_of, is_written};
 
+use crate::signs::constant_role;
 use dw_base::constants;
 
 /// How many bytes a number of fixed size has.
@@ -221,9 +222,9 @@ impl Form {
         }
     }
 
-    /// The shape of the form's bytes, in a declaration that has this constant.
-    pub fn shape(self, constant: i64) -> Shape
-        ensures { result ≡ shape_of self constant }
+    /// The shape of the form's bytes under an attribute's name, in a declaration that has this constant.
+    pub fn shape(self, name: u64, constant: i64) -> Shape
+        ensures { result ≡ shape_of self name constant }
     {
         match self {
             Form::Addr => Shape::Number(Width::Eight, Role::Address),
@@ -231,10 +232,10 @@ impl Form {
             Form::Block4 => Shape::Counted(Width::Four),
             Form::Block1 => Shape::Counted(Width::One),
             Form::Block => Shape::UlebCounted(Content::Data),
-            Form::Data1 => Shape::Number(Width::One, Role::Data),
-            Form::Data2 => Shape::Number(Width::Two, Role::Data),
-            Form::Data4 => Shape::Number(Width::Four, Role::Data),
-            Form::Data8 => Shape::Number(Width::Eight, Role::Data),
+            Form::Data1 => Shape::Number(Width::One, constant_role(name)),
+            Form::Data2 => Shape::Number(Width::Two, constant_role(name)),
+            Form::Data4 => Shape::Number(Width::Four, constant_role(name)),
+            Form::Data8 => Shape::Number(Width::Eight, constant_role(name)),
             Form::Data16 => Shape::Sixteen,
             Form::Sdata => Shape::Sleb,
             Form::Udata => Shape::Uleb(Role::Unsigned),

@@ -8,6 +8,7 @@ ghost use Rattle.form_codec.specs.Values.{meant_in, bytes_in, IsPlaced, IsReadVa
 ghost use Rattle.form_codec.specs.inside.Values.{IsReadShape, IsFirstZero};
 
 use crate::form::{Content, Form, Role, Width};
+use crate::signs::constant_role;
 use crate::value::{ReadValue, Value};
 use crate::whole::Whole;
 use byteorder::{ByteOrder, LittleEndian};
@@ -226,10 +227,16 @@ fn read_zero_ended(bytes: &[u8], at: usize) -> Result<ReadValue, Kind>
 
 // Reads a value in a form. Each form has an arm of its own, in which its shape is known, so that one jump finds the code.
 #[inline(always)]
-fn read_form(bytes: &[u8], at: usize, form: Form, constant: i64) -> Result<ReadValue, Kind>
+fn read_form(
+    bytes: &[u8],
+    at: usize,
+    name: u64,
+    form: Form,
+    constant: i64,
+) -> Result<ReadValue, Kind>
     requires { at ≤ length bytes.now }
-    ensures read { IfOk result (IsReadShape (shape_of form constant) bytes.now at) }
-    ensures fault { IfErr result (λ kind. FaultShape (shape_of form constant) kind (drop at bytes.now)) }
+    ensures read { IfOk result (IsReadShape (shape_of form name constant) bytes.now at) }
+    ensures fault { IfErr result (λ kind. FaultShape (shape_of form name constant) kind (drop at bytes.now)) }
 {
     match form {
         Form::Addr => read_number(bytes, at, Width::Eight, Role::Address),
@@ -237,10 +244,10 @@ fn read_form(bytes: &[u8], at: usize, form: Form, constant: i64) -> Result<ReadV
         Form::Block4 => read_counted(bytes, at, Width::Four),
         Form::Block1 => read_counted(bytes, at, Width::One),
         Form::Block => read_uleb_counted(bytes, at, Content::Data),
-        Form::Data1 => read_number(bytes, at, Width::One, Role::Data),
-        Form::Data2 => read_number(bytes, at, Width::Two, Role::Data),
-        Form::Data4 => read_number(bytes, at, Width::Four, Role::Data),
-        Form::Data8 => read_number(bytes, at, Width::Eight, Role::Data),
+        Form::Data1 => read_number(bytes, at, Width::One, constant_role(name)),
+        Form::Data2 => read_number(bytes, at, Width::Two, constant_role(name)),
+        Form::Data4 => read_number(bytes, at, Width::Four, constant_role(name)),
+        Form::Data8 => read_number(bytes, at, Width::Eight, constant_role(name)),
         Form::Data16 => read_sixteen(bytes, at),
         Form::Sdata => read_sleb(bytes, at),
         Form::Udata => read_uleb(bytes, at, Role::Unsigned),
@@ -292,7 +299,8 @@ pub fn known(form: u64) -> bool
 
 // It is inlined, since a call would cost more than most readings: its result is copied.
 
-/// Reads the value that begins at `at`, counted from 0 in `section`, in the form with this code (DWARF 5 section 7.5.6).
+/// Reads the value that begins at `at`, counted from 0 in `section`, of an attribute with this name, in the form with this code (DWARF 5
+/// sections 7.5.4 and 7.5.6). The name tells of a constant of fixed size whether it has a sign.
 /// The value is to end by `end`, and `constant` is that of its declaration, which only implicit_const reads. Padded
 /// LEB128 numbers are read.
 ///
@@ -303,6 +311,7 @@ pub fn read_value(
     section: &[u8],
     at: usize,
     end: usize,
+    name: u64,
     form: u64,
     constant: i64,
     origin: u64,
@@ -310,9 +319,9 @@ pub fn read_value(
     requires known { IsKnown form }
     requires starts { at ≤ end }
     requires inside { end ≤ length section.now }
-    ensures read { IfOk result (IsReadValue form constant section.now at end) }
+    ensures read { IfOk result (IsReadValue name form constant section.now at end) }
     ensures in_section { IfOk result (λ r. IsValueIn section.now r.value) }
-    ensures fault { IfErr result (λ f. FaultValue form constant f.kind (take (end - at) (drop at section.now))) }
+    ensures fault { IfErr result (λ f. FaultValue name form constant f.kind (take (end - at) (drop at section.now))) }
     ensures place { IfErr result (λ f. origin + at < 2 ^ 64 → f.place ≡ origin + at) }
 {
     let place = origin.wrapping_add(at as u64);
@@ -322,7 +331,7 @@ pub fn read_value(
             place,
         });
     };
-    match read_form(&section[..end], at, form, constant) {
+    match read_form(&section[..end], at, name, form, constant) {
         Ok(read) => Ok(read),
         Err(kind) => Err(Fault { kind, place }),
     }

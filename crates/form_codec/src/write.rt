@@ -1,23 +1,27 @@
 // Values chosen for forms, and written.
 ghost use Rattle.std.specs.Prelude.{◌≡◌, ◌≤◌, ◌<◌, ◌+◌, ◌^◌, ◌↔◌, ◌++◌, ℕ, ℤ, List, length, IsTrue, OnOk, OnErr, MatchOption, FitsSigned};
 ghost use Rattle.std.specs.Int.{w64};
-ghost use Rattle.spelled.specs.Spelled.{Appends};
+ghost use Rattle.spelled.specs.Spelled.{Appends, AreBytes};
 ghost use Rattle.leb_codec.specs.Digits.{Extends};
-ghost use Rattle.form_codec.specs.Forms.{Admits, SpellsShortest, counted};
+ghost use Rattle.form_codec.specs.Forms.{Admits, SpellsShape, SpellsShortest, counted};
 ghost use Rattle.form_codec.specs.Forms.Meaning.{Whole as WholeMeaning};
 ghost use Rattle.form_codec.specs.declared.form.Role.TheVariants as role;
 ghost use Rattle.form_codec.specs.declared.form.Shape.TheVariants as shape;
 ghost use Rattle.form_codec.specs.declared.value.Value.TheVariants.{Int as IntValue};
 ghost use Rattle.form_codec.specs.Values.{meant_in, bytes_in, LiesIn, IsValueIn};
 ghost use Rattle.form_codec.specs.Written.{low_bytes, HasConstant, HasNoEncoding, IsShapeSize};
-ghost use Rattle.form_codec.specs.inside.Written.{Encodes, SpanLies, HasNoForm, IsFormEncoding, HasNoCode, IsCodeEncoding};
+ghost use Rattle.form_codec.specs.inside.Written.{Encodes, SpanLies, HasShortest, HasNoForm, IsFormEncoding, HasNoCode, IsCodeEncoding};
 
 use crate::encoding::{Encoding, constant_in, encoding_of};
 use crate::form::{Form, Role, Shape, Width};
 use crate::value::Value;
 use crate::whole::Whole;
+use dw_base::constants::DW_AT_BYTE_SIZE;
 use dw_base::{NoMemory, Span};
 use leb_codec::{len_s, len_u, put_s, put_u};
+
+// No attribute has this name.
+const NO_NAME: u64 = 0;
 
 // The constant of a value, or 0 where it has none.
 fn constant_of(value: &Value) -> i64
@@ -29,33 +33,33 @@ fn constant_of(value: &Value) -> i64
     }
 }
 
-// What is written of a value in a form, or None where no bytes of this form spell the value.
-fn encoding_in(form: Form, value: &Value) -> Option<Encoding>
-    ensures { MatchOption result (HasNoForm form value.now) (IsFormEncoding form value.now) }
+// What is written of a value in a form, or None where no bytes of this form spell the value under this name.
+fn encoding_in(name: u64, form: Form, value: &Value) -> Option<Encoding>
+    ensures { MatchOption result (HasNoForm name form value.now) (IsFormEncoding name form value.now) }
 {
-    encoding_of(form.shape(constant_of(value)), value)
+    encoding_of(form.shape(name, constant_of(value)), value)
 }
 
 // The same of the form with a code.
-fn encoding_for(code: u64, value: &Value) -> Option<Encoding>
-    ensures { MatchOption result (HasNoCode code value.now) (IsCodeEncoding code value.now) }
+fn encoding_for(name: u64, code: u64, value: &Value) -> Option<Encoding>
+    ensures { MatchOption result (HasNoCode name code value.now) (IsCodeEncoding name code value.now) }
 {
     let Some(form) = Form::from_code(code) else {
         return None;
     };
-    encoding_in(form, value)
+    encoding_in(name, form, value)
 }
 
-/// Whether the form with this code can be chosen for a value: some bytes of it spell the value, and it isn't one of
-/// ref1, ref2, ref4 and ref8, which are never written. Codes of no form that is read here answer false, and ref_udata
+/// Whether the form with this code can be chosen for a value of an attribute with this name: some bytes of it spell the value, and it isn't
+/// one of ref1, ref2, ref4 and ref8, which are never written. Codes of no form that is read here answer false, and ref_udata
 /// does so for a reference that counts from the section.
-pub fn admits(form: u64, value: &Value) -> bool
-    ensures { (bytes : List ℕ) → IsValueIn bytes value.now → (IsTrue result ↔ Admits form (meant_in bytes value.now)) }
+pub fn admits(name: u64, form: u64, value: &Value) -> bool
+    ensures { (bytes : List ℕ) → IsValueIn bytes value.now → (IsTrue result ↔ Admits name form (meant_in bytes value.now)) }
 {
     let Some(form) = Form::from_code(form) else {
         return false;
     };
-    match encoding_in(form, value) {
+    match encoding_in(name, form, value) {
         Some(_) => form.is_written(),
         None => false,
     }
@@ -78,13 +82,29 @@ fn encoded_size(encoding: Encoding) -> u64
     }
 }
 
-/// The number of bytes that a value has in the form with this code, written with the shortest LEB128 numbers. Of a form that
-/// doesn't admit the value it says nothing.
-pub fn spelled_size(code: u64, value: &Value) -> u64
-    ensures { (section : List ℕ) → length section < 2 ^ 63 → IsValueIn section value.now → Admits code (meant_in section value.now) → (written : List ℕ) × SpellsShortest code (meant_in section value.now) written × (result ≡ length written) }
+// How many bytes the shortest spelling of a value in this shape has. Of a shape that doesn't spell the value it says nothing.
+#[inline(always)]
+fn shaped_size(shape: Shape, value: &Value) -> u64
+    ensures { (section bytes : List ℕ) → length section < 2 ^ 63 → IsValueIn section value.now → AreBytes bytes → SpellsShape shape (meant_in section value.now) bytes → HasShortest shape (meant_in section value.now) result }
 {
-    match encoding_for(code, value) {
-        Some(encoding) => encoded_size(encoding),
+    match shape {
+        // The bytes of most values are counted by their form alone.
+        Shape::Constant(_) | Shape::Present => 0,
+        Shape::Number(width, _) => u64::from(width.size()),
+        _ => match encoding_of(shape, value) {
+            Some(encoding) => encoded_size(encoding),
+            None => 0,
+        },
+    }
+}
+
+/// The number of bytes that a value of an attribute with this name has in the form with this code, written with the shortest LEB128 numbers.
+/// Of a form that doesn't admit the value it says nothing.
+pub fn spelled_size(name: u64, code: u64, value: &Value) -> u64
+    ensures { (section : List ℕ) → length section < 2 ^ 63 → IsValueIn section value.now → Admits name code (meant_in section value.now) → (written : List ℕ) × SpellsShortest name code (meant_in section value.now) written × (result ≡ length written) }
+{
+    match Form::from_code(code) {
+        Some(form) => shaped_size(form.shape(name, constant_of(value)), value),
         None => 0,
     }
 }
@@ -101,13 +121,27 @@ fn counted_size(value: &Value, size: u64) -> u64
     }
 }
 
-/// The number of bytes that a value has in the form with this code, written with the shortest LEB128 numbers; 0 for an
-/// expression and for a reference that counts from its unit, which have sizes of their own. Of a form that doesn't admit
-/// the value it says nothing.
-pub fn size_of(form: u64, value: &Value) -> u64
-    ensures { (section : List ℕ) → length section < 2 ^ 63 → IsValueIn section value.now → Admits form (meant_in section value.now) → (written : List ℕ) × SpellsShortest form (meant_in section value.now) written × (result ≡ counted (meant_in section value.now) (length written)) }
+// What is written of a value in the form with a code under some name, or None where bytes of this form spell the value under no name.
+// The form of a constant of fixed size spells some constants only where the name fixes the sign, and others only where it doesn't.
+fn encoding_for_some(code: u64, value: &Value) -> Option<Encoding>
+    ensures { MatchOption result ((name : ℕ) → HasNoCode name code value.now) (λ encoding. (name : ℕ) × IsCodeEncoding name code value.now encoding) }
 {
-    counted_size(value, spelled_size(form, value))
+    match encoding_for(NO_NAME, code, value) {
+        Some(encoding) => Some(encoding),
+        None => encoding_for(DW_AT_BYTE_SIZE, code, value),
+    }
+}
+
+/// The number of bytes that a value has in the form with this code, written with the shortest LEB128 numbers; 0 for an
+/// expression and for a reference that counts from its unit, which have sizes of their own. It is the same under each name under which the
+/// form admits the value; where there is none it says nothing.
+pub fn size_of(form: u64, value: &Value) -> u64
+    ensures { (section : List ℕ) (name : ℕ) → length section < 2 ^ 63 → IsValueIn section value.now → Admits name form (meant_in section value.now) → (written : List ℕ) × SpellsShortest name form (meant_in section value.now) written × (result ≡ counted (meant_in section value.now) (length written)) }
+{
+    match encoding_for_some(form, value) {
+        Some(encoding) => counted_size(value, encoded_size(encoding)),
+        None => 0,
+    }
 }
 
 // How many bytes a constant has in a form of a width, if it fits.
@@ -116,6 +150,16 @@ fn data_size(width: Width, whole: Whole) -> Option<u64>
 {
     match u64::try_from(whole.get()) {
         Ok(number) if number < width.half() => Some(u64::from(width.size())),
+        _ => None,
+    }
+}
+
+// How many bytes a constant without a sign has in a form of a width, if it fits.
+fn whole_size(width: Width, whole: Whole) -> Option<u64>
+    ensures { MatchOption result (HasNoEncoding (shape.Number width role.Unsigned) (IntValue whole)) (IsShapeSize (shape.Number width role.Unsigned) (IntValue whole)) }
+{
+    match u64::try_from(whole.get()) {
+        Ok(number) if number <= width.greatest() => Some(u64::from(width.size())),
         _ => None,
     }
 }
@@ -174,6 +218,7 @@ pub fn size_in(shape: Shape, value: &Value) -> Option<u64>
     match (shape, *value) {
         // Constants are what columns are most asked for: they are told without what would be written.
         (Shape::Number(width, Role::Data), Value::Int(whole)) => data_size(width, whole),
+        (Shape::Number(width, Role::Unsigned), Value::Int(whole)) => whole_size(width, whole),
         (Shape::Uleb(Role::Unsigned), Value::Int(whole)) => unsigned_size(whole),
         (Shape::Sleb, Value::Int(whole)) => signed_size(whole),
         (Shape::Constant(constant), Value::Int(whole)) => constant_size(constant, whole),
@@ -229,20 +274,21 @@ fn append(out: &mut Vec<u8>, encoding: Encoding, section: &[u8]) -> Result<(), N
     }
 }
 
-/// Appends a value in the form with this code, which has to admit it, with the shortest LEB128 numbers (DWARF 5 section
-/// 7.5.6). The value's span counts in `section`. A flag is written as 0 or 1. An Err leaves `out` as it was.
+/// Appends a value of an attribute with this name in the form with this code, which has to admit it, with the shortest LEB128 numbers
+/// (DWARF 5 section 7.5.6). The value's span counts in `section`. A flag is written as 0 or 1. An Err leaves `out` as it was.
 pub fn write_value(
     out: &mut Vec<u8>,
+    name: u64,
     form: u64,
     value: &Value,
     section: &[u8],
 ) -> Result<(), NoMemory>
-    requires admitted { Admits form (meant_in section.now value.now) }
+    requires admitted { Admits name form (meant_in section.now value.now) }
     requires inside { LiesIn (length section.now) value.now }
-    ensures ok { OnOk result (Appends (SpellsShortest form) (meant_in section.now value.now) out.old.items out.new.items) }
+    ensures ok { OnOk result (Appends (SpellsShortest name form) (meant_in section.now value.now) out.old.items out.new.items) }
     ensures err { OnErr result (out.new.items ≡ out.old.items) }
 {
-    let Some(encoding) = encoding_for(form, value) else {
+    let Some(encoding) = encoding_for(name, form, value) else {
         return Ok(());
     };
     let start = out.len();

@@ -1,8 +1,9 @@
 -- The file of records that show why each part of an output is least, and the place at which bytes break its form.
--- After eight bytes of its own come records, one after the other, up to the file's end. Each number is a shortest unsigned
+-- After eight bytes, which tell for which classes the records are, come records, one after the other, up to the file's end. Each number is a shortest unsigned
 -- LEB128 number (DWARF 5 section 7.6).
-use Rattle.std.specs.Prelude.{◌≡◌, ◌≢◌, ◌≤◌, ◌<◌, ◌+◌, ◌^◌, ◌⊎◌, ℕ, List, [], ◌∷◌, ◌++◌, length, ⊤}
+use Rattle.std.specs.Prelude.{◌≡◌, ◌≢◌, ◌≤◌, ◌<◌, ◌+◌, ◌^◌, ◌⊎◌, ℕ, List, [], ◌∷◌, ◌++◌, length, if◌then◌else◌, ⊤}
 use Rattle.spelled.specs.Spelled.{Joined}
+use Rattle.dw_base.specs.declared.classes.Classes.{Classes}
 use Rattle.dw_base.specs.declared.record.Run.{Run}
 use Rattle.leb_codec.specs.Leb.{ShortestUnsigned}
 
@@ -19,9 +20,10 @@ pub data Record : Type 0 where
   -- of a unit: the ranks of all steps of its slots, in the order of the slots
   OfLayout : List ℕ → Record
 
--- the first bytes: "DWMIN01" and the end of a line
-abbrev pub magic : List ℕ
-magic = 68 ∷ 87 ∷ 77 ∷ 73 ∷ 78 ∷ 48 ∷ 49 ∷ 10 ∷ []
+-- the first bytes tell for which classes the records are: "DWMIN01" and the end of a line where line number programs have all members, and
+-- "DWMINP1" and the end of a line where they stay as they are
+abbrev pub magic : Classes → List ℕ
+magic classes = 68 ∷ 87 ∷ 77 ∷ 73 ∷ 78 ∷ (if classes.lines then 48 else 80) ∷ 49 ∷ 10 ∷ []
 
 -- how many pairs of line_base and line_range there are: 256 times 255
 abbrev pub pair_count : ℕ
@@ -76,26 +78,26 @@ SpellsRecord (OfLines runs) bytes = (body : List ℕ) × SpellsRuns runs body ×
 SpellsRecord (OfList potentials) bytes = (body : List ℕ) × SpellsNumbers potentials body × (bytes ≡ 2 ∷ body)
 SpellsRecord (OfLayout ranks) bytes = (body : List ℕ) × SpellsNumbers ranks body × (bytes ≡ 3 ∷ body)
 
--- the bytes are a file of these records
-abbrev pub SpellsFile : List Record → List ℕ → Type 0
-SpellsFile records bytes = (body : List ℕ) × Joined SpellsRecord records body × (bytes ≡ magic ++ body)
+-- the bytes are a file of these records, for these classes
+abbrev pub SpellsFile : Classes → List Record → List ℕ → Type 0
+SpellsFile classes records bytes = (body : List ℕ) × Joined SpellsRecord records body × (bytes ≡ magic classes ++ body)
 
 -- nothing of a kind is spelled at the front of the bytes
 abbrev pub HasNone : {V : Type 0} → (V → List ℕ → Type 0) → List ℕ → Type 0
 HasNone {V} Spells bytes = (v : V) (a x : List ℕ) → Spells v a → bytes ≡ a ++ x → ⊥
 
 -- the first bytes are there, and records from there on, and bytes are left, at whose front is no record
-pub record BreaksRecord (bytes : List ℕ) (place : ℕ) : Type 0 where
+pub record BreaksRecord (classes : Classes) (bytes : List ℕ) (place : ℕ) : Type 0 where
   pub before : List Record
   pub front : List ℕ
   pub rest : List ℕ
   pub spelled : Joined SpellsRecord before front
-  pub whole : bytes ≡ magic ++ (front ++ rest)
+  pub whole : bytes ≡ magic classes ++ (front ++ rest)
   pub left : 0 < length rest
   pub none : HasNone SpellsRecord rest
-  pub at : place ≡ length magic + length front
+  pub at : place ≡ length (magic classes) + length front
 
 -- the bytes break the form at a place: at 0 where the first bytes aren't there, else at the first byte of the first record
 -- that isn't one
-abbrev pub IsBroken : List ℕ → ℕ → Type 0
-IsBroken bytes place = (((body : List ℕ) → bytes ≢ magic ++ body) × (place ≡ 0)) ⊎ BreaksRecord bytes place
+abbrev pub IsBroken : Classes → List ℕ → ℕ → Type 0
+IsBroken classes bytes place = (((body : List ℕ) → bytes ≢ magic classes ++ body) × (place ≡ 0)) ⊎ BreaksRecord classes bytes place

@@ -37,7 +37,7 @@ fn entry_size(kind: ListKind, raw: &RawEntry) -> u64
         + operand_size(second_operand(entry_kind), raw.b)
 }
 
-/// The plan of a list that is frozen: its own kinds of entries and operands, each number in its fewest bytes (DWARF 5 sections
+/// The plan of a list that is kept: its own kinds of entries and operands, each number in its fewest bytes (DWARF 5 sections
 /// 2.6.2, 2.17.3, 7.7.3 and 7.25). `raws` are its entries as they were read. It has no potentials. The only error is want of
 /// memory.
 pub fn kept_plan(alloc: Global, kind: ListKind, raws: &Vec<RawEntry>) -> Result<Plan, NoMemory>

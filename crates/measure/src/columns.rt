@@ -4,7 +4,7 @@ ghost use Rattle.std.specs.Prelude.{◌<◌, ◌^◌};
 use crate::draws::Draws;
 use abbrev_tables::Spec;
 use column_forms::Tallies;
-use dw_base::NoMemory;
+use dw_base::{Classes, NoMemory};
 use form_codec::{Value, Whole};
 use std::alloc::Global;
 
@@ -56,7 +56,7 @@ pub fn least_columns(alloc: Global, entries: u64) -> Result<Vec<Spec>, NoMemory>
     let columns = columns();
     let mut tallies = Tallies::new(alloc, columns.len())?;
     for _ in 0..entries {
-        tallies.add_row(alloc, 0, &drawn_row(&mut draws))?;
+        tallies.add_row(alloc, 0, &columns, &drawn_row(&mut draws))?;
     }
-    tallies.best(alloc, &columns)
+    tallies.best(alloc, Classes::every(), &columns)
 }

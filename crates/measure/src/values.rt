@@ -4,6 +4,7 @@ ghost use Rattle.std.specs.List.{All};
 ghost use Rattle.form_codec.specs.Forms.{IsKnown};
 
 use crate::draws::Draws;
+use dw_base::constants::DW_AT_DECL_LINE;
 use dw_base::{Fault, NoMemory};
 use form_codec::{Value, read_value};
 use std::alloc::Global;
@@ -17,6 +18,8 @@ const TURNS: u64 = 64;
 /// An attribute of a declaration.
 #[derive(Clone, Copy)]
 pub struct Attribute {
+    /// Its name, which tells of a constant of fixed size whether it has a sign.
+    pub name: u64,
     /// The code of its form.
     pub form: u64,
     /// Its constant, which implicit_const reads.
@@ -61,7 +64,8 @@ fn drawn_form(draws: &mut Draws) -> u64
     }
 }
 
-// The attributes of the declaration.
+// The attributes of the declaration. All are called DW_AT_decl_line, since most constants of a compiler's entries have a name that fixes
+// the sign.
 fn drawn_attributes(alloc: Global, draws: &mut Draws) -> Result<Vec<Attribute>, NoMemory>
     ensures count { IfOk result (λ attributes. length attributes.items ≡ 64) }
     ensures known { IfOk result (λ attributes. All (λ a. IsKnown a.form) attributes.items) }
@@ -70,7 +74,11 @@ fn drawn_attributes(alloc: Global, draws: &mut Draws) -> Result<Vec<Attribute>, 
     for _ in 0..ATTRIBUTES {
         let form = drawn_form(draws);
         let constant = i64::from(draws.below(256));
-        attributes.push(Attribute { form, constant })?;
+        attributes.push(Attribute {
+            name: DW_AT_DECL_LINE,
+            form,
+            constant,
+        })?;
     }
     Ok(attributes)
 }
@@ -186,6 +194,7 @@ fn with_turn(
             section,
             at,
             section.len(),
+            attribute.name,
             attribute.form,
             attribute.constant,
             0,

@@ -4,6 +4,7 @@ use Rattle.std.specs.List.{All}
 use Rattle.std.proofs.lemmas.Bool.{cases_lt}
 use Rattle.std.proofs.lemmas.List.{append-nil, length-append, length-drop, length-map, length_push, map-append, take-append-le, drop-append-le, get_or-map, get_or_append_left}
 use Rattle.std.proofs.Math.Seq.{get_or-append_seam, drop-append_seam, take-length}
+use Rattle.dw_base.specs.declared.classes.Classes.{Classes}
 use Rattle.leb_codec.specs.Numbering.{IsLeastNumbering, RiseByFallingUses}
 use Rattle.abbrev_tables.specs.declared.decl.Spec.{Spec}
 use Rattle.abbrev_tables.specs.Tables.{SpellsTable, Declared, codes_of, AreDistinct}
@@ -86,8 +87,8 @@ anew_last tables new i last =
     ∙ get_or-append_seam (map table_anew tables) (table_anew new) [] no_table
 
 -- one table more
-pub appended_more : (units : List HeadAndForest) (tables : List NamedTable) (all : List Uses) (n : ℕ) (section whole : List ℕ) (done : List NewTable) (new : NewTable) → AreAppended units tables all n section done → IsAppended (table_at tables n).table (counts_in all n) section whole (table_anew new) → AreColumnsChosen units (table_at tables n) new.columns.items → AreAppended units tables all (n + 1) whole (done ++ new ∷ [])
-appended_more units tables all n section whole done new now more chosen = subst (λ (bytes : List ℕ). AreAppended units tables all (n + 1) bytes (done ++ new ∷ [])) (sym more.grown) (record {
+pub appended_more : {classes : Classes} → (units : List HeadAndForest) (tables : List NamedTable) (all : List Uses) (n : ℕ) (section whole : List ℕ) (done : List NewTable) (new : NewTable) → AreAppended classes units tables all n section done → IsAppended (table_at tables n).table (counts_in all n) section whole (table_anew new) → AreColumnsChosen classes units (table_at tables n) new.columns.items → AreAppended classes units tables all (n + 1) whole (done ++ new ∷ [])
+appended_more {classes} units tables all n section whole done new now more chosen = subst (λ (bytes : List ℕ). AreAppended classes units tables all (n + 1) bytes (done ++ new ∷ [])) (sym more.grown) (record {
   count = omega (arith, length_push done new, now.count);
   tiled = follow_more section more.more done new 0 more.stands.listing now.tiled more.at (subst (λ (bytes : List ℕ). IsTableAt bytes new.at more.stands.listing) more.grown more.stands.stands) (more.end ∙ ap length more.grown);
   each = λ i below. elim (cases_lt i n) [
@@ -102,11 +103,11 @@ appended_more units tables all n section whole done new now more chosen = subst 
   ];
   chosen = λ i below. elim (cases_lt i n) [
     | inl before ↦
-        subst (λ (t : TableAnew). AreColumnsChosen units (table_at tables i) t.columns) (sym (anew_before done new i (omega (arith, before, now.count)))) (now.chosen i before)
+        subst (λ (t : TableAnew). AreColumnsChosen classes units (table_at tables i) t.columns) (sym (anew_before done new i (omega (arith, before, now.count)))) (now.chosen i before)
     | inr last ↦
         let e : n ≡ i = omega (arith, last, below) in
-        let there : AreColumnsChosen units (table_at tables i) new.columns.items = subst (λ (k : ℕ). AreColumnsChosen units (table_at tables k) new.columns.items) e chosen in
-        subst (λ (t : TableAnew). AreColumnsChosen units (table_at tables i) t.columns) (sym (anew_last done new i (sym e ∙ sym now.count))) there
+        let there : AreColumnsChosen classes units (table_at tables i) new.columns.items = subst (λ (k : ℕ). AreColumnsChosen classes units (table_at tables k) new.columns.items) e chosen in
+        subst (λ (t : TableAnew). AreColumnsChosen classes units (table_at tables i) t.columns) (sym (anew_last done new i (sym e ∙ sym now.count))) there
   ];
 })
 

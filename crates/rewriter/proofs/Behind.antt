@@ -1,5 +1,6 @@
 -- What the writer of a unit asks and gives, said of the unit that is held, its table and its new one.
 use Rattle.std.proofs.Common.{◌≡◌, ◌≢◌, ◌≤◌, ◌<◌, ◌+◌, ◌-◌, ◌^◌, ℕ, zero, suc, List, [], ◌∷◌, length, slice_index, ◌∙◌, sym, ap, subst, arith}
+use Rattle.dw_base.specs.declared.classes.Classes.{Classes}
 use Rattle.dw_base.specs.declared.fault.Reach.TheVariants.{Narrow}
 use Rattle.abbrev_tables.specs.Tables.{Declared}
 use Rattle.abbrev_tables.specs.Listings.{Listing}
@@ -128,7 +129,7 @@ module _ (world : World) (tables : List NewTable) (u : ℕ) (unit : HeadAndFores
         let kind : (unit_in world.units u).head.kind ≡ (unit_at r.links u).head.kind = ap (λ (h : HeadAndForest). h.head.kind) (held_unit file world r u holds) in
         numbers.type_at.none (λ same. other (ap (λ (h : HeadAndForest). h.head.kind) unit_is ∙ kind ∙ same))
 
-    pub table_fits : (section : List ℕ) → AreTablesWritten world section tables → slice_index world.table_of u < length world.tables → length section < 2 ^ 32 → new.table < 2 ^ 32
+    pub table_fits : {classes : Classes} → (section : List ℕ) → AreTablesWritten classes world section tables → slice_index world.table_of u < length world.tables → length section < 2 ^ 32 → new.table < 2 ^ 32
     table_fits section written there narrow =
         let inside : (new_table_at tables (slice_index world.table_of u)).at < length section = (written.each (slice_index world.table_of u) there).inside in
         let same : new.table ≡ (new_table_at tables (slice_index world.table_of u)).at = numbers.table_at in

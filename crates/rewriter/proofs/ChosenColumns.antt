@@ -3,6 +3,7 @@ use Rattle.std.proofs.Common.{◌≡◌, ◌≢◌, ◌<◌, ◌+◌, ◌∙◌,
 use Rattle.std.specs.Prelude.{slice_index}
 use Rattle.std.specs.List.{Contains}
 use Rattle.std.proofs.lemmas.List.{get_or-map, length-map, length-take, length-drop}
+use Rattle.dw_base.specs.declared.classes.Classes.{Classes}
 use Rattle.leb_codec.specs.Leb.{least_unsigned_len}
 use Rattle.form_codec.specs.declared.value.Value.{Value}
 use Rattle.form_codec.specs.declared.value.Value.TheVariants as value
@@ -38,7 +39,7 @@ use Rattle.rewriter.proofs.SizedValues.{values_sized}
 use Rattle.rewriter.proofs.TakenMeanings.{IsTakenIn, taken_in}
 use Rattle.rewriter.proofs.TakenValues.{columns_count, values_count, taken_count, taken_at, taken_zip}
 
-module _ (file : List ℕ) (world : World) (r : Reading) (abbrevs : List ℕ) (tables : List NewTable) (read : IsReading file r) (holds : Holds file world r) (written : AreTablesWritten world abbrevs tables) where
+module _ {classes : Classes} (file : List ℕ) (world : World) (r : Reading) (abbrevs : List ℕ) (tables : List NewTable) (read : IsReading file r) (holds : Holds file world r) (written : AreTablesWritten classes world abbrevs tables) where
   abbrev new_table : ℕ → TableAnew
   new_table u = new_table_at tables (slice_index world.table_of u)
 

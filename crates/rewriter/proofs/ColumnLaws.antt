@@ -1,7 +1,8 @@
 -- Columns of a table in their least forms: each has its name, and spells its values in a form that is written.
-use Rattle.std.proofs.Common.{◌≡◌, ◌≢◌, ◌<◌, ◌+◌, ◌∙◌, ℕ, List, [], length, take, drop, sym, ap, arith, inl, inr}
+use Rattle.std.proofs.Common.{◌≡◌, ◌≢◌, ◌<◌, ◌+◌, ◌∙◌, ℕ, List, [], length, take, drop, sym, ap, subst, arith, inl, inr}
 use Rattle.std.specs.List.{Contains}
 use Rattle.std.proofs.lemmas.Bool.{cases_eq}
+use Rattle.dw_base.specs.declared.classes.Classes.{Classes}
 use Rattle.form_codec.specs.Forms.{Meaning, SpellsValue}
 use Rattle.form_codec.specs.Columns.{IsChoice}
 use Rattle.abbrev_tables.specs.declared.decl.Spec.{Spec}
@@ -29,11 +30,11 @@ pub record AreNamedAlike (old new : List Spec) : Type 0 where
 
 -- a column has a form that is written, and some bytes spell a value in it, with the column's constant
 abbrev pub IsSpelledBy : Spec → Meaning → Type 0
-IsSpelledBy column meaning = IsChoice column.form × (bytes : List ℕ) × SpellsValue column.form column.constant meaning bytes
+IsSpelledBy column meaning = IsChoice column.form × (bytes : List ℕ) × SpellsValue column.name column.form column.constant meaning bytes
 
 -- TABLES
 
-module _ (units : List HeadAndForest) (old : NamedTable) (columns : List Spec) (chosen : AreColumnsChosen units old columns) where
+module _ {classes : Classes} (units : List HeadAndForest) (old : NamedTable) (columns : List Spec) (chosen : AreColumnsChosen classes units old columns) where
   -- where the columns of a declaration begin, and how many there are
   abbrev first_of : ℕ → ℕ
   first_of number = (decl_at old.table.decls number).first
@@ -53,9 +54,11 @@ module _ (units : List HeadAndForest) (old : NamedTable) (columns : List Spec) (
   pub column_spelled : (number j : ℕ) (m : Meaning) → number < length old.table.decls → uses_of units old.place number ≢ 0 → j < count_of number → Contains (column_meanings units old.place number j) m → IsSpelledBy (spec_at columns (first_of number + j)) m
   column_spelled number j m inside used below among =
       let new : Spec = spec_at columns (first_of number + j) in
-      let enough = (chosen.each number j inside used below).least.least.enough in
-      let spelled = spelled_among new.form new.constant (column_meanings units old.place number j) enough.entries m enough.within among in
-      (enough.choice, spelled.0, spelled.1)
+      let column = (chosen.each number j inside used below).least in
+      let enough = column.least.enough in
+      let spelled = spelled_among (spec_at old.table.specs (first_of number + j)).name new.form new.constant (column_meanings units old.place number j) enough.entries m enough.within among in
+      let named = subst (λ (name : ℕ). (bytes : List ℕ) × SpellsValue name new.form new.constant m bytes) (sym column.name) spelled in
+      (enough.choice, named.0, named.1)
 
   -- the columns of a declaration, old and new
   abbrev olds : ℕ → List Spec

@@ -29,7 +29,7 @@ use Rattle.rewriter.proofs.ColumnMeanings.{has_decl, AreOfTable, term_of, held_h
 
 -- a column spells a value of a section
 abbrev IsSpelled : List ℕ → Spec → Value → Type 0
-IsSpelled section c v = (bytes : List ℕ) × SpellsValue c.form c.constant (meant_in section v) bytes
+IsSpelled section c v = (bytes : List ℕ) × SpellsValue c.name c.form c.constant (meant_in section v) bytes
 
 value_spelled : (section : List ℕ) (cs : List Spec) (vs : List Value) (from to j : ℕ) → ValuesBetween section cs vs from to → j < length cs → IsSpelled section (spec_at cs j) (value_at vs j)
 value_spelled section [] vs from to j p below = absurd (omega arith)
@@ -71,46 +71,46 @@ module _ (section : List ℕ) (c : Spec) (values : List Value) (number j : ℕ) 
   abbrev Fits : Entry → Type 0
   Fits e = e.decl ≡ number → IsSpelled section c (value_at values (e.first + j))
 
-  pub entries_spelled : (entries : List Entry) → All (λ (e : Entry). e.decl ≡ number → (bytes : List ℕ) × SpellsValue c.form c.constant (meant_in section (value_at values (e.first + j))) bytes) entries → AreSpelled c.form c.constant (map (meant_in section) (map (λ (e : Entry). value_at values (e.first + j)) (filter (λ (e : Entry). eqb e.decl number) entries)))
+  pub entries_spelled : (entries : List Entry) → All (λ (e : Entry). e.decl ≡ number → (bytes : List ℕ) × SpellsValue c.name c.form c.constant (meant_in section (value_at values (e.first + j))) bytes) entries → AreSpelled c.name c.form c.constant (map (meant_in section) (map (λ (e : Entry). value_at values (e.first + j)) (filter (λ (e : Entry). eqb e.decl number) entries)))
   entries_spelled [] all = tt
   entries_spelled (e ∷ es) all =
       let rest = entries_spelled es (All-tail Fits e es all) in
       let few : List Entry = filter (has_decl number) es in
       elim (cases_eq e.decl number) [
         | inl same ↦
-            let more : AreSpelled c.form c.constant (map (meant_in section) (map value_of (e ∷ few))) = (All-head Fits e es all same, rest) in
-            subst (λ (zs : List Entry). AreSpelled c.form c.constant (map (meant_in section) (map value_of zs))) (sym (cond-true {A = List Entry} (eqb e.decl number) (e ∷ few) few (eq-eqb e.decl number same))) more
-        | inr other ↦ subst (λ (zs : List Entry). AreSpelled c.form c.constant (map (meant_in section) (map value_of zs))) (sym (cond-false {A = List Entry} (eqb e.decl number) (e ∷ few) few (ne_eqb e.decl number other))) rest
+            let more : AreSpelled c.name c.form c.constant (map (meant_in section) (map value_of (e ∷ few))) = (All-head Fits e es all same, rest) in
+            subst (λ (zs : List Entry). AreSpelled c.name c.form c.constant (map (meant_in section) (map value_of zs))) (sym (cond-true {A = List Entry} (eqb e.decl number) (e ∷ few) few (eq-eqb e.decl number same))) more
+        | inr other ↦ subst (λ (zs : List Entry). AreSpelled c.name c.form c.constant (map (meant_in section) (map value_of zs))) (sym (cond-false {A = List Entry} (eqb e.decl number) (e ∷ few) few (ne_eqb e.decl number other))) rest
       ]
 
 -- ALL UNITS
 
-spelled_append : (code : ℕ) (constant : ℤ) (ms ns : List Meaning) → AreSpelled code constant ms → AreSpelled code constant ns → AreSpelled code constant (ms ++ ns)
-spelled_append code constant [] ns first second = second
-spelled_append code constant (m ∷ ms) ns (here, rest) second = (here, spelled_append code constant ms ns rest second)
+spelled_append : (name code : ℕ) (constant : ℤ) (ms ns : List Meaning) → AreSpelled name code constant ms → AreSpelled name code constant ns → AreSpelled name code constant (ms ++ ns)
+spelled_append name code constant [] ns first second = second
+spelled_append name code constant (m ∷ ms) ns (here, rest) second = (here, spelled_append name code constant ms ns rest second)
 
-units_spelled : (code : ℕ) (constant : ℤ) (term : HeadAndForest → List (UnitHead × Meaning)) (units : List HeadAndForest) → All (λ (unit : HeadAndForest). AreSpelled code constant (plain (term unit))) units → AreSpelled code constant (plain (flat_map term units))
-units_spelled code constant term [] all = tt
-units_spelled code constant term (unit ∷ units) all =
-    let rest = units_spelled code constant term units (All-tail (λ (x : HeadAndForest). AreSpelled code constant (plain (term x))) unit units all) in
-    let own = All-head (λ (x : HeadAndForest). AreSpelled code constant (plain (term x))) unit units all in
-    subst (λ (ms : List Meaning). AreSpelled code constant ms) (sym (plain_append (term unit) (flat_map term units))) (spelled_append code constant (plain (term unit)) (plain (flat_map term units)) own rest)
+units_spelled : (name code : ℕ) (constant : ℤ) (term : HeadAndForest → List (UnitHead × Meaning)) (units : List HeadAndForest) → All (λ (unit : HeadAndForest). AreSpelled name code constant (plain (term unit))) units → AreSpelled name code constant (plain (flat_map term units))
+units_spelled name code constant term [] all = tt
+units_spelled name code constant term (unit ∷ units) all =
+    let rest = units_spelled name code constant term units (All-tail (λ (x : HeadAndForest). AreSpelled name code constant (plain (term x))) unit units all) in
+    let own = All-head (λ (x : HeadAndForest). AreSpelled name code constant (plain (term x))) unit units all in
+    subst (λ (ms : List Meaning). AreSpelled name code constant ms) (sym (plain_append (term unit) (flat_map term units))) (spelled_append name code constant (plain (term unit)) (plain (flat_map term units)) own rest)
 
 module _ (units : List HeadAndForest) (table : NamedTable) (section table_of : List ℕ) (i : ℕ) (of : AreOfTable units table section table_of i) (number j : ℕ) (inside : j < (decl_at table.table.decls number).count) where
   abbrev old : Spec
   old = spec_at table.table.specs ((decl_at table.table.decls number).first + j)
 
-  unit_spelled : (u : ℕ) → u < length units → slice_index table_of u ≡ i → AreSpelled old.form old.constant (plain (with_head (unit_in units u) (values_with number j (unit_in units u))))
+  unit_spelled : (u : ℕ) → u < length units → slice_index table_of u ≡ i → AreSpelled old.name old.form old.constant (plain (with_head (unit_in units u) (values_with number j (unit_in units u))))
   unit_spelled u below is =
       let unit : HeadAndForest = unit_in units u in
       let each = All-from_get_or (λ (e : Entry). e.decl ≡ number → IsSpelled unit.forest.section old (value_at unit.forest.values (e.first + j))) unit.forest.entries (entry_at [] 0)
       (λ id known same. entry_spelled table.table unit of.stands (held_here units table section table_of i of u below is) id known number j inside same) in
-      subst (λ (ms : List Meaning). AreSpelled old.form old.constant ms) (sym (plain_of unit (values_with number j unit))) (entries_spelled unit.forest.section old unit.forest.values number j unit.forest.entries each)
+      subst (λ (ms : List Meaning). AreSpelled old.name old.form old.constant ms) (sym (plain_of unit (values_with number j unit))) (entries_spelled unit.forest.section old unit.forest.values number j unit.forest.entries each)
 
-  term_spelled : (u : ℕ) → u < length units → AreSpelled old.form old.constant (plain (term_of table.place number j (unit_in units u)))
+  term_spelled : (u : ℕ) → u < length units → AreSpelled old.name old.form old.constant (plain (term_of table.place number j (unit_in units u)))
   term_spelled u below =
       let unit : HeadAndForest = unit_in units u in
-      cond_both (eqb unit.head.table table.place) (with_head unit (values_with number j unit)) [] (λ (ms : List (UnitHead × Meaning)). AreSpelled old.form old.constant (plain ms))
+      cond_both (eqb unit.head.table table.place) (with_head unit (values_with number j unit)) [] (λ (ms : List (UnitHead × Meaning)). AreSpelled old.name old.form old.constant (plain ms))
       (λ named. elim (cases_eq (slice_index table_of u) i) [
         | inl is ↦ unit_spelled u below is
         | inr other ↦ absurd (of.apart u below other (eqb-true unit.head.table table.place named))
@@ -118,5 +118,5 @@ module _ (units : List HeadAndForest) (table : NamedTable) (section table_of : L
       (λ _. tt)
 
   -- the old form of a column spells the values of all its entries
-  pub values_spelled : AreSpelled (spec_at table.table.specs ((decl_at table.table.decls number).first + j)).form (spec_at table.table.specs ((decl_at table.table.decls number).first + j)).constant (plain (column_values units table.place number j))
-  values_spelled = units_spelled old.form old.constant (term_of table.place number j) units (All-from_get_or (λ (unit : HeadAndForest). AreSpelled old.form old.constant (plain (term_of table.place number j unit))) units (unit_in [] 0) term_spelled)
+  pub values_spelled : AreSpelled (spec_at table.table.specs ((decl_at table.table.decls number).first + j)).name (spec_at table.table.specs ((decl_at table.table.decls number).first + j)).form (spec_at table.table.specs ((decl_at table.table.decls number).first + j)).constant (plain (column_values units table.place number j))
+  values_spelled = units_spelled old.name old.form old.constant (term_of table.place number j) units (All-from_get_or (λ (unit : HeadAndForest). AreSpelled old.name old.form old.constant (plain (term_of table.place number j unit))) units (unit_in [] 0) term_spelled)

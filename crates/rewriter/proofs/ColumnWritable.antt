@@ -3,6 +3,7 @@ use Rattle.std.proofs.Common.{◌≡◌, ◌≤◌, ◌<◌, ◌+◌, ◌-◌, �
 use Rattle.std.specs.Prelude.{ℤ, FitsSigned}
 use Rattle.std.specs.Int.{w64}
 use Rattle.std.proofs.lemmas.Bool.{cases_eq, cases_lt}
+use Rattle.dw_base.specs.declared.classes.Classes.{Classes}
 use Rattle.form_codec.specs.declared.form.Form.{Form}
 use Rattle.form_codec.specs.declared.form.Form.TheVariants as form
 use Rattle.form_codec.specs.Forms.{Meaning, SpellsShape, code_of, shape_of}
@@ -15,15 +16,15 @@ use Rattle.abbrev_tables.specs.Written.{IsWritableColumn}
 use Rattle.column_forms.specs.Columns.{IsChosen}
 
 -- the constant of implicit_const fits where it is a value
-constant_shape : (f : Form) (c : ℤ) (m : Meaning) (bytes : List ℕ) → code_of f ≡ implicit_const → SpellsShape (shape_of f c) m bytes → FitsSigned w64 c
-constant_shape form.ImplicitConst c m bytes is p = p.1
-constant_shape f c m bytes is p = absurd (omega arith)
+constant_shape : (f : Form) (name : ℕ) (c : ℤ) (m : Meaning) (bytes : List ℕ) → code_of f ≡ implicit_const → SpellsShape (shape_of f name c) m bytes → FitsSigned w64 c
+constant_shape form.ImplicitConst name c m bytes is p = p.1
+constant_shape f name c m bytes is p = absurd (omega arith)
 
-constant_fits : (code : ℕ) (c : ℤ) (meanings : List Meaning) (n : ℕ) → code ≡ implicit_const → 0 < length meanings → EntriesWithin code c meanings n → FitsSigned w64 c
-constant_fits code c [] n is some within = absurd (omega arith)
-constant_fits code c (m ∷ ms) n is some (bytes, rest, s, more, sum) = constant_shape s.form c m bytes (s.known ∙ is) s.spelled
+constant_fits : (name code : ℕ) (c : ℤ) (meanings : List Meaning) (n : ℕ) → code ≡ implicit_const → 0 < length meanings → EntriesWithin name code c meanings n → FitsSigned w64 c
+constant_fits name code c [] n is some within = absurd (omega arith)
+constant_fits name code c (m ∷ ms) n is some (bytes, rest, s, more, sum) = constant_shape s.form name c m bytes (s.known ∙ is) s.spelled
 
-pub chosen_writable : (old new : Spec) (meanings : List Meaning) → IsWritableColumn old → 0 < length meanings → IsChosen old meanings new → IsWritableColumn new
+pub chosen_writable : {classes : Classes} → (old new : Spec) (meanings : List Meaning) → IsWritableColumn old → 0 < length meanings → IsChosen classes old meanings new → IsWritableColumn new
 chosen_writable old new meanings writable some chosen =
     let within = chosen.least.least.enough in
     record {
@@ -31,7 +32,7 @@ chosen_writable old new meanings writable some chosen =
       narrow = subst (λ (n : ℕ). n < 2 ^ 32) (sym chosen.least.name) writable.narrow;
       known = (within.choice.0, within.choice.1);
       constant = elim (cases_eq new.form implicit_const) [
-        | inl is ↦ inl (is, constant_fits new.form new.constant meanings within.entries is some within.within)
+        | inl is ↦ inl (is, constant_fits old.name new.form new.constant meanings within.entries is some within.within)
         | inr other ↦ inr (other, chosen.least.unused other)
       ];
     }

@@ -4,6 +4,7 @@ use Rattle.std.specs.List.{All}
 use Rattle.std.proofs.lemmas.Bool.{cases_eq}
 use Rattle.std.proofs.lemmas.List.{length-map, nil_from_length}
 use Rattle.std.proofs.lemmas.List.Elements.{All-get_or, All-from_get_or}
+use Rattle.dw_base.specs.declared.classes.Classes.{Classes}
 use Rattle.form_codec.specs.declared.value.Value.{Value}
 use Rattle.form_codec.specs.Forms.{Meaning}
 use Rattle.form_codec.specs.Values.{meant_in}
@@ -28,7 +29,7 @@ use Rattle.rewriter.proofs.ColumnWritable.{chosen_writable, HasOwner, owner}
 use Rattle.rewriter.proofs.InsideForms.{chosen_inside, kept_inside}
 use Rattle.rewriter.proofs.Writables.{table_writable}
 
-module _ (units : List HeadAndForest) (table : NamedTable) (section table_of : List ℕ) (i : ℕ) (of : AreOfTable units table section table_of i) (columns : List Spec) (chosen : AreBestInside section units table.table.decls (units_with table_of i (length units)) table.table.specs columns) where
+module _ {classes : Classes} (units : List HeadAndForest) (table : NamedTable) (section table_of : List ℕ) (i : ℕ) (of : AreOfTable units table section table_of i) (columns : List Spec) (chosen : AreBestInside classes section units table.table.decls (units_with table_of i (length units)) table.table.specs columns) where
   abbrev named : List ℕ
   named = units_with table_of i (length units)
 
@@ -55,7 +56,7 @@ module _ (units : List HeadAndForest) (table : NamedTable) (section table_of : L
     place_inside : place < length table.table.specs
     place_inside = omega (arith, columns_inside table.table number of.stands known, inside)
 
-    best_here : IsBestFor section gathered old best
+    best_here : IsBestFor classes section gathered old best
     best_here = chosen.are.each place place_inside
 
     meanings_are : map (meant_in section) gathered ≡ plain values
@@ -73,19 +74,19 @@ module _ (units : List HeadAndForest) (table : NamedTable) (section table_of : L
         let below : place < length chosen.best = omega (arith, place_inside, chosen.are.count) in
         chosen.inside.each place below ∙ ap (λ (vs : List (UnitHead × Meaning)). column_inside vs best) (means units table section table_of i of number j known inside)
 
-    chosen_here : uses_of units table.place number ≢ 0 → IsChosen old (column_meanings units table.place number j) (spec_at columns place)
+    chosen_here : uses_of units table.place number ≢ 0 → IsChosen classes old (column_meanings units table.place number j) (spec_at columns place)
     chosen_here used =
         let some : length values ≢ 0 = λ none. used (sym often ∙ none) in
-        let spelled : AreSpelled old.form old.constant (map (meant_in section) gathered) = subst (λ (ms : List Meaning). AreSpelled old.form old.constant ms) (sym meanings_are) (values_spelled units table section table_of i of number j inside) in
-        let plainly : IsChosen old (plain values) best = subst (λ (ms : List Meaning). IsChosen old ms best) meanings_are (best_here.chosen (λ none. some (sym as_many ∙ ap length none)) spelled) in
-        subst (λ (c : Spec). IsChosen old (column_meanings units table.place number j) c) (sym new_here) (chosen_inside old best values (λ none. some (ap length none)) plainly)
+        let spelled : AreSpelled old.name old.form old.constant (map (meant_in section) gathered) = subst (λ (ms : List Meaning). AreSpelled old.name old.form old.constant ms) (sym meanings_are) (values_spelled units table section table_of i of number j inside) in
+        let plainly : IsChosen classes old (plain values) best = subst (λ (ms : List Meaning). IsChosen classes old ms best) meanings_are (best_here.chosen (λ none. some (sym as_many ∙ ap length none)) spelled) in
+        subst (λ (c : Spec). IsChosen classes old (column_meanings units table.place number j) c) (sym new_here) (chosen_inside old best values (λ none. some (ap length none)) plainly)
 
     kept_here : uses_of units table.place number ≡ 0 → spec_at columns place ≡ old
     kept_here unused =
         let none : length values ≡ 0 = often ∙ unused in
         new_here ∙ kept_inside values best (nil_from_length values none) ∙ best_here.unused (nil_from_length gathered (as_many ∙ none))
 
-  pub columns_chosen : AreColumnsChosen units table columns
+  pub columns_chosen : AreColumnsChosen classes units table columns
   columns_chosen = record {
     count = chosen.inside.count ∙ chosen.are.count;
     each = λ number j known some inside. chosen_here number j known inside some;
@@ -93,7 +94,7 @@ module _ (units : List HeadAndForest) (table : NamedTable) (section table_of : L
   }
 
 -- columns in their least forms can be written
-module _ (units : List HeadAndForest) (table : NamedTable) (stands : IsTable table.table) (columns : List Spec) (chosen : AreColumnsChosen units table columns) where
+module _ {classes : Classes} (units : List HeadAndForest) (table : NamedTable) (stands : IsTable table.table) (columns : List Spec) (chosen : AreColumnsChosen classes units table columns) where
   writable_here : (number j : ℕ) → number < length table.table.decls → j < (decl_at table.table.decls number).count → IsWritableColumn (spec_at table.table.specs ((decl_at table.table.decls number).first + j)) → IsWritableColumn (spec_at columns ((decl_at table.table.decls number).first + j))
   writable_here number j known inside writable =
       let place : ℕ = (decl_at table.table.decls number).first + j in

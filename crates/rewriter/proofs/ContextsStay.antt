@@ -2,6 +2,7 @@
 use Rattle.std.proofs.Common.{◌≡◌, ◌<◌, ◌∙◌, Bool, true, false, ℕ, suc, List, [], ◌∷◌, length, map, get_or, sym, ap, subst, refl, arith}
 use Rattle.std.specs.Prelude.{Option, Some, None, nat_eq, filter, if◌then◌else◌}
 use Rattle.std.specs.List.{AllZip}
+use Rattle.dw_base.specs.declared.classes.Classes.{Classes}
 use Rattle.form_codec.specs.Forms.{Meaning}
 use Rattle.form_codec.specs.Forms.Meaning.{Address, AddressNumber}
 use Rattle.elf_sections.specs.Names.{name_of, is_written}
@@ -96,7 +97,7 @@ zip_as P (a ∷ olds) [] ys d size each zip = absurd (omega arith)
 zip_as P (a ∷ olds) (b ∷ news) [] d size each zip = absurd zip
 zip_as P (a ∷ olds) (b ∷ news) (y ∷ ys) d size each (first, zip) = (each 0 y (omega arith) first, zip_as P olds news ys d (omega arith) (λ k z inside. each (suc k) z (omega arith)) zip)
 
-module _ {file : List ℕ} {world : World} {tables : List NewTable} {places : List Places} {new_places : NewPlaces} {info abbrevs : List ℕ} {r s : Reading} (all : AreReadAnew file world tables places new_places info abbrevs r s) where
+module _ {classes : Classes} {file : List ℕ} {world : World} {tables : List NewTable} {places : List Places} {new_places : NewPlaces} {info abbrevs : List ℕ} {r s : Reading} (all : AreReadAnew classes file world tables places new_places info abbrevs r s) where
   abbrev HasContext : UnitRead → Context → Type 0
   HasContext unit context = IsContext r.links.addresses (root_of unit).attributes context
 

@@ -1,13 +1,14 @@
 -- A file that has its new sections is read, means what the old one means, is valid, has the codes, the forms of columns and the
 -- references within units that take the least bytes, and holds nothing else. Its certificate shows why its parts are least.
-use Rattle.std.proofs.Common.{◌≡◌, ◌≤◌, ◌<◌, ◌+◌, ◌^◌, ◌∙◌, ℕ, List, [], length, sym, ap, subst, arith}
+use Rattle.std.proofs.Common.{◌≡◌, ◌≤◌, ◌<◌, ◌+◌, ◌^◌, ◌∙◌, ℕ, List, [], length, true, false, sym, ap, subst, arith}
 use Rattle.std.specs.Prelude.{map, slice_index}
+use Rattle.dw_base.specs.declared.classes.Classes.{Classes}
 use Rattle.dw_base.specs.declared.fault.Reach.TheVariants.{Narrow, Wide}
 use Rattle.abbrev_tables.specs.LeastColumns.{IsLeastColumn, IsFirstColumn}
 use Rattle.line_sums.specs.Accepted.{AreLeastRuns}
 use Rattle.line_write.specs.Least.{LeastLines, OrderedLines}
 use Rattle.line_write.specs.Meaning.{HaveMeanings}
-use Rattle.line_write.specs.Records.{HaveRuns}
+use Rattle.written_files.specs.Kept.{HaveRunsIn}
 use Rattle.companions.specs.declared.set.ArangeSet.{ArangeSet}
 use Rattle.companions.specs.Aranges.{SetsTile}
 use Rattle.list_model.specs.declared.entry.ListKind.{ListKind}
@@ -33,7 +34,7 @@ use Rattle.rewriter.specs.inside.Anew.{new_lists, AreAnew}
 use Rattle.rewriter.specs.inside.Follows.{AreReadAnew}
 use Rattle.written_files.specs.Tidy.{AreTidy, IsTidy}
 use Rattle.rewriter.specs.inside.Rewritten.{IsRewritten}
-use Rattle.rewriter.proofs.Certified.{have_accepted_runs, record_file}
+use Rattle.rewriter.proofs.Certified.{accepted_runs_in, record_file}
 use Rattle.rewriter.proofs.Codes.{least_codes, ordered_codes}
 use Rattle.rewriter.proofs.ContextsStay.{contexts_stay, addresses_stay}
 use Rattle.rewriter.proofs.Following.{links_follow}
@@ -69,8 +70,8 @@ module _ (file written : List ℕ) (new : NewSections) (has : HasSections file n
   aranges_are : debug_aranges written ≡ new.aranges.items
   aranges_are = has.sections 5 none (omega arith)
 
-module _ (file written : List ℕ) (world : World) (r s : Reading) (new : NewSections) (certificate : List ℕ) (read : IsReading file r) (holds : Holds file world r) (anew : AreAnew file world r s new certificate) (has : HasSections file new written) where
-  all_anew : AreReadAnew file world anew.tables anew.places anew.new_places new.info.items new.abbrevs.items r s
+module _ {classes : Classes} (file written : List ℕ) (world : World) (r s : Reading) (new : NewSections) (certificate : List ℕ) (read : IsReading file r) (holds : Holds file world r) (anew : AreAnew classes file world r s new certificate) (has : HasSections file new written) where
+  all_anew : AreReadAnew classes file world anew.tables anew.places anew.new_places new.info.items new.abbrevs.items r s
   all_anew = record {
     read = read;
     holds = holds;
@@ -111,7 +112,7 @@ module _ (file written : List ℕ) (world : World) (r s : Reading) (new : NewSec
   pub means_anew : (debug : Debug) → MeansDebug file r debug → MeansDebug written s debug
   means_anew debug means = record {
     programs = subst (λ (z : List ℕ). HaveMeanings z (line_heads s.links.programs) debug.programs) (sym (lines_are file written new has)) (anew.programs.means debug.programs means.programs);
-    units = links_follow file world anew.tables anew.places anew.new_places new.info.items new.abbrevs.items r s debug.units all_anew means.units;
+    units = links_follow classes file world anew.tables anew.places anew.new_places new.info.items new.abbrevs.items r s debug.units all_anew means.units;
     lists = λ kind. parts_follow all_anew kind (parts_of debug kind) (means.lists kind);
     aranges = means.aranges ∙ ap (λ (z : List ArangeSet). map set_meaning z) (sym anew.sets.same);
   }
@@ -138,7 +139,7 @@ module _ (file written : List ℕ) (world : World) (r s : Reading) (new : NewSec
   -- and it is valid
   pub valid_anew : MeaningFilesAreValid → (debug : Debug) → MeansDebug file r debug → entry_total r.range_lists + entry_total r.location_lists ≤ 2 ^ 24 → list_total expression_bytes r.range_lists + list_total expression_bytes r.location_lists ≤ 2 ^ 27 → pair_total r.views ≤ view_limit → IsValid written Wide
   valid_anew law debug means few short few_views =
-      law written Wide s debug units_in_order reads_anew (means_anew debug means) (expressions_are_wide file world anew.tables anew.places anew.new_places new.info.items new.abbrevs.items r s all_anew) (lists_within all_anew few short few_views)
+      law written Wide s debug units_in_order reads_anew (means_anew debug means) (expressions_are_wide classes file world anew.tables anew.places anew.new_places new.info.items new.abbrevs.items r s all_anew) (lists_within all_anew few short few_views)
 
   -- both are read, so that what holds of what is read of them holds of both
   of_both : (Holds : Linkable → Linkable → Type 0) → Holds r.links s.links → OfBoth Holds file written
@@ -151,18 +152,18 @@ module _ (file written : List ℕ) (world : World) (r s : Reading) (new : NewSec
   pub codes_in_order : HaveOrderedCodes file written
   codes_in_order = of_both (λ a b. (u : ℕ) → u < length a.units → HasOrderedCodes a b u) (ordered_codes all_anew)
 
-  pub columns_anew : HaveLeastColumns file written
-  columns_anew = of_both (HaveColumns IsLeastColumn) (least_columns all_anew)
+  pub columns_anew : HaveLeastColumns classes file written
+  columns_anew = of_both (HaveColumns (IsLeastColumn classes)) (least_columns all_anew)
 
-  pub columns_in_order : HaveFirstColumns file written
-  columns_in_order = of_both (HaveColumns IsFirstColumn) (first_columns all_anew)
+  pub columns_in_order : HaveFirstColumns classes file written
+  columns_in_order = of_both (HaveColumns (IsFirstColumn classes)) (first_columns all_anew)
 
   -- the references within each unit are in the least sizes
   pub layouts_anew : HaveLeastLayouts file written
   layouts_anew = (r, s, read, reads_anew, least_layouts all_anew anew.placed)
 
   -- each list is in the shortest bytes of its class
-  pub lists_anew : HaveLeastLists file written
+  pub lists_anew : HaveLeastLists classes file written
   lists_anew =
       (r, s, read, reads_anew, λ kind k inside. (let list = (anew.lists kind).each k inside in record { bytes = list.bytes; rest = list.rest; stands = list.stands; bare = list.bare; without = list.without; least = list.least }))
 
@@ -173,13 +174,13 @@ module _ (file written : List ℕ) (world : World) (r s : Reading) (new : NewSec
       (r, s, read, reads_anew, subst (λ (z : List ℕ). AreTidy z r s) (sym (abbrevs_are file written new has)) tidy)
 
   -- the runs of the new programs are those of the file
-  runs_anew : HaveRuns AreLeastRuns (debug_line written) anew.recorded.runs
-  runs_anew = subst (λ (z : List ℕ). HaveRuns AreLeastRuns z anew.recorded.runs) (sym (lines_are file written new has)) anew.recorded.has_runs
+  runs_anew : HaveRunsIn classes AreLeastRuns (debug_line written) anew.recorded.runs
+  runs_anew = subst (λ (z : List ℕ). HaveRunsIn classes AreLeastRuns z anew.recorded.runs) (sym (lines_are file written new has)) anew.recorded.has_runs
 
   -- each record of the certificate is accepted
-  pub certified_anew : IsCertificate written certificate
+  pub certified_anew : IsCertificate classes written certificate
   certified_anew =
-      let of_lines = have_accepted_runs (debug_line written) anew.recorded.runs runs_anew in
+      let of_lines = accepted_runs_in classes (debug_line written) anew.recorded.runs runs_anew in
       let of_ranges = potentials_accepted all_anew Ranges anew.recorded.ranges anew.recorded.has_ranges in
       let of_locations = potentials_accepted all_anew Locations anew.recorded.locations anew.recorded.has_locations in
       let of_units = ranks_there all_anew anew.recorded.units anew.recorded.has_ranks in
@@ -187,7 +188,7 @@ module _ (file written : List ℕ) (world : World) (r s : Reading) (new : NewSec
       (s, all.0, reads_anew, all.1, all.2)
 
   -- and is the first of those that are
-  pub first_anew : IsFirstCertificate written certificate
+  pub first_anew : IsFirstCertificate classes written certificate
   first_anew =
       let of_ranges = potentials_greatest all_anew Ranges anew.recorded.ranges anew.recorded.has_ranges in
       let of_locations = potentials_greatest all_anew Locations anew.recorded.locations anew.recorded.has_locations in
@@ -196,15 +197,18 @@ module _ (file written : List ℕ) (world : World) (r s : Reading) (new : NewSec
       (s, all.0, reads_anew, all.1, all.2)
 
 -- the sections of a valid file are written anew, and the file is assembled of them
-pub rewritten : (file image : List ℕ) (world : World) (new : NewSections) (written certificate : List ℕ) → MeaningFilesAreValid → (known : IsWorldOf file Narrow world) → entry_total known.r.range_lists + entry_total known.r.location_lists ≤ 2 ^ 24 → list_total expression_bytes known.r.range_lists + list_total expression_bytes known.r.location_lists ≤ 2 ^ 27 → image ≡ file → ((r : Reading) → IsReading file r → Holds file world r → (s : Reading) × AreAnew file world r s new certificate) → LeastLines (debug_line file) new.lines.items → OrderedLines (debug_line file) new.lines.items → HasSections image new written → IsRewritten file written certificate
-rewritten file image world new written certificate law known few short is anew least order has_image =
+pub rewritten : {classes : Classes} → (file image : List ℕ) (world : World) (new : NewSections) (written certificate : List ℕ) → MeaningFilesAreValid → (known : IsWorldOf file Narrow world) → entry_total known.r.range_lists + entry_total known.r.location_lists ≤ 2 ^ 24 → list_total expression_bytes known.r.range_lists + list_total expression_bytes known.r.location_lists ≤ 2 ^ 27 → image ≡ file → ((r : Reading) → IsReading file r → Holds file world r → (s : Reading) × AreAnew classes file world r s new certificate) → (classes.lines ≡ true → LeastLines (debug_line file) new.lines.items) → (classes.lines ≡ true → OrderedLines (debug_line file) new.lines.items) → (classes.lines ≡ false → new.lines.items ≡ debug_line file) → HasSections image new written → IsRewritten classes file written certificate
+rewritten file image world new written certificate law known few short is anew least order kept has_image =
     let (s, all) = anew known.r known.read known.holds in
     let has : HasSections file new written = subst (λ (z : List ℕ). HasSections z new written) is has_image in
     record {
       same = same_anew file written world known.r s new certificate known.read known.holds all has known.debug known.means;
       still_valid = valid_anew file written world known.r s new certificate known.read known.holds all has law known.debug known.means few short known.few_views;
-      least = subst (λ (z : List ℕ). LeastLines (debug_line file) z) (sym (lines_are file written new has)) least;
-      order = subst (λ (z : List ℕ). OrderedLines (debug_line file) z) (sym (lines_are file written new has)) order;
+      least = record {
+        least = λ lines. subst (λ (z : List ℕ). LeastLines (debug_line file) z) (sym (lines_are file written new has)) (least lines);
+        kept = λ lines. lines_are file written new has ∙ kept lines;
+      };
+      order = λ lines. subst (λ (z : List ℕ). OrderedLines (debug_line file) z) (sym (lines_are file written new has)) (order lines);
       lists = lists_anew file written world known.r s new certificate known.read known.holds all has;
       tidy = tidy_anew file written world known.r s new certificate known.read known.holds all has;
       columns = columns_anew file written world known.r s new certificate known.read known.holds all has;

@@ -2,6 +2,7 @@
 use Rattle.std.proofs.Common.{◌≡◌, ◌≤◌, ◌<◌, ◌+◌, ◌++◌, ℕ, List, [], ◌∷◌, length, take, drop, slice_index, get_or, ◌∙◌, sym, ap, subst, arith}
 use Rattle.std.proofs.lemmas.List.{get_or_read, get_or-map, get_or-take, get_or-drop, length-append, length-drop, length-take-le}
 use Rattle.std.proofs.Math.Seq.{get_or-append_seam}
+use Rattle.dw_base.specs.declared.classes.Classes.{Classes}
 use Rattle.dw_base.specs.declared.fault.Reach.{Reach}
 use Rattle.form_codec.specs.declared.value.Value.{Value}
 use Rattle.form_codec.specs.declared.value.Value.TheVariants as value
@@ -139,7 +140,7 @@ new_table_is world tables u table_of i table has same is there =
     let at : i ≡ slice_index world.table_of u = get_or_read world.table_of u i has.numbered (subst (λ (z : List ℕ). i ≡ get_or z u i) same is) 0 in
     ap table_anew (subst (λ (j : ℕ). table ≡ get_or tables j table) at there) ∙ sym (get_or-map table_anew tables (slice_index world.table_of u) table (record { at = 0; columns = []; numbers = [] }) has.new)
 
-pub has_anew : (world : World) (section : List ℕ) (tables : List NewTable) (u : ℕ) → ((reach : Reach) × IsWorldOf world.image reach world) → AreTablesWritten world section tables → u < length world.units → HasTable world tables u
+pub has_anew : {classes : Classes} → (world : World) (section : List ℕ) (tables : List NewTable) (u : ℕ) → ((reach : Reach) × IsWorldOf world.image reach world) → AreTablesWritten classes world section tables → u < length world.units → HasTable world tables u
 has_anew world section tables u (reach, is) written known =
     let size : length world.units ≡ length is.r.links.units = held_count world.image world is.r is.holds in
     let count : length tables ≡ length world.tables = written.count in

@@ -3,6 +3,7 @@ use Rattle.std.proofs.Common.{◌≡◌, ◌<◌, ◌+◌, ◌∙◌, ℕ, List,
 use Rattle.std.specs.Prelude.{Option, Some, None, false, slice_index}
 use Rattle.std.specs.List.{AllZip}
 use Rattle.std.proofs.lemmas.List.{get_or-map, length-map}
+use Rattle.dw_base.specs.declared.classes.Classes.{Classes}
 use Rattle.form_codec.specs.Forms.{Meaning}
 use Rattle.entry_arena.specs.declared.entry.Entry.{Entry}
 use Rattle.entry_arena.specs.Arena.{IsEntryAt}
@@ -30,7 +31,7 @@ use Rattle.rewriter.proofs.TakenLaws.{links_taken}
 abbrev no_entry : Entry
 no_entry = record { at = 0; len = 0; depth = 0; decl = 0; first = 0; count = 0 }
 
-module _ {file : List ℕ} {world : World} {tables : List NewTable} {places : List Places} {new_places : NewPlaces} {info abbrevs : List ℕ} {r s : Reading} (all : AreReadAnew file world tables places new_places info abbrevs r s) where
+module _ {classes : Classes} {file : List ℕ} {world : World} {tables : List NewTable} {places : List Places} {new_places : NewPlaces} {info abbrevs : List ℕ} {r s : Reading} (all : AreReadAnew classes file world tables places new_places info abbrevs r s) where
   -- ENTRIES
 
   -- the attributes of an entry mean what they meant
@@ -106,4 +107,4 @@ module _ {file : List ℕ} {world : World} {tables : List NewTable} {places : Li
   }
 
 pub links_follow : LinksFollow
-links_follow file world tables places new_places info abbrevs r s units all means = units_mean all units means
+links_follow classes file world tables places new_places info abbrevs r s units all means = units_mean all units means

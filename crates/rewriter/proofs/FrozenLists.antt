@@ -2,6 +2,7 @@
 use Rattle.std.proofs.Common.{◌≡◌, ◌≢◌, ◌<◌, ◌+◌, ◌∙◌, ◌⊎◌, inl, inr, true, false, ℕ, suc, List, [], ◌∷◌, length, get_or, sym, ap, subst, refl}
 use Rattle.std.specs.Prelude.{Bool, Option, Some, None, not, filter, if◌then◌else◌}
 use Rattle.std.proofs.lemmas.Bool.{cases_eq}
+use Rattle.dw_base.specs.declared.classes.Classes.{Classes}
 use Rattle.list_model.specs.declared.context.Context.{Context}
 use Rattle.list_model.specs.declared.tables.AddrTable.{AddrTable}
 use Rattle.list_model.specs.declared.entry.EntryKind.{EntryKind}
@@ -118,7 +119,7 @@ list_said Ranges section part at raws read =
     (entries, said)
 list_said Locations section part at raws read = locations_said at raws read.entries read.front read.read
 
-module _ {file : List ℕ} {world : World} {tables : List NewTable} {places : List Places} {new_places : NewPlaces} {info abbrevs : List ℕ} {r s : Reading} (all : AreReadAnew file world tables places new_places info abbrevs r s) (kind : ListKind) where
+module _ {classes : Classes} {file : List ℕ} {world : World} {tables : List NewTable} {places : List Places} {new_places : NewPlaces} {info abbrevs : List ℕ} {r s : Reading} (all : AreReadAnew classes file world tables places new_places info abbrevs r s) (kind : ListKind) where
   abbrev pub old_list : ℕ → ListRead
   old_list k = list_at (lists_of r kind) k
 
@@ -133,7 +134,7 @@ module _ {file : List ℕ} {world : World} {tables : List NewTable} {places : Li
       let holds : HoldsList r.links kind (old_list k) (get_or (lists_held world kind) k some) = (all.holds.lists kind).each k some inside in
       record { owner = (get_or (lists_held world kind) k some).owner; owned = holds.owner; frozen = decided r.links kind (old_list k) (get_or (lists_held world kind) k some).owner (get_or (lists_held world kind) k some).meaning holds.meaning }
 
-  pub anew : (k : ℕ) → k < length (lists_of r kind) → IsListAnew r places kind (of_kind s.links kind) (old_list k) (new_list k)
+  pub anew : (k : ℕ) → k < length (lists_of r kind) → IsListAnew classes r places kind (of_kind s.links kind) (old_list k) (new_list k)
   anew k inside = (all.lists kind).each k inside
 
   pub old_said : (k : ℕ) → k < length (lists_of r kind) → (entries : List Entry) × AreSaid kind (old_list k).raws entries
@@ -152,7 +153,7 @@ module _ {file : List ℕ} {world : World} {tables : List NewTable} {places : Li
 
   -- the entries of a frozen list are its own
   pub frozen_entries : (k : ℕ) (inside : k < length (lists_of r kind)) (old : List Entry) → AreSaid kind (old_list k).raws old → IsFrozen r.links kind (old_list k) → (anew k inside).entries ≡ old
-  frozen_entries k inside old said kept = ((anew k inside).same old said).frozen kept
+  frozen_entries k inside old said kept = ((anew k inside).same old said).kept (inr kept)
 
   pub frozen_stays : (k : ℕ) → k < length (lists_of r kind) → IsFrozen r.links kind (old_list k) → IsFrozen s.links kind (new_list k)
   frozen_stays k inside (old, said, why) =

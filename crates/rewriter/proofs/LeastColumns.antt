@@ -1,6 +1,7 @@
 -- Each column of an entry's declaration is in its least form in a file that is written anew, and in the first of these.
 use Rattle.std.proofs.Common.{◌≡◌, ◌≢◌, ◌≤◌, ◌<◌, ◌+◌, ◌-◌, ◌∙◌, ℕ, List, length, sym, ap, subst, arith}
 use Rattle.std.specs.Prelude.{map, slice_index}
+use Rattle.dw_base.specs.declared.classes.Classes.{Classes}
 use Rattle.abbrev_tables.specs.declared.decl.Decl.{Decl}
 use Rattle.abbrev_tables.specs.declared.decl.Spec.{Spec}
 use Rattle.abbrev_tables.specs.Tables.{Declared}
@@ -26,7 +27,7 @@ use Rattle.rewriter.proofs.UsedDeclarations.{table_written, decl_known, decl_has
 use Rattle.rewriter.proofs.ColumnLaws.{column_here, columns_count}
 use Rattle.rewriter.proofs.MovedEntries.{moved, entry_moved}
 
-module _ {file : List ℕ} {world : World} {tables : List NewTable} {places : List Places} {new_places : NewPlaces} {info abbrevs : List ℕ} {r s : Reading} (all : AreReadAnew file world tables places new_places info abbrevs r s) where
+module _ {classes : Classes} {file : List ℕ} {world : World} {tables : List NewTable} {places : List Places} {new_places : NewPlaces} {info abbrevs : List ℕ} {r s : Reading} (all : AreReadAnew classes file world tables places new_places info abbrevs r s) where
   abbrev new_table : ℕ → TableAnew
   new_table u = new_table_at tables (slice_index world.table_of u)
 
@@ -54,7 +55,7 @@ module _ {file : List ℕ} {world : World} {tables : List NewTable} {places : Li
       ap (λ (z : Declared). z.columns) (declared_is (unit_at r.links u).table (entry_of (unit_at r.links u) id).decl declared)
 
   -- since an entry has it, each of its columns is in the least form
-  chosen_column : (u id j : ℕ) → u < length r.links.units → id < length (unit_at r.links u).forest.entries → j < (decl_of u id).count → IsChosen (spec_at (unit_at r.links u).table.specs ((decl_of u id).first + j)) (column_meanings (map head_and_forest r.links.units) (unit_at r.links u).head.table (entry_of (unit_at r.links u) id).decl j) (spec_at (new_table u).columns ((decl_of u id).first + j))
+  chosen_column : (u id j : ℕ) → u < length r.links.units → id < length (unit_at r.links u).forest.entries → j < (decl_of u id).count → IsChosen classes (spec_at (unit_at r.links u).table.specs ((decl_of u id).first + j)) (column_meanings (map head_and_forest r.links.units) (unit_at r.links u).head.table (entry_of (unit_at r.links u) id).decl j) (spec_at (new_table u).columns ((decl_of u id).first + j))
   chosen_column u id j inside known below =
       let decl : ℕ = (entry_of (unit_at r.links u) id).decl in
       let old : Spec = spec_at (unit_at r.links u).table.specs ((decl_of u id).first + j) in
@@ -63,10 +64,10 @@ module _ {file : List ℕ} {world : World} {tables : List NewTable} {places : Li
       let declared : decl < length (unit_at r.links u).table.decls = decl_known all.read all.holds all.tables_written u id inside known in
       let uses = decl_has_uses all.read all.holds all.tables_written u id inside known in
       let used : uses_of world.units (unit_at r.links u).head.table decl ≢ 0 = λ none. omega (arith, uses, none) in
-      subst (λ (z : List HeadAndForest). IsChosen old (column_meanings z (unit_at r.links u).head.table decl j) new) all.holds.units (w.columns.each decl j declared used below)
+      subst (λ (z : List HeadAndForest). IsChosen classes old (column_meanings z (unit_at r.links u).head.table decl j) new) all.holds.units (w.columns.each decl j declared used below)
 
   -- so the new declaration of each entry has its columns in the first of their least forms
-  chosen_columns : (u id : ℕ) → u < length r.links.units → id < length (unit_at r.links u).forest.entries → HasColumns IsChosen r.links s.links u id
+  chosen_columns : (u id : ℕ) → u < length r.links.units → id < length (unit_at r.links u).forest.entries → HasColumns (IsChosen classes) r.links s.links u id
   chosen_columns u id inside known =
       let decl : ℕ = (entry_of (unit_at r.links u) id).decl in
       let specs : List Spec = (unit_at r.links u).table.specs in
@@ -86,16 +87,16 @@ module _ {file : List ℕ} {world : World} {tables : List NewTable} {places : Li
             let old_is : spec_at (declaration_of (unit_at r.links u) id).columns j ≡ spec_at specs (d.first + j) = ap (λ (z : List Spec). spec_at z j) old ∙ was.0 in
             let new_is : spec_at (declaration_of (unit_at s.links u) id).columns j ≡ spec_at columns (d.first + j) = ap (λ (z : List Spec). spec_at z j) new ∙ is.0 in
             let chosen = chosen_column u id j inside known was.1 in
-            let by_old = subst (λ (z : Spec). IsChosen z meanings (spec_at columns (d.first + j))) (sym old_is) chosen in
-            subst (λ (z : Spec). IsChosen (spec_at (declaration_of (unit_at r.links u) id).columns j) meanings z) (sym new_is) by_old;
+            let by_old = subst (λ (z : Spec). IsChosen classes z meanings (spec_at columns (d.first + j))) (sym old_is) chosen in
+            subst (λ (z : Spec). IsChosen classes (spec_at (declaration_of (unit_at r.links u) id).columns j) meanings z) (sym new_is) by_old;
       }
 
-  pub least_columns : HaveColumns IsLeastColumn r.links s.links
+  pub least_columns : HaveColumns (IsLeastColumn classes) r.links s.links
   least_columns u id inside known =
       let chosen = chosen_columns u id inside known in
       record { count = chosen.count; each = λ j below. (chosen.each j below).least }
 
-  pub first_columns : HaveColumns IsFirstColumn r.links s.links
+  pub first_columns : HaveColumns (IsFirstColumn classes) r.links s.links
   first_columns u id inside known =
       let chosen = chosen_columns u id inside known in
       record { count = chosen.count; each = λ j below. (chosen.each j below).first }

@@ -4,6 +4,7 @@ use Rattle.std.proofs.Common.{◌≡◌, ◌≤◌, ◌<◌, ◌+◌, ◌++◌, 
 use Rattle.std.specs.Prelude.{map, flat_map, slice_index}
 use Rattle.std.specs.List.{AllZip}
 use Rattle.std.proofs.lemmas.List.Elements.{AllZip-get_or, length_all_zip}
+use Rattle.dw_base.specs.declared.classes.Classes.{Classes}
 use Rattle.dw_base.specs.declared.fault.Reach.TheVariants.{Wide}
 use Rattle.dw_base.specs.declared.fault.Span.{Span}
 use Rattle.leb_codec.specs.Layout.{SlotRow, uleb, row_at, IsLeastLayout, AcceptsLayout}
@@ -216,7 +217,7 @@ module _ (s : Reading) (u : ℕ) (read unit : HeadAndForest) (table : Listing) (
 
 -- ALL UNITS
 
-module _ {file : List ℕ} {world : World} {tables : List NewTable} {places : List Places} {new_places : NewPlaces} {info abbrevs : List ℕ} {r s : Reading} (all : AreReadAnew file world tables places new_places info abbrevs r s) where
+module _ {classes : Classes} {file : List ℕ} {world : World} {tables : List NewTable} {places : List Places} {new_places : NewPlaces} {info abbrevs : List ℕ} {r s : Reading} (all : AreReadAnew classes file world tables places new_places info abbrevs r s) where
   unit_ranked : (u : ℕ) → u < length r.links.units → (p : IsPlacedBy world tables u (places_at places u)) → IsRanked s u p.ranks
   unit_ranked u inside p =
       let old : HeadAndForest = head_and_forest (unit_at r.links u) in

@@ -4,6 +4,7 @@ use Rattle.std.proofs.Common.{◌≡◌, ◌<◌, inl, inr, ℕ, List, length, s
 use Rattle.std.specs.Prelude.{Option, Some, None}
 use Rattle.std.specs.List.{AllZip}
 use Rattle.std.proofs.lemmas.Bool.{cases_lt}
+use Rattle.dw_base.specs.declared.classes.Classes.{Classes}
 use Rattle.dw_base.specs.declared.fault.Reach.TheVariants.{Wide}
 use Rattle.expr_ops.specs.Ops.{all_meant}
 use Rattle.expr_ops.specs.Drafts.{with_refs}
@@ -61,7 +62,7 @@ shortly r places u bytes made is = (refs_among is.ops is.numbers, is.ops, is.spe
 abbrev LinksSome : Linkable → ℕ → List ℕ → Type 0
 LinksSome r u bytes = (linked : List LinkedOperation) × LinksExpression r u bytes linked
 
-module _ {file : List ℕ} {world : World} {tables : List NewTable} {places : List Places} {new_places : NewPlaces} {info abbrevs : List ℕ} {r s : Reading} (all : AreReadAnew file world tables places new_places info abbrevs r s) (kind : ListKind) where
+module _ {classes : Classes} {file : List ℕ} {world : World} {tables : List NewTable} {places : List Places} {new_places : NewPlaces} {info abbrevs : List ℕ} {r s : Reading} (all : AreReadAnew classes file world tables places new_places info abbrevs r s) (kind : ListKind) where
   -- the expressions of a list, and those that are written anew for it
   abbrev olds : ℕ → List (List ℕ)
   olds k = expressions_at r.links kind (old_list all kind k)

@@ -4,6 +4,7 @@ use Rattle.std.specs.Prelude.{Option, Some, None, slice_index}
 use Rattle.std.specs.List.{AllZip, Contains}
 use Rattle.std.proofs.lemmas.List.{get_or_default}
 use Rattle.std.proofs.lemmas.List.Elements.{Contains-get_or}
+use Rattle.dw_base.specs.declared.classes.Classes.{Classes}
 use Rattle.form_codec.specs.Forms.{Meaning}
 use Rattle.list_model.specs.declared.entry.ListKind.{ListKind}
 use Rattle.list_model.specs.Entries.{Entry, AreSaid}
@@ -38,7 +39,7 @@ no_run = record { list = 0; at = 0; pairs = [] }
 abbrev no_list : ListRead
 no_list = record { at = 0; part = 0; raws = [] }
 
-module _ {file : List ℕ} {world : World} {tables : List NewTable} {places : List Places} {new_places : NewPlaces} {info abbrevs : List ℕ} {r s : Reading} (all : AreReadAnew file world tables places new_places info abbrevs r s) (kind : ListKind) where
+module _ {classes : Classes} {file : List ℕ} {world : World} {tables : List NewTable} {places : List Places} {new_places : NewPlaces} {info abbrevs : List ℕ} {r s : Reading} (all : AreReadAnew classes file world tables places new_places info abbrevs r s) (kind : ListKind) where
   -- WHAT IS READ
 
   -- the indexes of each list are looked up
@@ -162,7 +163,7 @@ module _ {file : List ℕ} {world : World} {tables : List NewTable} {places : Li
     filled = filled;
   }
 
-module _ {file : List ℕ} {world : World} {tables : List NewTable} {places : List Places} {new_places : NewPlaces} {info abbrevs : List ℕ} {r s : Reading} (all : AreReadAnew file world tables places new_places info abbrevs r s) where
+module _ {classes : Classes} {file : List ℕ} {world : World} {tables : List NewTable} {places : List Places} {new_places : NewPlaces} {info abbrevs : List ℕ} {r s : Reading} (all : AreReadAnew classes file world tables places new_places info abbrevs r s) where
   -- VALUES
 
   same_link : (linked now : Linked) (v : Resolved) → now ≡ linked → ResolvesLink s linked v → ResolvesLink s now v

@@ -1,6 +1,7 @@
 -- What names a list of a file names it in the file that is written anew.
 use Rattle.std.proofs.Common.{◌≡◌, ◌<◌, ◌∙◌, inl, inr, ℕ, List, length, sym, ap, subst}
 use Rattle.std.specs.Prelude.{Option, Some, None, slice_index_or}
+use Rattle.dw_base.specs.declared.classes.Classes.{Classes}
 use Rattle.form_codec.specs.Forms.{Meaning}
 use Rattle.list_model.specs.declared.context.Context.{Context}
 use Rattle.list_model.specs.declared.entry.ListKind.{ListKind}
@@ -23,7 +24,7 @@ use Rattle.rewriter.proofs.MovedLinks.{link_follows, link_came, views_came}
 use Rattle.rewriter.proofs.TakenLaws.{links_taken}
 use Rattle.rewriter.proofs.InwardMeanings.{taken_links}
 
-module _ {file : List ℕ} {world : World} {tables : List NewTable} {places : List Places} {new_places : NewPlaces} {info abbrevs : List ℕ} {r s : Reading} (all : AreReadAnew file world tables places new_places info abbrevs r s) where
+module _ {classes : Classes} {file : List ℕ} {world : World} {tables : List NewTable} {places : List Places} {new_places : NewPlaces} {info abbrevs : List ℕ} {r s : Reading} (all : AreReadAnew classes file world tables places new_places info abbrevs r s) where
   -- VALUES
 
   pub unit_inside : (u : ℕ) → u < length s.links.units → u < length r.links.units
@@ -65,7 +66,7 @@ module _ {file : List ℕ} {world : World} {tables : List NewTable} {places : Li
   pub same_context : (u : ℕ) → context_at s.links u ≡ context_at r.links u
   same_context u = ap (λ (z : List Context). slice_index_or z u no_context) all.contexts
 
-module _ {file : List ℕ} {world : World} {tables : List NewTable} {places : List Places} {new_places : NewPlaces} {info abbrevs : List ℕ} {r s : Reading} (all : AreReadAnew file world tables places new_places info abbrevs r s) (kind : ListKind) where
+module _ {classes : Classes} {file : List ℕ} {world : World} {tables : List NewTable} {places : List Places} {new_places : NewPlaces} {info abbrevs : List ℕ} {r s : Reading} (all : AreReadAnew classes file world tables places new_places info abbrevs r s) (kind : ListKind) where
   -- what named a list names it
   names_follow : (k : ℕ) (linked now : Linked) → k < length (lists_of r kind) → IsLinkMoved new_places linked now → LinkNames r.links linked kind (old_at all kind k) → LinkNames s.links now kind (new_at all kind k)
   names_follow k (ListAt of n) now inside (m, moves, e) (same, here) =

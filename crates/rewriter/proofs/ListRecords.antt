@@ -1,7 +1,8 @@
 -- The potentials that are recorded for the lists of a file are those of the lists that are written anew for it: these give what the
 -- old ones give, and their bytes are the shortest of the same class.
-use Rattle.std.proofs.Common.{◌≡◌, ◌<◌, ◌∙◌, ℕ, List, [], length, sym, ap, refl, subst}
+use Rattle.std.proofs.Common.{◌≡◌, ◌<◌, ◌∙◌, ℕ, List, [], length, inl, inr, sym, ap, refl, subst}
 use Rattle.std.specs.Prelude.{Some}
+use Rattle.dw_base.specs.declared.classes.Classes.{Classes}
 use Rattle.list_model.specs.declared.context.Context.{Context}
 use Rattle.list_model.specs.declared.entry.ListKind.{ListKind}
 use Rattle.list_model.specs.declared.entry.ListKind.TheVariants.{Ranges, Locations}
@@ -17,7 +18,7 @@ use Rattle.unit_write.specs.declared.places.Places.{Places}
 use Rattle.written_files.specs.Certificates.{IsListWithout, ArePotentialsFor, HavePotentials, AreGreatestOf}
 use Rattle.written_files.specs.Classes.{AreBare}
 use Rattle.written_files.specs.Layouts.{AreNumbersOf}
-use Rattle.value_links.specs.Lists.{IsFrozen}
+use Rattle.written_files.specs.Kept.{IsKept}
 use Rattle.value_links.specs.Reading.{Reading, lists_of, list_at, context_at}
 use Rattle.written_files.specs.TidyLists.{IsWhole}
 use Rattle.value_links.specs.World.{World}
@@ -54,15 +55,15 @@ judged_weaker Judge Weaker weaker kind s k potentials are = record {
   judged = weaker s.links.addresses (context_at s.links are.u) are.bounds potentials (length are.bare) are.judged;
 }
 
-module _ {file : List ℕ} {world : World} {tables : List NewTable} {places : List Places} {new_places : NewPlaces} {info abbrevs : List ℕ} {r s : Reading} (all : AreReadAnew file world tables places new_places info abbrevs r s) (kind : ListKind) where
+module _ {classes : Classes} {file : List ℕ} {world : World} {tables : List NewTable} {places : List Places} {new_places : NewPlaces} {info abbrevs : List ℕ} {r s : Reading} (all : AreReadAnew classes file world tables places new_places info abbrevs r s) (kind : ListKind) where
   abbrev IsFree : ℕ → Type 0
-  IsFree k = ¬ IsFrozen r.links kind (old_list all kind k)
+  IsFree k = ¬ IsKept classes r.links kind (old_list all kind k)
 
   -- the potentials of a list are those of the list that is written for it
-  greatest_for : (k : ℕ) (potentials : List ℕ) → (k < length (lists_of r kind)) × IsFree k → IsRecordedFor r kind (old_list all kind k) potentials → ArePotentialsFor AreGreatestOf kind s k potentials
+  greatest_for : (k : ℕ) (potentials : List ℕ) → (k < length (lists_of r kind)) × IsFree k → IsRecordedFor classes r kind (old_list all kind k) potentials → ArePotentialsFor AreGreatestOf kind s k potentials
   greatest_for k potentials (inside, free) is =
       let told = are_told all kind k inside in
-      let (u, owned) = owner_of all kind k inside free told.owner told.owned in
+      let (u, owned) = owner_of all kind k inside (λ frozen. free (inr frozen)) told.owner told.owned in
       let (old, bounds, said, gives) = (all.read.lists kind).looked k u inside owned.0 in
       let new = anew all kind k inside in
       let now = new_gives all kind k u inside owned.0 old bounds said gives in
@@ -82,26 +83,38 @@ module _ {file : List ℕ} {world : World} {tables : List NewTable} {places : Li
         judged = subst (λ (z : ℕ). AreGreatestOf s.links.addresses (context_at s.links u) bounds potentials z) sized there;
       }
 
-  module _ (records : List ℕ) (recorded : AreListsRecorded r kind records) where
-    -- the lists that aren't frozen are those that weren't
-    free_numbers : AreNumbersOf (λ (k : ℕ). ¬ IsFrozen s.links kind (list_at (lists_of s kind) k)) (length (lists_of s kind)) recorded.numbers
+  module _ (records : List ℕ) (recorded : AreListsRecorded classes r kind records) where
+    -- the lists that aren't kept are those that weren't
+    still_free : (k : ℕ) → k < length (lists_of r kind) → IsFree k → ¬ IsKept classes s.links kind (list_at (lists_of s kind) k)
+    still_free k inside free now = elim now [
+      | inl lists ↦ free (inl lists)
+      | inr frozen ↦ free (inr (was_frozen all kind k inside frozen))
+    ]
+
+    was_free : (k : ℕ) → k < length (lists_of r kind) → (¬ IsKept classes s.links kind (list_at (lists_of s kind) k)) → IsFree k
+    was_free k inside free was = elim was [
+      | inl lists ↦ free (inl lists)
+      | inr frozen ↦ free (inr (frozen_stays all kind k inside frozen))
+    ]
+
+    free_numbers : AreNumbersOf (λ (k : ℕ). ¬ IsKept classes s.links kind (list_at (lists_of s kind) k)) (length (lists_of s kind)) recorded.numbers
     free_numbers =
-        numbers_for IsFree (λ (k : ℕ). ¬ IsFrozen s.links kind (list_at (lists_of s kind) k)) (length (lists_of r kind)) (length (lists_of s kind)) (sym (all.lists kind).count)
-        (λ k inside free now. free (was_frozen all kind k inside now))
-        (λ k inside free kept. free (frozen_stays all kind k inside kept))
+        numbers_for IsFree (λ (k : ℕ). ¬ IsKept classes s.links kind (list_at (lists_of s kind) k)) (length (lists_of r kind)) (length (lists_of s kind)) (sym (all.lists kind).count)
+        still_free
+        was_free
         recorded.numbers recorded.live
 
-    judged_as : (Judge : List ℕ → Context → List Bounds → List ℕ → ℕ → Type 0) → ((k : ℕ) (potentials : List ℕ) → ArePotentialsFor AreGreatestOf kind s k potentials → ArePotentialsFor Judge kind s k potentials) → HavePotentials Judge kind s recorded.potentials
+    judged_as : (Judge : List ℕ → Context → List Bounds → List ℕ → ℕ → Type 0) → ((k : ℕ) (potentials : List ℕ) → ArePotentialsFor AreGreatestOf kind s k potentials → ArePotentialsFor Judge kind s k potentials) → HavePotentials classes Judge kind s recorded.potentials
     judged_as Judge weaker = (
       recorded.numbers,
       free_numbers,
-      zip_for (λ (k : ℕ). (k < length (lists_of r kind)) × IsFree k) (λ (k : ℕ) (each : List ℕ). IsRecordedFor r kind (list_at (lists_of r kind) k) each) (ArePotentialsFor Judge kind s) (λ k each known is. weaker k each (greatest_for k each known is)) recorded.numbers recorded.potentials recorded.live.those recorded.recorded,
+      zip_for (λ (k : ℕ). (k < length (lists_of r kind)) × IsFree k) (λ (k : ℕ) (each : List ℕ). IsRecordedFor classes r kind (list_at (lists_of r kind) k) each) (ArePotentialsFor Judge kind s) (λ k each known is. weaker k each (greatest_for k each known is)) recorded.numbers recorded.potentials recorded.live.those recorded.recorded,
     )
 
     -- they are accepted for the written file
-    pub potentials_accepted : HavePotentials AcceptsList kind s recorded.potentials
+    pub potentials_accepted : HavePotentials classes AcceptsList kind s recorded.potentials
     potentials_accepted = judged_as AcceptsList (judged_weaker AreGreatestOf AcceptsList (λ addresses context bounds potentials size judged. judged.0) kind s)
 
     -- and the greatest that are
-    pub potentials_greatest : HavePotentials AreGreatestOf kind s recorded.potentials
+    pub potentials_greatest : HavePotentials classes AreGreatestOf kind s recorded.potentials
     potentials_greatest = judged_as AreGreatestOf (λ k potentials are. are)

@@ -6,6 +6,7 @@ use Rattle.std.proofs.lemmas.Bool.{cases_lt, eqb-true, eq-eqb}
 use Rattle.std.proofs.lemmas.List.{nil_from_length, length-map, get_or-map}
 use Rattle.std.proofs.lemmas.List.Elements.{All-from_get_or}
 use Rattle.std.proofs.lemmas.Slice.Zip.{AllZip-long}
+use Rattle.dw_base.specs.declared.classes.Classes.{Classes}
 use Rattle.list_model.specs.declared.contribution.Contribution.{Contribution}
 use Rattle.list_model.specs.declared.entry.ListKind.{ListKind}
 use Rattle.list_model.specs.declared.entry.ListKind.TheVariants.{Ranges, Locations}
@@ -157,7 +158,7 @@ record StandsAnew (kind : ListKind) (section : List ℕ) (parts : List Contribut
   stands : bytes_from section (new_part_at parts written.part) place.new ≡ bytes ++ rest
   size : length bytes ≡ own_size written
 
-module _ (ranges : RangesWritten) (locations : LocationsWritten) (file : List ℕ) (r : Reading) (read : IsReading file r) (places : List Places) (kind : ListKind) (section : List ℕ) (parts : List Contribution) (moved views : List Moved) (w : AreListsWritten r places kind section parts moved views) where
+module _ {classes : Classes} (ranges : RangesWritten) (locations : LocationsWritten) (file : List ℕ) (r : Reading) (read : IsReading file r) (places : List Places) (kind : ListKind) (section : List ℕ) (parts : List Contribution) (moved views : List Moved) (w : AreListsWritten classes r places kind section parts moved views) where
   abbrev olds : List ListRead
   olds = lists_of r kind
 
@@ -166,7 +167,7 @@ module _ (ranges : RangesWritten) (locations : LocationsWritten) (file : List �
 
   -- what is true of the list with a number
   abbrev IsNew : ℕ → ListRead → Type 0
-  IsNew k new = IsListAnew r places kind (section_of section parts) (list_at olds k) new × StandsAnew kind section parts (moved_at moved k) (written_at w.lists k) new
+  IsNew k new = IsListAnew classes r places kind (section_of section parts) (list_at olds k) new × StandsAnew kind section parts (moved_at moved k) (written_at w.lists k) new
 
   new_list : (k : ℕ) → k < length olds → (new : ListRead) × IsNew k new
   new_list k inside =
@@ -224,7 +225,7 @@ module _ (ranges : RangesWritten) (locations : LocationsWritten) (file : List �
           ((list_at lists k).part, (are k (list_at [] 0) inside).0.begins),
         )
 
-    are_anew : (new_places : ListPlaces) → new_places.parts.items ≡ parts → new_places.lists.items ≡ moved → AreListsAnew r places kind (section_of section parts) lists new_places
+    are_anew : (new_places : ListPlaces) → new_places.parts.items ≡ parts → new_places.lists.items ≡ moved → AreListsAnew classes r places kind (section_of section parts) lists new_places
     are_anew new_places parts_are lists_are = record {
       tiled = w.written.tiled;
       parts_are = sym parts_are;
@@ -396,14 +397,14 @@ module _ (ranges : RangesWritten) (locations : LocationsWritten) (file : List �
         (filled_with kind made s.views viewed section (new_part_at parts p) (filter (λ (list : ListRead). nat_eq list.part p) lists) (lists_at (new_part_at parts p)) (filled_at p inside)))
 
 -- The lists that are written are read again, with what they meant and with their view pairs, and nothing else stands in the section.
-pub record AreReadBack (r : Reading) (places : List Places) (kind : ListKind) (section : ListSection) (moved views : List Moved) : Type 0 where
+pub record AreReadBack (classes : Classes) (r : Reading) (places : List Places) (kind : ListKind) (section : ListSection) (moved views : List Moved) : Type 0 where
   pub lists : List ListRead
   pub made : List ViewRead
-  pub anew : (new_places : ListPlaces) → new_places.parts.items ≡ section.parts → new_places.lists.items ≡ moved → AreListsAnew r places kind section lists new_places
+  pub anew : (new_places : ListPlaces) → new_places.parts.items ≡ section.parts → new_places.lists.items ≡ moved → AreListsAnew classes r places kind section lists new_places
   pub kept : AreViewsKept r kind section lists made views
   pub filled : (s : Reading) → of_kind s.links kind ≡ section → lists_of s kind ≡ lists → HasViews kind made s.views → (p : ℕ) → p < length section.parts → IsFilled kind s p
 
-pub lists_anew : RangesWritten → LocationsWritten → (file : List ℕ) (r : Reading) → IsReading file r → (places : List Places) (kind : ListKind) (section : List ℕ) (parts : List Contribution) (moved views : List Moved) → AreListsWritten r places kind section parts moved views → AreReadBack r places kind (record { section = section; parts = parts }) moved views
+pub lists_anew : {classes : Classes} → RangesWritten → LocationsWritten → (file : List ℕ) (r : Reading) → IsReading file r → (places : List Places) (kind : ListKind) (section : List ℕ) (parts : List Contribution) (moved views : List Moved) → AreListsWritten classes r places kind section parts moved views → AreReadBack classes r places kind (record { section = section; parts = parts }) moved views
 lists_anew ranges locations file r read places kind section parts moved views w =
     let new = choose (IsNew ranges locations file r read places kind section parts moved views w) (length (lists_of r kind)) (new_list ranges locations file r read places kind section parts moved views w) in
     record {

@@ -5,6 +5,7 @@ use Rattle.std.specs.Prelude.{slice_index_or}
 use Rattle.std.proofs.lemmas.List.{nil_from_length, length-map}
 use Rattle.std.proofs.lemmas.List.Elements.{All-weaker, All-get_or, All-from_get_or}
 use Rattle.std.proofs.lemmas.List.Sums.{sum_by-cons}
+use Rattle.dw_base.specs.declared.classes.Classes.{Classes}
 use Rattle.list_model.specs.declared.contribution.Contribution.{Contribution}
 use Rattle.list_model.specs.declared.entry.ListKind.{ListKind}
 use Rattle.list_model.specs.Contributions.{offsets_at, part_end, HoldsList, IsContribution, ContributionsTile}
@@ -62,7 +63,7 @@ totals_double (k ∷ old) (l ∷ new) count each =
     let rest : entry_total new ≤ 2 * entry_total old = totals_double old new (omega (arith, count)) (λ n inside. each (suc n) (omega (arith, inside))) in
     omega (arith, was, now, here, rest)
 
-module _ {file : List ℕ} {r : Reading} {placed : List Places} {kind : ListKind} {section : List ℕ} {parts : List Contribution} {moved views : List Moved} (read : IsReading file r) (written : AreListsWritten r placed kind section parts moved views) where
+module _ {classes : Classes} {file : List ℕ} {r : Reading} {placed : List Places} {kind : ListKind} {section : List ℕ} {parts : List Contribution} {moved views : List Moved} (read : IsReading file r) (written : AreListsWritten classes r placed kind section parts moved views) where
   -- a file without the section gets no bytes for it
   pub lists_for : debug_lists file kind ≡ [] → section ≡ []
   lists_for none =
@@ -150,7 +151,7 @@ module _ {file : List ℕ} {r : Reading} {placed : List Places} {kind : ListKind
 
 -- ---- view pairs
 
-module _ {file : List ℕ} {r : Reading} {placed : List Places} {section : List ℕ} {parts : List Contribution} {moved views : List Moved} (read : IsReading file r) (written : AreListsWritten r placed Locations section parts moved views) (world : World) (holds : Holds file world r) where
+module _ {classes : Classes} {file : List ℕ} {r : Reading} {placed : List Places} {section : List ℕ} {parts : List Contribution} {moved views : List Moved} (read : IsReading file r) (written : AreListsWritten classes r placed Locations section parts moved views) (world : World) (holds : Holds file world r) where
   -- there are as many new places as runs that are held
   pub views_held_count : length views ≡ length world.views
   views_held_count = views_counted read written ∙ pairs_count holds Locations

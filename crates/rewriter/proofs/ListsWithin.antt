@@ -5,6 +5,7 @@ use Rattle.std.specs.List.{sum_by}
 use Rattle.std.proofs.lemmas.List.{length-append, length-drop, length-take}
 use Rattle.std.proofs.lemmas.List.Sums.{sum_by-cons}
 use Rattle.std.proofs.lemmas.Option.{same_Some}
+use Rattle.dw_base.specs.declared.classes.Classes.{Classes}
 use Rattle.spelled.proofs.Parts.{length_part}
 use Rattle.dw_base.specs.declared.fault.Span.{Span}
 use Rattle.dw_base.specs.declared.fault.Reach.TheVariants.{Wide}
@@ -127,7 +128,7 @@ expressions_sized Locations section part at raws read =
 
 -- ALL LISTS
 
-module _ {file : List ℕ} {world : World} {tables : List NewTable} {places : List Places} {new_places : NewPlaces} {info abbrevs : List ℕ} {r s : Reading} (all : AreReadAnew file world tables places new_places info abbrevs r s) where
+module _ {classes : Classes} {file : List ℕ} {world : World} {tables : List NewTable} {places : List Places} {new_places : NewPlaces} {info abbrevs : List ℕ} {r s : Reading} (all : AreReadAnew classes file world tables places new_places info abbrevs r s) where
   -- a list has at most three times the bytes of expressions
   list_thrice : (kind : ListKind) (k : ℕ) → k < length (lists_of r kind) → expression_bytes (new_list all kind k).raws ≤ 3 * expression_bytes (old_list all kind k).raws
   list_thrice kind k inside =

@@ -77,12 +77,12 @@ value_among units u id j inside known =
     let here : Contains (values_of unit.head.table number j unit) (headed unit v) = subst (λ (z : List (UnitHead × Meaning)). Contains z (headed unit v)) (sym is) own in
     contains_flat_map (values_of unit.head.table number j) units u (unit_in [] 0) (headed unit v) inside here
 
-within_at : (code : ℕ) (constant : ℤ) (meanings : List Meaning) (n k : ℕ) (d : Meaning) → EntriesWithin code constant meanings n → k < length meanings → (bytes : List ℕ) × SpellsValue code constant (get_or meanings k d) bytes
-within_at code constant [] n k d within inside = absurd (omega arith)
-within_at code constant (m ∷ ms) n zero d within inside = (within.0, within.2)
-within_at code constant (m ∷ ms) n (suc k) d within inside = within_at code constant ms within.1 k d within.3 (omega arith)
+within_at : (name code : ℕ) (constant : ℤ) (meanings : List Meaning) (n k : ℕ) (d : Meaning) → EntriesWithin name code constant meanings n → k < length meanings → (bytes : List ℕ) × SpellsValue name code constant (get_or meanings k d) bytes
+within_at name code constant [] n k d within inside = absurd (omega arith)
+within_at name code constant (m ∷ ms) n zero d within inside = (within.0, within.2)
+within_at name code constant (m ∷ ms) n (suc k) d within inside = within_at name code constant ms within.1 k d within.3 (omega arith)
 
 -- a form whose bytes are enough for the values of a column spells each of them
-pub spelled_among : (code : ℕ) (constant : ℤ) (meanings : List Meaning) (n : ℕ) (m : Meaning) → EntriesWithin code constant meanings n → Contains meanings m → (bytes : List ℕ) × SpellsValue code constant m bytes
-spelled_among code constant meanings n m within (k, inside, same) =
-    subst (λ (z : Meaning). (bytes : List ℕ) × SpellsValue code constant z bytes) same (within_at code constant meanings n k m within inside)
+pub spelled_among : (name code : ℕ) (constant : ℤ) (meanings : List Meaning) (n : ℕ) (m : Meaning) → EntriesWithin name code constant meanings n → Contains meanings m → (bytes : List ℕ) × SpellsValue name code constant m bytes
+spelled_among name code constant meanings n m within (k, inside, same) =
+    subst (λ (z : Meaning). (bytes : List ℕ) × SpellsValue name code constant z bytes) same (within_at name code constant meanings n k m within inside)

@@ -3,6 +3,7 @@
 use Rattle.std.proofs.Common.{◌≡◌, ◌<◌, ◌+◌, ◌∙◌, ◌++◌, ℕ, suc, List, [], ◌∷◌, length, sym, ap, subst, refl, arith}
 use Rattle.std.specs.Prelude.{slice_index}
 use Rattle.std.specs.List.{AllZip}
+use Rattle.dw_base.specs.declared.classes.Classes.{Classes}
 use Rattle.form_codec.specs.declared.value.Value.{Value}
 use Rattle.form_codec.specs.Forms.{Meaning}
 use Rattle.form_codec.specs.Values.{meant_in}
@@ -52,7 +53,7 @@ pub record IsMovedAttribute (r : Linkable) (places : List Places) (new_places : 
 abbrev pub says : Linkable → ℕ → Entry → Described
 says t u = described_by (unit_at t u).forest.section (declarations (unit_at t u)) (unit_at t u).forest.values
 
-module _ {file : List ℕ} {world : World} {tables : List NewTable} {places : List Places} {new_places : NewPlaces} {info abbrevs : List ℕ} {r s : Reading} (all : AreReadAnew file world tables places new_places info abbrevs r s) where
+module _ {classes : Classes} {file : List ℕ} {world : World} {tables : List NewTable} {places : List Places} {new_places : NewPlaces} {info abbrevs : List ℕ} {r s : Reading} (all : AreReadAnew classes file world tables places new_places info abbrevs r s) where
   abbrev Moves : ℕ → ℕ → ℕ × Meaning → ℕ × Meaning → Type 0
   Moves u id = IsMovedAttribute r.links places new_places u id
 

@@ -2,6 +2,7 @@
 use Rattle.std.proofs.Common.{◌≡◌, ◌≤◌, ◌<◌, ◌+◌, ◌∙◌, inl, inr, ℕ, List, [], ◌∷◌, length, sym, ap, subst, refl, arith}
 use Rattle.std.specs.List.{AllZip, Contains}
 use Rattle.std.proofs.lemmas.List.Elements.{All-get_or}
+use Rattle.dw_base.specs.declared.classes.Classes.{Classes}
 use Rattle.form_codec.specs.Forms.{Meaning}
 use Rattle.form_codec.specs.Forms.Meaning.{Expression, InUnit, InSection, SectionPlace}
 use Rattle.list_model.specs.declared.contribution.Contribution.{Contribution}
@@ -139,7 +140,7 @@ part_once section tiled n p q (p_in, p_at) (q_in, q_at) =
     let same : (part_at section p).at ≡ (part_at section q).at = omega arith in
     number_once at (length section.parts) rises p q p_in q_in same
 
-module _ {file : List ℕ} {world : World} {tables : List NewTable} {places : List Places} {new_places : NewPlaces} {info abbrevs : List ℕ} {r s : Reading} (all : AreReadAnew file world tables places new_places info abbrevs r s) where
+module _ {classes : Classes} {file : List ℕ} {world : World} {tables : List NewTable} {places : List Places} {new_places : NewPlaces} {info abbrevs : List ℕ} {r s : Reading} (all : AreReadAnew classes file world tables places new_places info abbrevs r s) where
   -- the attributes of a root are the old ones with new numbers
   pub root_moves : (u : ℕ) → u < length r.links.units → AllZip (IsMovedAttribute r.links places new_places u 0) (root_of (unit_at r.links u)).attributes (root_of (unit_at s.links u)).attributes
   root_moves u inside =
@@ -151,7 +152,7 @@ base_links : (r : Linkable) (kind : ListKind) (u id n : ℕ) (linked : Linked) �
 base_links r Ranges u id n linked links = links
 base_links r Locations u id n linked links = links
 
-module _ {file : List ℕ} {world : World} {tables : List NewTable} {places : List Places} {new_places : NewPlaces} {info abbrevs : List ℕ} {r s : Reading} (all : AreReadAnew file world tables places new_places info abbrevs r s) (kind : ListKind) where
+module _ {classes : Classes} {file : List ℕ} {world : World} {tables : List NewTable} {places : List Places} {new_places : NewPlaces} {info abbrevs : List ℕ} {r s : Reading} (all : AreReadAnew classes file world tables places new_places info abbrevs r s) (kind : ListKind) where
   root_bases : (u : ℕ) → u < length r.links.units → AllZip (AreBases (base_of kind) (BaseMoves r.links places new_places u 0 (base_of kind))) (root_of (unit_at r.links u)).attributes (root_of (unit_at s.links u)).attributes
   root_bases u inside = all_bases r.links places new_places u 0 (base_of kind) (root_of (unit_at r.links u)).attributes (root_of (unit_at s.links u)).attributes (root_moves all u inside)
 

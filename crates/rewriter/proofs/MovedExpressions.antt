@@ -4,6 +4,7 @@ use Rattle.std.specs.Prelude.{Bool, true, false, nat_eq, if◌then◌else◌, sl
 use Rattle.std.specs.List.{AllZip, Contains}
 use Rattle.std.proofs.lemmas.Bool.{ne_eqb}
 use Rattle.std.proofs.lemmas.List.Elements.{All-nil, All-cons, All-head, All-tail}
+use Rattle.dw_base.specs.declared.classes.Classes.{Classes}
 use Rattle.dw_base.specs.declared.fault.Reach.{Reach}
 use Rattle.dw_base.specs.declared.fault.Reach.TheVariants.{Wide}
 use Rattle.form_codec.specs.Forms.Meaning.{InSection}
@@ -167,7 +168,7 @@ made_thrice r places u bytes made is =
     let most = shortest_thrice Wide (refs_among is.ops is.numbers) (all_meant bytes is.ops) bytes is.spelled (taken_small is.ops is.numbers is.numbered.fit) in
     omega (arith, size, most)
 
-module _ {file : List ℕ} {world : World} {tables : List NewTable} {places : List Places} {new_places : NewPlaces} {info abbrevs : List ℕ} {r s : Reading} (all : AreReadAnew file world tables places new_places info abbrevs r s) where
+module _ {classes : Classes} {file : List ℕ} {world : World} {tables : List NewTable} {places : List Places} {new_places : NewPlaces} {info abbrevs : List ℕ} {r s : Reading} (all : AreReadAnew classes file world tables places new_places info abbrevs r s) where
   -- WHAT A REFERENCE NAMES
 
   -- an entry stands at its new place

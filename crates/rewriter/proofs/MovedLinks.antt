@@ -1,6 +1,7 @@
 -- What a value refers to, the new value refers to, where a list and view pairs are at their new places.
 use Rattle.std.proofs.Common.{◌≡◌, ◌<◌, ◌+◌, ◌∙◌, ℕ, List, length, sym, ap, subst, refl}
 use Rattle.std.specs.Prelude.{slice_index}
+use Rattle.dw_base.specs.declared.classes.Classes.{Classes}
 use Rattle.form_codec.specs.Forms.{Meaning}
 use Rattle.form_codec.specs.Forms.Meaning.{Expression, InUnit, InSection, SectionPlace, LocationList, RangeList}
 use Rattle.list_model.specs.declared.entry.ListKind.{ListKind}
@@ -46,7 +47,7 @@ names_itself s of kind n at linked e names =
     let (same, here) = subst (λ (z : Linked). LinkNames s z kind at) e names in
     (ap list_class (sym same), here)
 
-module _ {file : List ℕ} {world : World} {tables : List NewTable} {places : List Places} {new_places : NewPlaces} {info abbrevs : List ℕ} {r s : Reading} (all : AreReadAnew file world tables places new_places info abbrevs r s) where
+module _ {classes : Classes} {file : List ℕ} {world : World} {tables : List NewTable} {places : List Places} {new_places : NewPlaces} {info abbrevs : List ℕ} {r s : Reading} (all : AreReadAnew classes file world tables places new_places info abbrevs r s) where
   target_at : (u old new : ℕ) → u < length r.links.units → MovesTo (unit_at r.links u).forest (places_at places u) old new → TargetMoves (unit_at r.links u).forest (unit_at s.links u).forest old new
   target_at u old new inside moves =
       let m = moved all u inside in

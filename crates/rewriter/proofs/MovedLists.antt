@@ -2,6 +2,7 @@
 use Rattle.std.proofs.Common.{◌≡◌, ◌<◌, ◌∙◌, inl, inr, ℕ, length, sym, ap, subst, arith}
 use Rattle.std.proofs.lemmas.Bool.{cases_lt}
 use Rattle.std.specs.Prelude.{List}
+use Rattle.dw_base.specs.declared.classes.Classes.{Classes}
 use Rattle.list_model.specs.declared.entry.ListKind.{ListKind}
 use Rattle.list_model.specs.declared.entry.ListKind.TheVariants.{Locations}
 use Rattle.unit_write.specs.declared.places.Places.{Places}
@@ -31,7 +32,7 @@ IsLinkMoved places (ListAt kind n) new = (m : ℕ) × IsMovedTo (moved_lists pla
 IsLinkMoved places (ViewsAt list n) new = (l : ℕ) × (m : ℕ) × IsMovedTo (moved_lists places Locations) list l × AreViewsMoved places.views.items list n m × (new ≡ ViewsAt l m)
 IsLinkMoved places linked new = new ≡ linked
 
-module _ {file : List ℕ} {world : World} {tables : List NewTable} {places : List Places} {new_places : NewPlaces} {info abbrevs : List ℕ} {r s : Reading} (all : AreReadAnew file world tables places new_places info abbrevs r s) (kind : ListKind) where
+module _ {classes : Classes} {file : List ℕ} {world : World} {tables : List NewTable} {places : List Places} {new_places : NewPlaces} {info abbrevs : List ℕ} {r s : Reading} (all : AreReadAnew classes file world tables places new_places info abbrevs r s) (kind : ListKind) where
   -- where a list began, and where it begins
   abbrev pub old_at : ℕ → ℕ
   old_at k = (list_at (lists_of r kind) k).at

@@ -3,6 +3,7 @@ use Rattle.std.proofs.Common.{◌≡◌, ◌<◌, ◌∙◌, ◌++◌, inl, inr,
 use Rattle.std.specs.Prelude.{filter, slice_index, if◌then◌else◌}
 use Rattle.std.specs.List.{AllZip}
 use Rattle.std.proofs.lemmas.Bool.{cases_lt, eqb-true}
+use Rattle.dw_base.specs.declared.classes.Classes.{Classes}
 use Rattle.form_codec.specs.Forms.{Meaning}
 use Rattle.form_codec.specs.Forms.Meaning.{Expression, InUnit, InSection, SectionPlace, LocationList}
 use Rattle.entry_read.specs.declared.head.UnitHead.{UnitHead}
@@ -93,7 +94,7 @@ located_kept head name meaning taken took located = absurd (true≢false (sym lo
 location_links : (r : Linkable) (u id n : ℕ) (linked : Linked) → Links r u id location (SectionPlace n) linked → IsListAt r Locations n × (linked ≡ ListAt Locations n)
 location_links r u id n linked links = links
 
-module _ {file : List ℕ} {world : World} {tables : List NewTable} {places : List Places} {new_places : NewPlaces} {info abbrevs : List ℕ} {r s : Reading} (all : AreReadAnew file world tables places new_places info abbrevs r s) where
+module _ {classes : Classes} {file : List ℕ} {world : World} {tables : List NewTable} {places : List Places} {new_places : NewPlaces} {info abbrevs : List ℕ} {r s : Reading} (all : AreReadAnew classes file world tables places new_places info abbrevs r s) where
   -- the place of a list that a value told, and the new one that its new value tells and no other
   record PlaceMoves (u list : ℕ) (new : Meaning) : Type 0 where
     k : ℕ

@@ -1,6 +1,7 @@
 -- How many view pairs go with the entries of a list: as many as before, where it is written anew.
 use Rattle.std.proofs.Common.{◌≡◌, ◌<◌, ◌∙◌, ℕ, suc, List, [], ◌∷◌, length, cond, Bool, true, false, inl, inr, sym, ap, refl, subst}
 use Rattle.std.specs.Prelude.{Option, Some, None, filter}
+use Rattle.dw_base.specs.declared.classes.Classes.{Classes}
 use Rattle.list_model.specs.declared.context.Context.{Context}
 use Rattle.list_model.specs.declared.entry.EntryKind.{EntryKind}
 use Rattle.list_model.specs.declared.entry.EntryKind.TheVariants.{BaseAddressx, StartxEndx, StartxLength, OffsetPair, DefaultLocation, BaseAddress, StartEnd, StartLength}
@@ -61,7 +62,7 @@ pairs_counted addr context base (entry ∷ entries) bounds (inr (item, rest, has
 pub same_pairs : (addr : List ℕ) (context : Context) (old new : List Entry) (bounds : List Bounds) → Give addr context old bounds → Give addr context new bounds → pair_count new ≡ pair_count old
 same_pairs addr context old new bounds before now = pairs_counted addr context context.base new bounds now ∙ sym (pairs_counted addr context context.base old bounds before)
 
-module _ (r : Reading) (kind : ListKind) (lists : AreListsOf r.links kind (lists_of r kind)) (k : ℕ) (inside : k < length (lists_of r kind)) (old new : List Entry) (said : AreSaid kind (list_at (lists_of r kind) k).raws old) (same : MeanTheSame r kind (list_at (lists_of r kind) k) old new) where
+module _ {classes : Classes} (r : Reading) (kind : ListKind) (lists : AreListsOf r.links kind (lists_of r kind)) (k : ℕ) (inside : k < length (lists_of r kind)) (old new : List Entry) (said : AreSaid kind (list_at (lists_of r kind) k).raws old) (same : MeanTheSame classes r kind (list_at (lists_of r kind) k) old new) where
   live_pairs : (¬ IsFrozen r.links kind (list_at (lists_of r kind) k)) → (owner : Option ℕ) → IsOwner r.links kind (list_at (lists_of r kind) k).at owner → pair_count new ≡ pair_count old
   live_pairs live (Some u) owned =
       let (entries, bounds, says, gives) = lists.looked k u inside owned.0 in
@@ -72,6 +73,6 @@ module _ (r : Reading) (kind : ListKind) (lists : AreListsOf r.links kind (lists
   -- entries that mean what the old ones mean have as many pairs
   pub pairs_stay : IsTold r.links kind (list_at (lists_of r kind) k) → pair_count new ≡ pair_count old
   pairs_stay told = elim told.frozen [
-    | inl kept ↦ ap pair_count (same.frozen kept)
+    | inl kept ↦ ap pair_count (same.kept (inr kept))
     | inr live ↦ live_pairs live told.owner told.owned
   ]

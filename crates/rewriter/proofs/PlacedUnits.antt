@@ -1,9 +1,8 @@
 -- A unit that is placed: it has few slots, and has the places that it got.
 use Rattle.std.proofs.Common.{◌≡◌, ◌≤◌, ◌<◌, ◌+◌, ◌^◌, ℕ, zero, suc, List, [], ◌∷◌, length, slice_index, inl, inr, sym, ap, refl, subst, arith}
-use Rattle.std.specs.Prelude.{map, Result, Ok, Err, IfOk}
+use Rattle.std.specs.Prelude.{map}
 use Rattle.std.proofs.lemmas.List.{length-map}
 use Rattle.std.proofs.lemmas.Slice.Zip.{AllZip-long}
-use Rattle.dw_base.specs.declared.fault.NoMemory.{NoMemory}
 use Rattle.dw_base.specs.declared.fault.Reach.TheVariants.{Narrow}
 use Rattle.spelled.specs.Spelled.{Appends}
 use Rattle.leb_codec.specs.Records.{OfLayout, SpellsRecord}
@@ -134,7 +133,7 @@ module _ (world : World) (tables : List NewTable) (u : ℕ) (unit : HeadAndFores
     pub laid_out : IsLaidOut unit old.table anew.columns.items anew.numbers.items (operations_in unit.forest operations) more (all_spots spots lists) lens ranks
 
   -- a unit that was placed stands at its places
-  placed_back : (lens ranks : List ℕ) (start : ℕ) (before after : List ℕ) (places : Places) → IsLaid lens ranks → Appends SpellsRecord (OfLayout ranks) before after → places.start ≡ start → places.end < least_reserved → IsPlacedAt unit old.table anew.columns.items anew.numbers.items lens start places.entries.items places.ends.items places.end → IsPlacedFrom world tables u start before after places
+  pub placed_back : (lens ranks : List ℕ) (start : ℕ) (before after : List ℕ) (places : Places) → IsLaid lens ranks → Appends SpellsRecord (OfLayout ranks) before after → places.start ≡ start → places.end < least_reserved → IsPlacedAt unit old.table anew.columns.items anew.numbers.items lens start places.entries.items places.ends.items places.end → IsPlacedFrom world tables u start before after places
   placed_back lens ranks start before after places laid recorded begins fits placed = record {
     begins = begins;
     placed = record {
@@ -154,7 +153,3 @@ module _ (world : World) (tables : List NewTable) (u : ℕ) (unit : HeadAndFores
     fits = fits;
     recorded = recorded;
   }
-
-  pub all_placed_back : (lens ranks : List ℕ) (start : ℕ) (before after : List ℕ) (r : Result Places NoMemory) → IsLaid lens ranks → Appends SpellsRecord (OfLayout ranks) before after → IfOk r (λ places. places.start ≡ start) → IfOk r (λ places. places.end < least_reserved) → IfOk r (λ places. IsPlacedAt unit old.table anew.columns.items anew.numbers.items lens start places.entries.items places.ends.items places.end) → IfOk r (IsPlacedFrom world tables u start before after)
-  all_placed_back lens ranks start before after (Ok places) laid recorded begins fits placed = placed_back lens ranks start before after places laid recorded begins fits placed
-  all_placed_back lens ranks start before after (Err e) laid recorded begins fits placed = tt

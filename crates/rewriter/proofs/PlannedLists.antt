@@ -1,11 +1,12 @@
 -- Plans of lists that are held.
 use Rattle.std.proofs.Common.{◌≡◌, ◌≤◌, ◌<◌, ◌+◌, ◌*◌, ◌^◌, ◌∙◌, ℕ, suc, List, [], ◌∷◌, length, get_or, map, cond, Bool, true, false, Result, Ok, Err, inl, inr, sym, ap, refl, subst, arith}
-use Rattle.std.specs.Prelude.{Option, Some, None, IfOk, not, filter}
+use Rattle.std.specs.Prelude.{◌⊎◌, Option, Some, None, IfOk, not, filter}
 use Rattle.std.specs.List.{All, Contains}
 use Rattle.std.proofs.lemmas.Bool.{cases_lt}
 use Rattle.std.proofs.lemmas.Option.{none-some, same_Some}
 use Rattle.std.proofs.lemmas.List.{get_or-map, length-map}
 use Rattle.std.proofs.lemmas.List.Elements.{All-nil, All-cons}
+use Rattle.dw_base.specs.declared.classes.Classes.{Classes}
 use Rattle.dw_base.specs.declared.fault.Reach.{Reach}
 use Rattle.dw_base.specs.declared.fault.Span.{Span}
 use Rattle.spelled.specs.Spelled.{AreBytes}
@@ -45,6 +46,7 @@ use Rattle.list_arena.specs.Held.{HeldList}
 use Rattle.value_links.specs.Reading.{ListRead, Linkable, Reading, of_kind, lists_of, part_at, list_at, context_at}
 use Rattle.value_links.specs.Lists.{IsOwner, IsFrozen, IsListOf, item_count, AreListsOf}
 use Rattle.written_files.specs.Classes.{AreLeastBytes}
+use Rattle.written_files.specs.Kept.{IsKept}
 use Rattle.value_links.specs.World.{World, lists_held, IsMeaningOf, HoldsMeaning, HoldsList, Holds, IsWorldOf}
 use Rattle.list_lookup.specs.Maps.{IsContextIn}
 use Rattle.list_lookup.proofs.AddressTables.{context_same}
@@ -198,7 +200,14 @@ one_owner r kind at u v (named, first) (too, other) = elim (cases_lt u v) [
   ]
 ]
 
--- ---- a list that isn't frozen
+-- ---- a list that isn't kept
+
+-- where the classes have other entries a list that isn't frozen isn't kept
+pub not_kept : (classes : Classes) (r : Linkable) (kind : ListKind) (list : ListRead) → classes.lists ≡ true → (¬ IsFrozen r kind list) → ¬ IsKept classes r kind list
+not_kept classes r kind list lists live kept = elim kept [
+  | inl all ↦ absurd (cc (lists, all))
+  | inr frozen ↦ live frozen
+]
 
 module _ (r : Reading) (kind : ListKind) (old : ListRead) (list : HeldList) (held : HoldsList r.links kind old list) (items : List Item) (live : list.meaning ≡ Live items) where
   meant : HoldsMeaning r.links kind old list.owner (Live items)
@@ -254,8 +263,8 @@ module _ (r : Reading) (kind : ListKind) (old : ListRead) (list : HeldList) (hel
         let least = planned kind r.links.addresses (context_at r.links owner) (map bounds_of items) potentials plan.size plan.picks.items is.entries some.0 small accepted is is.picked some.1 in
         sym least.1 ∙ shortest.size kind is.entries some.0 some.1
 
-    pub live_planned : length plan.picks.items ≤ 2 * length items → (other : NamedList) → IsPlannedFor r kind old (to_write (with_plan list plan other))
-    live_planned few other = record {
+    pub live_planned : {classes : Classes} → classes.lists ≡ true → length plan.picks.items ≤ 2 * length items → (other : NamedList) → IsPlannedFor classes r kind old (to_write (with_plan list plan other))
+    live_planned {classes} lists few other = record {
       part = held.part;
       at = held.at;
       entries = is.entries;
@@ -266,23 +275,23 @@ module _ (r : Reading) (kind : ListKind) (old : ListRead) (list : HeldList) (hel
         live = λ free u bounds own gives.
             let same = gives_same u before bounds own said gives in
             subst (λ (z : ℕ). Give r.links.addresses (context_at r.links z) is.entries bounds) same.0 (subst (λ (z : List Bounds). Give r.links.addresses (context_at r.links owner) is.entries z) same.1 is.gives);
-        frozen = λ kept. absurd (meant.0 kept);
+        kept = λ kept. absurd (not_kept classes r.links kind old lists meant.0 kept);
       };
       least = λ bytes short. record {
         live = λ free u before bounds own said gives.
             let same = gives_same u before bounds own said gives in
             let least = planned kind r.links.addresses (context_at r.links owner) (map bounds_of items) potentials plan.size plan.picks.items is.entries bytes small accepted is is.picked short in
             subst (λ (z : ℕ). IsLeastList kind r.links.addresses (context_at r.links z) bounds bytes) same.0 (subst (λ (z : List Bounds). IsLeastList kind r.links.addresses (context_at r.links owner) z bytes) same.1 least.0);
-        frozen = λ kept. absurd (meant.0 kept);
+        kept = λ kept. absurd (not_kept classes r.links kind old lists meant.0 kept);
       };
     }
 
     -- all bytes that are least in its class are as many as the plan's
-    sized : (bytes : List ℕ) → AreLeastBytes r.links kind old bytes → length bytes ≡ plan.size
-    sized bytes least =
+    sized : {classes : Classes} → classes.lists ≡ true → (bytes : List ℕ) → AreLeastBytes classes r.links kind old bytes → length bytes ≡ plan.size
+    sized {classes} lists bytes least =
         let some = shortest.of_picks kind plan.picks.items is.entries is.picked in
         let own = planned kind r.links.addresses (context_at r.links owner) (map bounds_of items) potentials plan.size plan.picks.items is.entries some.0 small accepted is is.picked some.1 in
-        let other = least.live meant.0 meant.1.0 meaning.entries meaning.bounds owned meaning.said meaning.gives in
+        let other = least.live (not_kept classes r.links kind old lists meant.0) meant.1.0 meaning.entries meaning.bounds owned meaning.said meaning.gives in
         let there : IsLeastList kind r.links.addresses (context_at r.links owner) (map bounds_of items) bytes =
         subst (λ (z : ℕ). IsLeastList kind r.links.addresses (context_at r.links z) (map bounds_of items) bytes) same_owner (subst (λ (z : List Bounds). IsLeastList kind r.links.addresses (context_at r.links meant.1.0) z bytes) (sym meaning.are) other) in
         let more : length bytes ≤ length some.0 = there.least some.0 own.0.member in
@@ -290,43 +299,44 @@ module _ (r : Reading) (kind : ListKind) (old : ListRead) (list : HeldList) (hel
         omega (arith, more, no_more, own.1)
 
     -- the potentials are its record
-    pub live_recorded : AreGreatest r.links.addresses (context_at r.links owner) (map bounds_of items) potentials → IsRecordedFor r kind old potentials
-    live_recorded greatest = record {
+    pub live_recorded : {classes : Classes} → classes.lists ≡ true → AreGreatest r.links.addresses (context_at r.links owner) (map bounds_of items) potentials → IsRecordedFor classes r kind old potentials
+    live_recorded lists greatest = record {
       size = plan.size;
       accepted = λ u before bounds own said gives.
           let same = gives_same u before bounds own said gives in (
             subst (λ (z : ℕ). AcceptsList r.links.addresses (context_at r.links z) bounds potentials plan.size) same.0 (subst (λ (z : List Bounds). AcceptsList r.links.addresses (context_at r.links owner) z potentials plan.size) same.1 accepted),
             subst (λ (z : ℕ). AreGreatest r.links.addresses (context_at r.links z) bounds potentials) same.0 (subst (λ (z : List Bounds). AreGreatest r.links.addresses (context_at r.links owner) z potentials) same.1 greatest),
           );
-      sized = sized;
+      sized = sized lists;
     }
 
 -- the same, by the bytes of .debug_addr and the context as they are given to the search
-pub planned_by : (r : Reading) (kind : ListKind) (old : ListRead) (list : HeldList) → HoldsList r.links kind old list → (items : List Item) → list.meaning ≡ Live items → OneSaying → OneWalk → ShortestLists → PlannedLeast →
+pub planned_by : {classes : Classes} → classes.lists ≡ true → (r : Reading) (kind : ListKind) (old : ListRead) (list : HeldList) → HoldsList r.links kind old list → (items : List Item) → list.meaning ≡ Live items → OneSaying → OneWalk → ShortestLists → PlannedLeast →
     (addr : List ℕ) → AreBytes addr → addr ≡ r.links.addresses → (context : Context) (owner : ℕ) → list.owner ≡ Some owner → context ≡ context_at r.links owner → (plan : Plan) →
-    IsPlanned kind addr context (map bounds_of items) plan.picks.items plan.size → AcceptsList addr context (map bounds_of items) plan.potentials.items plan.size → length plan.picks.items ≤ 2 * length items → (other : NamedList) → IsPlannedFor r kind old (to_write (with_plan list plan other))
-planned_by r kind old list held items live saying walk shortest planned addr small addr_is context owner owner_is context_is plan is accepted few other =
+    IsPlanned kind addr context (map bounds_of items) plan.picks.items plan.size → AcceptsList addr context (map bounds_of items) plan.potentials.items plan.size → length plan.picks.items ≤ 2 * length items → (other : NamedList) → IsPlannedFor classes r kind old (to_write (with_plan list plan other))
+planned_by lists r kind old list held items live saying walk shortest planned addr small addr_is context owner owner_is context_is plan is accepted few other =
     live_planned r kind old list held items live saying walk shortest planned (subst (λ (z : List ℕ). AreBytes z) addr_is small) owner owner_is plan.potentials.items plan
     (subst (λ (z : Context). IsPlanned kind r.links.addresses z (map bounds_of items) plan.picks.items plan.size) context_is (subst (λ (z : List ℕ). IsPlanned kind z context (map bounds_of items) plan.picks.items plan.size) addr_is is))
     (subst (λ (z : Context). AcceptsList r.links.addresses z (map bounds_of items) plan.potentials.items plan.size) context_is (subst (λ (z : List ℕ). AcceptsList z context (map bounds_of items) plan.potentials.items plan.size) addr_is accepted))
-    few other
+    lists few other
 
-pub recorded_by : (r : Reading) (kind : ListKind) (old : ListRead) (list : HeldList) → HoldsList r.links kind old list → (items : List Item) → list.meaning ≡ Live items → OneSaying → OneWalk → ShortestLists → PlannedLeast →
+pub recorded_by : {classes : Classes} → classes.lists ≡ true → (r : Reading) (kind : ListKind) (old : ListRead) (list : HeldList) → HoldsList r.links kind old list → (items : List Item) → list.meaning ≡ Live items → OneSaying → OneWalk → ShortestLists → PlannedLeast →
     (addr : List ℕ) → AreBytes addr → addr ≡ r.links.addresses → (context : Context) (owner : ℕ) → list.owner ≡ Some owner → context ≡ context_at r.links owner → (plan : Plan) →
-    IsPlanned kind addr context (map bounds_of items) plan.picks.items plan.size → AcceptsList addr context (map bounds_of items) plan.potentials.items plan.size → AreGreatest addr context (map bounds_of items) plan.potentials.items → IsRecordedFor r kind old plan.potentials.items
-recorded_by r kind old list held items live saying walk shortest planned addr small addr_is context owner owner_is context_is plan is accepted greatest =
+    IsPlanned kind addr context (map bounds_of items) plan.picks.items plan.size → AcceptsList addr context (map bounds_of items) plan.potentials.items plan.size → AreGreatest addr context (map bounds_of items) plan.potentials.items → IsRecordedFor classes r kind old plan.potentials.items
+recorded_by lists r kind old list held items live saying walk shortest planned addr small addr_is context owner owner_is context_is plan is accepted greatest =
     live_recorded r kind old list held items live saying walk shortest planned (subst (λ (z : List ℕ). AreBytes z) addr_is small) owner owner_is plan.potentials.items plan
     (subst (λ (z : Context). IsPlanned kind r.links.addresses z (map bounds_of items) plan.picks.items plan.size) context_is (subst (λ (z : List ℕ). IsPlanned kind z context (map bounds_of items) plan.picks.items plan.size) addr_is is))
     (subst (λ (z : Context). AcceptsList r.links.addresses z (map bounds_of items) plan.potentials.items plan.size) context_is (subst (λ (z : List ℕ). AcceptsList z context (map bounds_of items) plan.potentials.items plan.size) addr_is accepted))
+    lists
     (subst (λ (z : Context). AreGreatest r.links.addresses z (map bounds_of items) plan.potentials.items) context_is (subst (λ (z : List ℕ). AreGreatest z context (map bounds_of items) plan.potentials.items) addr_is greatest))
 
 -- what is written by a plan is written by another with the same entries and the same size
-pub same_plan : (world : World) (kind : ListKind) (list : HeldList) (plan other : Plan) → (other.picks.items ≡ plan.picks.items) × (other.size ≡ plan.size) → IsPlanOf world kind list plan → IsPlanOf world kind list other
-same_plan world kind list plan other (picks, size) is r old named holds held =
+pub same_plan : {classes : Classes} → (world : World) (kind : ListKind) (list : HeldList) (plan other : Plan) → (other.picks.items ≡ plan.picks.items) × (other.size ≡ plan.size) → IsPlanOf classes world kind list plan → IsPlanOf classes world kind list other
+same_plan {classes} world kind list plan other (picks, size) is r old named holds held =
     let written : List Pick → ℕ → ToWrite = λ (entries : List Pick) (bytes : ℕ). record { part = list.part; at = list.at; picks = entries; size = bytes; expressions = (to_write named).expressions; views = (to_write named).views } in
-    subst (λ (z : ℕ). IsPlannedFor r kind old (written other.picks.items z)) (sym size) (subst (λ (z : List Pick). IsPlannedFor r kind old (written z plan.size)) (sym picks) (is r old named holds held))
+    subst (λ (z : ℕ). IsPlannedFor classes r kind old (written other.picks.items z)) (sym size) (subst (λ (z : List Pick). IsPlannedFor classes r kind old (written z plan.size)) (sym picks) (is r old named holds held))
 
--- ---- a list that is frozen
+-- ---- a list that is kept
 
 operand_fits : (operand : Operand) (value : ℕ) (bytes : List ℕ) → SpellsOperand operand value bytes → FitsOperand operand value
 operand_fits Absent value bytes s = s.1
@@ -362,34 +372,48 @@ pub list_said : (kind : ListKind) (section : List ℕ) (part : Contribution) (at
 list_said Ranges section part at raws read = let s = ranges_said at raws read.entries read.front read.read in (read.entries, s.0, s.1)
 list_said Locations section part at raws read = let s = locations_said at raws read.entries read.front read.read in (entries_of read.entries, s.0, s.1)
 
-module _ (r : Reading) (kind : ListKind) (old : ListRead) (list : HeldList) (held : HoldsList r.links kind old list) (dead : list.meaning ≡ Dead) (saying : OneSaying) (frozen_least : FrozenLeast) (plan : Plan) where
-  frozen : IsFrozen r.links kind old
-  frozen = subst (λ (z : Meaning). HoldsMeaning r.links kind old list.owner z) dead held.meaning
+module _ (r : Reading) (kind : ListKind) (old : ListRead) (list : HeldList) (held : HoldsList r.links kind old list) (saying : OneSaying) (frozen_least : FrozenLeast) (plan : Plan) where
+  is_frozen : list.meaning ≡ Dead → IsFrozen r.links kind old
+  is_frozen dead = subst (λ (z : Meaning). HoldsMeaning r.links kind old list.owner z) dead held.meaning
 
-  said_held : AreSaid kind list.raw frozen.0
-  said_held = subst (λ (z : List RawEntry). AreSaid kind z frozen.0) (sym held.raws) frozen.1
+  -- it says entries, whatever it means
+  entries_as : (m : Meaning) → list.meaning ≡ m → (entries : List Entry) × AreSaid kind old.raws entries
+  entries_as (Live items) live = let says = meaning r kind old list held items live in (says.entries, says.said)
+  entries_as Dead dead = let frozen = is_frozen dead in (frozen.0, frozen.1)
 
-  pub frozen_planned : ((entries : List Entry) → AreSaid kind list.raw entries → ArePicks kind plan.picks.items entries) → ((entries : List Entry) → AreSaid kind list.raw entries → plan.size ≡ entries_bytes entries + 1) → (other : NamedList) → IsPlannedFor r kind old (to_write (with_plan list plan other))
-  frozen_planned picked bytes other = record {
+  own : (entries : List Entry) × AreSaid kind old.raws entries
+  own = entries_as list.meaning refl
+
+  said_held : AreSaid kind list.raw own.0
+  said_held = subst (λ (z : List RawEntry). AreSaid kind z own.0) (sym held.raws) own.1
+
+  is_kept : (classes : Classes) → (classes.lists ≡ false) ⊎ (list.meaning ≡ Dead) → IsKept classes r.links kind old
+  is_kept classes kept = elim kept [
+    | inl all ↦ inl all
+    | inr dead ↦ inr (is_frozen dead)
+  ]
+
+  pub kept_planned : {classes : Classes} → (classes.lists ≡ false) ⊎ (list.meaning ≡ Dead) → ((entries : List Entry) → AreSaid kind list.raw entries → ArePicks kind plan.picks.items entries) → ((entries : List Entry) → AreSaid kind list.raw entries → plan.size ≡ entries_bytes entries + 1) → (other : NamedList) → IsPlannedFor classes r kind old (to_write (with_plan list plan other))
+  kept_planned {classes} because picked bytes other = record {
     part = held.part;
     at = held.at;
-    entries = frozen.0;
-    picked = picked frozen.0 said_held;
-    size = bytes frozen.0 said_held;
-    few = omega (arith, said_count kind old.raws frozen.0 frozen.1);
+    entries = own.0;
+    picked = picked own.0 said_held;
+    size = bytes own.0 said_held;
+    few = omega (arith, said_count kind old.raws own.0 own.1);
     same = λ before said. record {
-      live = λ free u bounds own gives. absurd (free frozen);
-      frozen = λ kept. saying kind old.raws frozen.0 before frozen.1 said;
+      live = λ free u bounds owns gives. subst (λ (z : List Entry). Give r.links.addresses (context_at r.links u) z bounds) (saying kind old.raws before own.0 said own.1) gives;
+      kept = λ kept. saying kind old.raws own.0 before own.1 said;
     };
     least = λ bytes short. record {
-      live = λ free u before bounds own said gives. absurd (free frozen);
-      frozen = λ kept before said. subst (λ (z : List Entry). IsLeastFrozen kind z bytes) (saying kind old.raws frozen.0 before frozen.1 said) (frozen_least kind frozen.0 bytes short);
+      live = λ free u before bounds owns said gives. absurd (free (is_kept classes because));
+      kept = λ kept before said. subst (λ (z : List Entry). IsLeastFrozen kind z bytes) (saying kind old.raws own.0 before own.1 said) (frozen_least kind own.0 bytes short);
     };
   }
 
 -- ---- the bytes of a list that is planned
 
-pub planned_most : (r : Reading) (kind : ListKind) (old : ListRead) (written : ToWrite) → IsPlannedFor r kind old written → written.size ≤ 42 * length old.raws + 1
+pub planned_most : {classes : Classes} → (r : Reading) (kind : ListKind) (old : ListRead) (written : ToWrite) → IsPlannedFor classes r kind old written → written.size ≤ 42 * length old.raws + 1
 planned_most r kind old written is = omega (arith, is.size, is.few, picked_most kind written.picks is.entries is.picked)
 
 -- ---- what is held

@@ -1,10 +1,11 @@
--- The records of the lists of a kind, one after the other: those of the lists that aren't frozen.
-use Rattle.std.proofs.Common.{◌≡◌, ◌<◌, ◌+◌, ◌++◌, ◌∙◌, ℕ, suc, List, [], ◌∷◌, length, get_or, map, inl, inr, sym, ap, refl, subst, arith}
-use Rattle.std.specs.Prelude.{◌≢◌, slice_index}
+-- The records of the lists of a kind, one after the other: those of the lists that aren't kept.
+use Rattle.std.proofs.Common.{◌≡◌, true, false, ◌<◌, ◌+◌, ◌++◌, ◌∙◌, ℕ, suc, List, [], ◌∷◌, length, get_or, map, inl, inr, sym, ap, refl, subst, arith}
+use Rattle.std.specs.Prelude.{◌≢◌, ◌⊎◌, slice_index}
 use Rattle.std.specs.List.{All, AllZip, Contains}
-use Rattle.std.proofs.lemmas.Bool.{cases_lt}
+use Rattle.std.proofs.lemmas.Bool.{cases_Bool, cases_lt}
 use Rattle.std.proofs.lemmas.List.{get_or_append_left, get_or_push, get_or_default, length_push, map-append}
 use Rattle.std.proofs.lemmas.List.Elements.{All-nil, All-push, All-weaker, All-get_or, Contains-append_left, Contains-push}
+use Rattle.dw_base.specs.declared.classes.Classes.{Classes}
 use Rattle.spelled.specs.Spelled.{Joined, Appends}
 use Rattle.spelled.proofs.Joins.{joined_push}
 use Rattle.leb_codec.specs.Records.{Record, OfList, SpellsRecord}
@@ -12,6 +13,7 @@ use Rattle.list_model.specs.declared.entry.ListKind.{ListKind}
 use Rattle.list_model.specs.declared.item.Meaning.{Meaning}
 use Rattle.list_model.specs.declared.item.Meaning.TheVariants.{Live, Dead}
 use Rattle.list_arena.specs.Held.{HeldList}
+use Rattle.written_files.specs.Kept.{IsKept}
 use Rattle.written_files.specs.Layouts.{AreNumbersOf}
 use Rattle.value_links.specs.Lists.{IsFrozen}
 use Rattle.value_links.specs.Reading.{ListRead, Linkable, Reading, lists_of, list_at}
@@ -20,6 +22,7 @@ use Rattle.rewriter.specs.inside.Plans.{ArePotentialsOf, AreRecordedTo}
 use Rattle.rewriter.specs.inside.Lists.{IsRecordedFor, AreListsRecorded}
 use Rattle.rewriter.proofs.Links.{some_of}
 use Rattle.rewriter.proofs.MovedSlots.{zip_append}
+use Rattle.rewriter.proofs.PlannedLists.{not_kept}
 
 -- ---- numbers of which something holds
 
@@ -93,50 +96,60 @@ module _ (world : World) (kind : ListKind) where
   abbrev held_at : ℕ → HeldList → HeldList
   held_at k d = get_or (lists_held world kind) k d
 
-  abbrev IsLiveAt : ℕ → Type 0
-  IsLiveAt k = (d : HeldList) → (held_at k d).meaning ≢ Dead
+  abbrev IsLiveAt : Classes → ℕ → Type 0
+  IsLiveAt classes k = (classes.lists ≡ true) × ((d : HeldList) → (held_at k d).meaning ≢ Dead)
 
-  abbrev HasPotentials : ℕ → List ℕ → Type 0
-  HasPotentials k each = (d : HeldList) → ArePotentialsOf world kind (held_at k d) each
+  abbrev HasPotentials : Classes → ℕ → List ℕ → Type 0
+  HasPotentials classes k each = (d : HeldList) → ArePotentialsOf classes world kind (held_at k d) each
 
-  pub recorded_none : (records : List ℕ) → records ≡ [] → AreRecordedTo world kind 0 records
-  recorded_none records none = record { numbers = []; live = no_numbers IsLiveAt; potentials = []; recorded = tt; spelled = none }
+  pub recorded_none : {classes : Classes} → (records : List ℕ) → records ≡ [] → AreRecordedTo classes world kind 0 records
+  recorded_none {classes} records none = record { numbers = []; live = no_numbers (IsLiveAt classes); potentials = []; recorded = tt; spelled = none }
 
   -- the list behind them, which is live or dead
-  module _ (n : ℕ) (records new : List ℕ) (old : AreRecordedTo world kind n records) (list : HeldList) (inside : n < length (lists_held world kind)) (is : list ≡ get_or (lists_held world kind) n list) where
+  module _ {classes : Classes} (n : ℕ) (records new : List ℕ) (old : AreRecordedTo classes world kind n records) (list : HeldList) (inside : n < length (lists_held world kind)) (is : list ≡ get_or (lists_held world kind) n list) where
     same : (d : HeldList) → list ≡ held_at n d
     same d = is ∙ get_or_default (lists_held world kind) n list d inside
 
-    recorded_live : (potentials : List ℕ) → list.meaning ≢ Dead → ArePotentialsOf world kind list potentials → Appends SpellsRecord (OfList potentials) records new → AreRecordedTo world kind (n + 1) new
-    recorded_live potentials live are (bytes, spelled, whole) = record {
+    recorded_live : (potentials : List ℕ) → classes.lists ≡ true → list.meaning ≢ Dead → ArePotentialsOf classes world kind list potentials → Appends SpellsRecord (OfList potentials) records new → AreRecordedTo classes world kind (n + 1) new
+    recorded_live potentials lists live are (bytes, spelled, whole) = record {
       numbers = old.numbers ++ n ∷ [];
-      live = number_more IsLiveAt n old.numbers old.live (λ d. subst (λ (z : HeldList). z.meaning ≢ Dead) (same d) live);
+      live = number_more (IsLiveAt classes) n old.numbers old.live (lists, λ d. subst (λ (z : HeldList). z.meaning ≢ Dead) (same d) live);
       potentials = old.potentials ++ potentials ∷ [];
-      recorded = zip_append HasPotentials old.numbers (n ∷ []) old.potentials (potentials ∷ []) old.recorded (λ d. subst (λ (z : HeldList). ArePotentialsOf world kind z potentials) (same d) are, tt);
+      recorded = zip_append (HasPotentials classes) old.numbers (n ∷ []) old.potentials (potentials ∷ []) old.recorded (λ d. subst (λ (z : HeldList). ArePotentialsOf classes world kind z potentials) (same d) are, tt);
       spelled =
           subst (λ (z : List ℕ). Joined SpellsRecord (map OfList (old.potentials ++ potentials ∷ [])) z) (sym whole)
           (subst (λ (z : List Record). Joined SpellsRecord z (records ++ bytes)) (sym (map-append OfList old.potentials (potentials ∷ []))) (joined_push SpellsRecord (map OfList old.potentials) (OfList potentials) records bytes old.spelled spelled));
     }
 
-    recorded_dead : list.meaning ≡ Dead → new ≡ records → AreRecordedTo world kind (n + 1) new
-    recorded_dead dead kept = record {
+    recorded_kept : (classes.lists ≡ true → list.meaning ≡ Dead) → new ≡ records → AreRecordedTo classes world kind (n + 1) new
+    recorded_kept dead kept = record {
       numbers = old.numbers;
-      live = number_less IsLiveAt n old.numbers old.live (λ live. live list (ap (λ (z : HeldList). z.meaning) (sym is) ∙ dead));
+      live = number_less (IsLiveAt classes) n old.numbers old.live (λ (lists, live). live list (ap (λ (z : HeldList). z.meaning) (sym is) ∙ dead lists));
       potentials = old.potentials;
       recorded = old.recorded;
       spelled = subst (λ (z : List ℕ). Joined SpellsRecord (map OfList old.potentials) z) (sym kept) old.spelled;
     }
 
-    by_meaning : (meaning : Meaning) → list.meaning ≡ meaning → (potentials : List ℕ) → (list.meaning ≢ Dead → ArePotentialsOf world kind list potentials) → (list.meaning ≢ Dead → Appends SpellsRecord (OfList potentials) records new) → (list.meaning ≡ Dead → new ≡ records) → AreRecordedTo world kind (n + 1) new
+    by_meaning : (meaning : Meaning) → list.meaning ≡ meaning → (potentials : List ℕ) → (classes.lists ≡ true → list.meaning ≢ Dead → ArePotentialsOf classes world kind list potentials) → (classes.lists ≡ true → list.meaning ≢ Dead → Appends SpellsRecord (OfList potentials) records new) → ((classes.lists ≡ false) ⊎ (list.meaning ≡ Dead) → new ≡ records) → AreRecordedTo classes world kind (n + 1) new
     by_meaning (Live items) means potentials are appends kept =
         let live : list.meaning ≢ Dead = λ dead. (let apart : Live items ≡ Dead = sym means ∙ dead in cc (apart)) in
-        recorded_live potentials live (are live) (appends live)
-    by_meaning Dead means potentials are appends kept = recorded_dead means (kept means)
+        elim (cases_Bool classes.lists) [
+          | inl lists ↦ recorded_live potentials lists live (are lists live) (appends lists live)
+          | inr all ↦ recorded_kept (λ lists. absurd (cc (lists, all))) (kept (inl all))
+        ]
+    by_meaning Dead means potentials are appends kept = recorded_kept (λ lists. means) (kept (inr means))
 
-    pub recorded_more : (potentials : List ℕ) → (list.meaning ≢ Dead → ArePotentialsOf world kind list potentials) → (list.meaning ≢ Dead → Appends SpellsRecord (OfList potentials) records new) → (list.meaning ≡ Dead → new ≡ records) → AreRecordedTo world kind (n + 1) new
+    pub recorded_more : (potentials : List ℕ) → (classes.lists ≡ true → list.meaning ≢ Dead → ArePotentialsOf classes world kind list potentials) → (classes.lists ≡ true → list.meaning ≢ Dead → Appends SpellsRecord (OfList potentials) records new) → ((classes.lists ≡ false) ⊎ (list.meaning ≡ Dead) → new ≡ records) → AreRecordedTo classes world kind (n + 1) new
     recorded_more = by_meaning list.meaning refl
 
   -- ---- all lists
+
+  -- a list that isn't kept is one of classes that have other entries
+  some_lists : (classes : Classes) (r : Linkable) (other : ListKind) (list : ListRead) → (¬ IsKept classes r other list) → classes.lists ≡ true
+  some_lists classes r other list free = elim (cases_Bool classes.lists) [
+    | inl lists ↦ lists
+    | inr all ↦ absurd (free (inl all))
+  ]
 
   -- a list is frozen exactly where it is held as dead
   live_read : (r : Linkable) (list : ListRead) (held : HeldList) (meaning : Meaning) → held.meaning ≡ meaning → HoldsList r kind list held → held.meaning ≢ Dead → ¬ IsFrozen r kind list
@@ -146,19 +159,19 @@ module _ (world : World) (kind : ListKind) where
   live_held : (r : Linkable) (list : ListRead) (held : HeldList) → HoldsList r kind list held → (¬ IsFrozen r kind list) → held.meaning ≢ Dead
   live_held r list held holds free = λ dead. free (subst (λ (z : Meaning). HoldsMeaning r kind list held.owner z) dead holds.meaning)
 
-  pub all_recorded : (count : ℕ) (records : List ℕ) → count ≡ length (lists_held world kind) → AreRecordedTo world kind count records → (r : Reading) → Holds world.image world r → AreListsRecorded r kind records
-  all_recorded count records whole recorded r holds = record {
+  pub all_recorded : {classes : Classes} → (count : ℕ) (records : List ℕ) → count ≡ length (lists_held world kind) → AreRecordedTo classes world kind count records → (r : Reading) → Holds world.image world r → AreListsRecorded classes r kind records
+  all_recorded {classes} count records whole recorded r holds = record {
     numbers = recorded.numbers;
-    live = numbers_for IsLiveAt IsFree count (length (lists_of r kind)) size free held_live recorded.numbers recorded.live;
+    live = numbers_for (IsLiveAt classes) IsFree count (length (lists_of r kind)) size free held_live recorded.numbers recorded.live;
     potentials = recorded.potentials;
-    recorded = zip_for (λ (k : ℕ). (k < count) × IsLiveAt k) HasPotentials (λ (k : ℕ) (each : List ℕ). IsRecordedFor r kind (list_at (lists_of r kind) k) each) (λ k each (less, live) are. (
+    recorded = zip_for (λ (k : ℕ). (k < count) × IsLiveAt classes k) (HasPotentials classes) (λ (k : ℕ) (each : List ℕ). IsRecordedFor classes r kind (list_at (lists_of r kind) k) each) (λ k each (less, live) are. (
         let d = some k less in are d r (list_at (lists_of r kind) k) holds (held k less)
         )) recorded.numbers recorded.potentials recorded.live.those recorded.recorded;
     spelled = recorded.spelled;
   }
     where
       IsFree : ℕ → Type 0
-      IsFree k = ¬ IsFrozen r.links kind (list_at (lists_of r kind) k)
+      IsFree k = ¬ IsKept classes r.links kind (list_at (lists_of r kind) k)
 
       size : count ≡ length (lists_of r kind)
       size = whole ∙ (holds.lists kind).count
@@ -169,8 +182,8 @@ module _ (world : World) (kind : ListKind) where
       held : (k : ℕ) (less : k < count) → HoldsList r.links kind (list_at (lists_of r kind) k) (held_at k (some k less))
       held k less = (holds.lists kind).each k (some k less) (omega (arith, size, less))
 
-      free : (k : ℕ) → k < count → IsLiveAt k → IsFree k
-      free k less live = live_read r.links (list_at (lists_of r kind) k) (held_at k (some k less)) (held_at k (some k less)).meaning refl (held k less) (live (some k less))
+      free : (k : ℕ) → k < count → IsLiveAt classes k → IsFree k
+      free k less (lists, live) = not_kept classes r.links kind (list_at (lists_of r kind) k) lists (live_read r.links (list_at (lists_of r kind) k) (held_at k (some k less)) (held_at k (some k less)).meaning refl (held k less) (live (some k less)))
 
-      held_live : (k : ℕ) → k < count → IsFree k → IsLiveAt k
-      held_live k less is_free = λ d. live_held r.links (list_at (lists_of r kind) k) (held_at k d) ((holds.lists kind).each k d (omega (arith, size, less))) is_free
+      held_live : (k : ℕ) → k < count → IsFree k → IsLiveAt classes k
+      held_live k less is_free = (some_lists classes r.links kind (list_at (lists_of r kind) k) is_free, λ d. live_held r.links (list_at (lists_of r kind) k) (held_at k d) ((holds.lists kind).each k d (omega (arith, size, less))) (λ frozen. is_free (inr frozen)))

@@ -6,6 +6,7 @@ use Rattle.std.specs.List.{sum_by}
 use Rattle.std.proofs.lemmas.Bool.{cases_eq, cond_both, cond-true, eqb-true, eq-eqb}
 use Rattle.std.proofs.lemmas.List.{take_all}
 use Rattle.std.proofs.lemmas.List.Sums.{sum_by-cons, sum_by_more}
+use Rattle.dw_base.specs.declared.classes.Classes.{Classes}
 use Rattle.dw_base.specs.declared.fault.Reach.{Reach}
 use Rattle.elf_place.proofs.Totals.{total, total-le}
 use Rattle.abbrev_tables.specs.Listings.{decl_at}
@@ -190,7 +191,7 @@ module _ (world : World) (reach : Reach) (is : IsWorldOf world.image reach world
       omega (arith, same, most)
 
   -- a section with one table more has at most the bytes of that table more
-  pub table_more : (i : ℕ) → i < length world.tables → (before section : List ℕ) (new : TableAnew) → IsAppended (table_at world.tables i).table (counts_in all i) before section new → AreColumnsChosen world.units (table_at world.tables i) new.columns → length before ≤ total (tables_most world.tables all) i → length section ≤ total (tables_most world.tables all) (i + 1)
+  pub table_more : {classes : Classes} → (i : ℕ) → i < length world.tables → (before section : List ℕ) (new : TableAnew) → IsAppended (table_at world.tables i).table (counts_in all i) before section new → AreColumnsChosen classes world.units (table_at world.tables i) new.columns → length before ≤ total (tables_most world.tables all) i → length section ≤ total (tables_most world.tables all) (i + 1)
   table_more i below before section new appended chosen few =
       let old : NamedTable = table_at world.tables i in
       let uses = counted.each i below in

@@ -6,6 +6,7 @@ use Rattle.std.proofs.lemmas.Bool.{cases_lt}
 use Rattle.std.proofs.lemmas.List.{get_or-map, length-map, nil_from_length}
 use Rattle.std.proofs.lemmas.List.Elements.{All-nil, All-cons, All-head, All-tail, All-map, All-get_or, All-from_get_or}
 use Rattle.std.proofs.lemmas.Grind.{same_number_lists}
+use Rattle.dw_base.specs.declared.classes.Classes.{Classes}
 use Rattle.spelled.specs.Spelled.{Joined}
 use Rattle.dw_base.specs.declared.fault.Reach.TheVariants.{Narrow}
 use Rattle.dw_base.specs.declared.record.Run.{Run}
@@ -16,7 +17,7 @@ use Rattle.line_sums.specs.Accepted.{AreLeastRuns}
 use Rattle.line_write.specs.Meaning.{ProgramMeaning, HaveMeanings}
 use Rattle.line_write.specs.Programs.{Follow as ProgramsFollow, Tile as ProgramsTile}
 use Rattle.line_write.specs.Readings.{AreRead, StandAnew}
-use Rattle.line_write.specs.Records.{HaveRuns}
+use Rattle.written_files.specs.Kept.{HaveRunsIn}
 use Rattle.line_write.proofs.ReadBack.{bounds}
 use Rattle.companions.specs.declared.set.ArangeSet.{ArangeSet}
 use Rattle.companions.specs.Aranges.{IsOutside, SetsTile, HaveUnits}
@@ -127,12 +128,12 @@ list_views of_ranges of_locations Ranges = of_ranges
 list_views of_ranges of_locations Locations = of_locations
 
 -- What the steps of the writer give, for one reading of the file.
-pub record AreParts (file : List ℕ) (world : World) (r : Reading) (tables : List NewTable) (places : List Places) (new_places : NewPlaces) (info abbrevs lines ranges locations aranges : List ℕ) (range_views location_views : List Moved) : Type 0 where
+pub record AreParts (classes : Classes) (file : List ℕ) (world : World) (r : Reading) (tables : List NewTable) (places : List Places) (new_places : NewPlaces) (info abbrevs lines ranges locations aranges : List ℕ) (range_views location_views : List Moved) : Type 0 where
   pub holds : Holds file world r
   pub stand : StandAnew (debug_line file) world.programs lines new_places.programs.items
-  pub lists : (kind : ListKind) → AreListsWritten r places kind (list_bytes ranges locations kind) (moved_lists new_places kind).parts.items (moved_lists new_places kind).lists.items (list_views range_views location_views kind)
+  pub lists : (kind : ListKind) → AreListsWritten classes r places kind (list_bytes ranges locations kind) (moved_lists new_places kind).parts.items (moved_lists new_places kind).lists.items (list_views range_views location_views kind)
   pub views : AreMovedViews world.views location_views new_places.views.items
-  pub written : AreTablesWritten world abbrevs tables
+  pub written : AreTablesWritten classes world abbrevs tables
   pub count : length places ≡ length world.units
   pub placed : (u : ℕ) → u < length world.units → IsPlacedBy world tables u (places_at places u)
   pub units : (units : List UnitRead) × AreUnitsWritten world r.links tables places new_places info abbrevs units
@@ -140,15 +141,15 @@ pub record AreParts (file : List ℕ) (world : World) (r : Reading) (tables : Li
   pub others : (k : ℕ) → IsOutside world.sets k → slice_index aranges k ≡ slice_index (debug_aranges file) k
   pub size : length aranges ≡ length (debug_aranges file)
 
-pub parts_of : {file : List ℕ} {world : World} {r : Reading} {tables : List NewTable} {places : List Places} {new_places : NewPlaces} {info abbrevs lines ranges locations aranges : List ℕ} {range_views location_views : List Moved} → Holds file world r → StandAnew (debug_line file) world.programs lines new_places.programs.items → AreListsWritten r places Ranges ranges new_places.ranges.parts.items new_places.ranges.lists.items range_views → AreListsWritten r places Locations locations new_places.locations.parts.items new_places.locations.lists.items location_views → AreMovedViews world.views location_views new_places.views.items → AreTablesWritten world abbrevs tables → length places ≡ length world.units → ((u : ℕ) → u < length world.units → IsPlacedBy world tables u (places_at places u)) → ((units : List UnitRead) × AreUnitsWritten world r.links tables places new_places info abbrevs units) → SetsTile aranges (starts_of places) world.sets → ((k : ℕ) → IsOutside world.sets k → slice_index aranges k ≡ slice_index (debug_aranges file) k) → length aranges ≡ length (debug_aranges file) → AreParts file world r tables places new_places info abbrevs lines ranges locations aranges range_views location_views
-parts_of {file} {world} {r} {tables} {places} {new_places} {info} {abbrevs} {lines} {ranges} {locations} {aranges} {range_views} {location_views} holds stand of_ranges of_locations views written count placed units tiled others size = record { holds = holds; stand = stand; lists = both; views = views; written = written; count = count; placed = placed; units = units; tiled = tiled; others = others; size = size }
+pub parts_of : {classes : Classes} → {file : List ℕ} {world : World} {r : Reading} {tables : List NewTable} {places : List Places} {new_places : NewPlaces} {info abbrevs lines ranges locations aranges : List ℕ} {range_views location_views : List Moved} → Holds file world r → StandAnew (debug_line file) world.programs lines new_places.programs.items → AreListsWritten classes r places Ranges ranges new_places.ranges.parts.items new_places.ranges.lists.items range_views → AreListsWritten classes r places Locations locations new_places.locations.parts.items new_places.locations.lists.items location_views → AreMovedViews world.views location_views new_places.views.items → AreTablesWritten classes world abbrevs tables → length places ≡ length world.units → ((u : ℕ) → u < length world.units → IsPlacedBy world tables u (places_at places u)) → ((units : List UnitRead) × AreUnitsWritten world r.links tables places new_places info abbrevs units) → SetsTile aranges (starts_of places) world.sets → ((k : ℕ) → IsOutside world.sets k → slice_index aranges k ≡ slice_index (debug_aranges file) k) → length aranges ≡ length (debug_aranges file) → AreParts classes file world r tables places new_places info abbrevs lines ranges locations aranges range_views location_views
+parts_of {classes} {file} {world} {r} {tables} {places} {new_places} {info} {abbrevs} {lines} {ranges} {locations} {aranges} {range_views} {location_views} holds stand of_ranges of_locations views written count placed units tiled others size = record { holds = holds; stand = stand; lists = both; views = views; written = written; count = count; placed = placed; units = units; tiled = tiled; others = others; size = size }
   where
-    both : (kind : ListKind) → AreListsWritten r places kind (list_bytes ranges locations kind) (moved_lists new_places kind).parts.items (moved_lists new_places kind).lists.items (list_views range_views location_views kind)
+    both : (kind : ListKind) → AreListsWritten classes r places kind (list_bytes ranges locations kind) (moved_lists new_places kind).parts.items (moved_lists new_places kind).lists.items (list_views range_views location_views kind)
     both Ranges = of_ranges
     both Locations = of_locations
 
 -- the records of the steps, which are put together in their order, are those of a certificate
-pub recorded_of : {world : World} {r : Reading} {tables : List NewTable} {places : List Places} {section lines ranges locations units certificate : List ℕ} → certificate ≡ magic ++ (lines ++ (ranges ++ (locations ++ units))) → ((runs : List (List Run)) × HaveRuns AreLeastRuns section runs × Joined SpellsRecord (map OfLines runs) lines) → AreListsRecorded r Ranges ranges → AreListsRecorded r Locations locations → AreRanksOf world tables places units → IsRecorded world r tables places section certificate
+pub recorded_of : {classes : Classes} → {world : World} {r : Reading} {tables : List NewTable} {places : List Places} {section lines ranges locations units certificate : List ℕ} → certificate ≡ magic classes ++ (lines ++ (ranges ++ (locations ++ units))) → ((runs : List (List Run)) × HaveRunsIn classes AreLeastRuns section runs × Joined SpellsRecord (map OfLines runs) lines) → AreListsRecorded classes r Ranges ranges → AreListsRecorded classes r Locations locations → AreRanksOf world tables places units → IsRecorded classes world r tables places section certificate
 recorded_of {world} {r} {tables} {places} {section} {lines} {ranges} {locations} {units} {certificate} whole (runs, has_runs, spelled) of_ranges of_locations of_units = record {
   lines = lines;
   ranges = ranges;
@@ -163,7 +164,7 @@ recorded_of {world} {r} {tables} {places} {section} {lines} {ranges} {locations}
   has_ranks = of_units;
 }
 
-module _ {file : List ℕ} {world : World} {r : Reading} {tables : List NewTable} {places : List Places} {new_places : NewPlaces} {info abbrevs lines ranges locations aranges : List ℕ} {range_views location_views : List Moved} (parts : AreParts file world r tables places new_places info abbrevs lines ranges locations aranges range_views location_views) where
+module _ {classes : Classes} {file : List ℕ} {world : World} {r : Reading} {tables : List NewTable} {places : List Places} {new_places : NewPlaces} {info abbrevs lines ranges locations aranges : List ℕ} {range_views location_views : List Moved} (parts : AreParts classes file world r tables places new_places info abbrevs lines ranges locations aranges range_views location_views) where
   units_count : length world.units ≡ length r.links.units
   units_count = ap (λ (z : List HeadAndForest). length z) parts.holds.units ∙ length-map r.links.units head_and_forest
 
@@ -221,7 +222,7 @@ module _ {file : List ℕ} {world : World} {r : Reading} {tables : List NewTable
 
   -- the lists are read again
   module _ (read : IsReading file r) (ranges_law : RangesWritten) (locations_law : LocationsWritten) where
-    read_again : (kind : ListKind) → AreReadBack r places kind (new_section kind) (moved_lists new_places kind).lists.items (list_views range_views location_views kind)
+    read_again : (kind : ListKind) → AreReadBack classes r places kind (new_section kind) (moved_lists new_places kind).lists.items (list_views range_views location_views kind)
     read_again kind = lists_anew ranges_law locations_law file r read places kind (list_bytes ranges locations kind) (moved_lists new_places kind).parts.items (moved_lists new_places kind).lists.items (list_views range_views location_views kind) (parts.lists kind)
 
     abbrev new_reading : Reading
@@ -240,7 +241,7 @@ module _ {file : List ℕ} {world : World} {r : Reading} {tables : List NewTable
       sets = r.sets;
     }
 
-    lists_are : (kind : ListKind) → AreListsAnew r places kind (of_kind new_reading.links kind) (lists_of new_reading kind) (moved_lists new_places kind)
+    lists_are : (kind : ListKind) → AreListsAnew classes r places kind (of_kind new_reading.links kind) (lists_of new_reading kind) (moved_lists new_places kind)
     lists_are Ranges = (read_again Ranges).anew new_places.ranges refl refl
     lists_are Locations = (read_again Locations).anew new_places.locations refl refl
 
@@ -278,14 +279,14 @@ module _ {file : List ℕ} {world : World} {r : Reading} {tables : List NewTable
     programs_anew = record { read = few.are; few = few.few; count = programs_count; places = program_place; means = programs_mean }
 
     -- The new sections are read, and mean what the old ones mean.
-    pub are_anew : (new : NewSections) (certificate : List ℕ) → new.info.items ≡ info → new.abbrevs.items ≡ abbrevs → new.lines.items ≡ lines → new.ranges.items ≡ ranges → new.locations.items ≡ locations → new.aranges.items ≡ aranges → IsRecorded world r tables places lines certificate → (s : Reading) × AreAnew file world r s new certificate
+    pub are_anew : (new : NewSections) (certificate : List ℕ) → new.info.items ≡ info → new.abbrevs.items ≡ abbrevs → new.lines.items ≡ lines → new.ranges.items ≡ ranges → new.locations.items ≡ locations → new.aranges.items ≡ aranges → IsRecorded classes world r tables places lines certificate → (s : Reading) × AreAnew classes file world r s new certificate
     are_anew new certificate i a l n o g recorded = (
       new_reading,
       record {
         tables = tables;
         places = places;
         new_places = new_places;
-        tables_written = subst (λ (z : List ℕ). AreTablesWritten world z tables) (sym a) parts.written;
+        tables_written = subst (λ (z : List ℕ). AreTablesWritten classes world z tables) (sym a) parts.written;
         programs = subst (λ (z : List ℕ). AreProgramsAnew (debug_line file) r.links new_reading.links z new_places) (sym l) programs_anew;
         section = sections_are new n o;
         lists = lists_are;
@@ -301,11 +302,11 @@ module _ {file : List ℕ} {world : World} {r : Reading} {tables : List NewTable
           size = ap (λ (z : List ℕ). length z) g ∙ parts.size;
           bytes = λ k outside. ap (λ (z : List ℕ). slice_index z k) g ∙ parts.others k (subst (λ (z : List ArangeSet). IsOutside z k) (sym parts.holds.sets) outside);
         };
-        recorded = subst (λ (z : List ℕ). IsRecorded world r tables places z certificate) (sym l) recorded;
+        recorded = subst (λ (z : List ℕ). IsRecorded classes world r tables places z certificate) (sym l) recorded;
       },
     )
 
-module _ {file : List ℕ} {world : World} {r : Reading} {tables : List NewTable} {places : List Places} {new_places : NewPlaces} {info abbrevs lines ranges locations aranges : List ℕ} {range_views location_views : List Moved} (parts : AreParts file world r tables places new_places info abbrevs lines ranges locations aranges range_views location_views) (read : IsReading file r) (valid : IsValid file Narrow) where
+module _ {classes : Classes} {file : List ℕ} {world : World} {r : Reading} {tables : List NewTable} {places : List Places} {new_places : NewPlaces} {info abbrevs lines ranges locations aranges : List ℕ} {range_views location_views : List Moved} (parts : AreParts classes file world r tables places new_places info abbrevs lines ranges locations aranges range_views location_views) (read : IsReading file r) (valid : IsValid file Narrow) where
   -- A section that the file lacks has no new bytes.
   pub lines_for : IsFor file line_name lines
   lines_for none =
@@ -363,10 +364,10 @@ module _ {file : List ℕ} {world : World} {r : Reading} {tables : List NewTable
 
 -- WHAT THE STEPS ASK FOR
 
-pub writable : NumbersHaveSizes → ExpressionsHaveSizes → ShortestHaveSizes → (world : World) → IsWorldOf world.image Narrow world → (abbrevs : List ℕ) (tables : List NewTable) → AreTablesWritten world abbrevs tables → AreWritable world tables
+pub writable : {classes : Classes} → NumbersHaveSizes → ExpressionsHaveSizes → ShortestHaveSizes → (world : World) → IsWorldOf world.image Narrow world → (abbrevs : List ℕ) (tables : List NewTable) → AreTablesWritten classes world abbrevs tables → AreWritable world tables
 writable numbers expressions others world is abbrevs tables written = chosen_columns_are_writable world.image world is.r abbrevs tables is.read is.holds written numbers expressions others
 
-pub taken : (world : World) → IsWorldOf world.image Narrow world → (abbrevs : List ℕ) (tables : List NewTable) → AreTablesWritten world abbrevs tables → AreTaken world tables
+pub taken : {classes : Classes} → (world : World) → IsWorldOf world.image Narrow world → (abbrevs : List ℕ) (tables : List NewTable) → AreTablesWritten classes world abbrevs tables → AreTaken world tables
 taken world is abbrevs tables written = chosen_columns_are_taken world.image world is.r abbrevs tables is.read is.holds written
 
 pub lines_read : (world : World) → IsWorldOf world.image Narrow world → (section : List ℕ) (heads : List Head) → section ≡ debug_line world.image → heads ≡ world.programs → AreRead section heads
@@ -375,6 +376,16 @@ lines_read world is section heads e f =
     let all = programs_read (debug_line world.image) is.r.links.programs is.read.links.programs few in
     let here = subst (λ (z : List ℕ). AreRead z (line_heads is.r.links.programs)) (sym e) all in
     subst (λ (z : List Head). AreRead section z) (sym (f ∙ is.holds.programs)) here
+
+-- programs that are kept stand where they stood, and mean what they meant
+pub lines_kept : (world : World) → IsWorldOf world.image Narrow world → (bytes starts : List ℕ) → bytes ≡ debug_line world.image → starts ≡ map (λ (head : Head). head.at) world.programs → StandAnew (debug_line world.image) world.programs bytes starts
+lines_kept world is bytes starts same places = record {
+  written = world.programs;
+  read = lines_read world is bytes world.programs same refl;
+  places = places;
+  count = refl;
+  means = λ meanings have. subst (λ (z : List ℕ). HaveMeanings z world.programs meanings) (sym same) have;
+}
 
 heads_below : (section : List ℕ) (heads : List Head) (a e : ℕ) → ProgramsFollow section heads a e → All (λ (h : Head). h.at < length section) heads
 heads_below section [] a e follow = All-nil (λ (h : Head). h.at < length section)

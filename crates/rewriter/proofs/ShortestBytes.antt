@@ -154,9 +154,9 @@ abbrev plain : Shape → Bool
 plain (ByUleb r) = is_leb r
 plain s = true
 
-plain_form : (f : Form) (c : ℤ) → plain (shape_of f c) ≡ true
-plain_form form.Udata c = refl
-plain_form f c = refl
+plain_form : (f : Form) (name : ℕ) (c : ℤ) → plain (shape_of f name c) ≡ true
+plain_form form.Udata name c = refl
+plain_form f name c = refl
 
 shape_fewest : (s : Shape) (m : Meaning) (bytes : List ℕ) → plain s ≡ true → AreBytes bytes → SpellsShape s m bytes → (few : List ℕ) × AreFewest s m few
 shape_fewest (Constant v) m bytes e small p = (bytes, record { small = small; spelled = p; fewest = λ others q. omega (arith, ap length p.0) })
@@ -170,9 +170,9 @@ shape_fewest Sixteen m bytes e small p = (bytes, record { small = small; spelled
 shape_fewest ZeroEnded m bytes e small p = (bytes, text_fewest m bytes small p)
 
 -- none is shorter under another constant
-none_shorter : (f : Form) (c d : ℤ) (m : Meaning) (bytes others : List ℕ) → AreFewest (shape_of f c) m bytes → SpellsShape (shape_of f d) m others → length bytes ≤ length others
-none_shorter form.ImplicitConst c d m bytes others p q = omega (arith, ap length p.spelled.0)
-none_shorter f c d m bytes others p q = p.fewest others q
+none_shorter : (f : Form) (name : ℕ) (c d : ℤ) (m : Meaning) (bytes others : List ℕ) → AreFewest (shape_of f name c) m bytes → SpellsShape (shape_of f name d) m others → length bytes ≤ length others
+none_shorter form.ImplicitConst name c d m bytes others p q = omega (arith, ap length p.spelled.0)
+none_shorter f name c d m bytes others p q = p.fewest others q
 
 abbrev is_flag : Form → Bool
 is_flag form.Flag = true
@@ -196,9 +196,9 @@ one_byte : (byte k : ℕ) → byte ≤ 1 → k < length (byte ∷ []) → get_or
 one_byte byte zero low inside = low
 one_byte byte (suc k) low inside = absurd (omega arith)
 
-flag_shortest : (code : ℕ) (c : ℤ) (m : Meaning) (bytes : List ℕ) → code_of form.Flag ≡ code → SpellsValue code c m bytes → (few : List ℕ) × SpellsShortest code m few
-flag_shortest code c m bytes known s =
-    let p = in_form code form.Flag c m bytes known s in
+flag_shortest : (name code : ℕ) (c : ℤ) (m : Meaning) (bytes : List ℕ) → code_of form.Flag ≡ code → SpellsValue name code c m bytes → (few : List ℕ) × SpellsShortest name code m few
+flag_shortest name code c m bytes known s =
+    let p = in_form name code form.Flag c m bytes known s in
     let b = flag_byte (nat_le 1 (number 1 bytes)) in
     let low : (k : ℕ) → k < length (b.0 ∷ []) → get_or (b.0 ∷ []) k 0 ≤ 1 = λ k inside. one_byte b.0 k b.1.low inside in (
       b.0 ∷ [],
@@ -210,24 +210,24 @@ flag_shortest code c m bytes known s =
           small = λ k inside. (let few : get_or (b.0 ∷ []) k 0 ≤ 1 = low k inside in omega arith);
           spelled = (refl, p.1 ∙ ap (λ (z : Bool). IsSet z) b.1.means);
         };
-        shortest = λ other others t. (let q = in_form code form.Flag other m others known t in omega (arith, q.0));
+        shortest = λ other others t. (let q = in_form name code form.Flag other m others known t in omega (arith, q.0));
         flag = λ is k inside. low k inside;
       },
     )
 
 -- A value that is spelled has shortest bytes in the form that spells it.
-pub shortest_bytes : (code : ℕ) (c : ℤ) (m : Meaning) (bytes : List ℕ) → SpellsValue code c m bytes → (few : List ℕ) × SpellsShortest code m few
-shortest_bytes code c m bytes s =
+pub shortest_bytes : (name code : ℕ) (c : ℤ) (m : Meaning) (bytes : List ℕ) → SpellsValue name code c m bytes → (few : List ℕ) × SpellsShortest name code m few
+shortest_bytes name code c m bytes s =
     elim (cases_Bool (is_flag s.form)) [
-      | inl is ↦ flag_shortest code c m bytes (sym (ap code_of (flag_form s.form is)) ∙ s.known) s
+      | inl is ↦ flag_shortest name code c m bytes (sym (ap code_of (flag_form s.form is)) ∙ s.known) s
       | inr other ↦
           let f : Form = s.form in
-          let few = shape_fewest (shape_of f c) m bytes (plain_form f c) s.small s.spelled in (
+          let few = shape_fewest (shape_of f name c) m bytes (plain_form f name c) s.small s.spelled in (
             few.0,
             record {
               constant = c;
               spelled = record { form = f; known = s.known; small = few.1.small; spelled = few.1.spelled };
-              shortest = λ d others t. none_shorter f c d m few.0 others few.1 (in_form code f d m others s.known t);
+              shortest = λ d others t. none_shorter f name c d m few.0 others few.1 (in_form name code f d m others s.known t);
               flag = λ is. absurd (let same : is_flag f ≡ true = ap is_flag (code_once f form.Flag (s.known ∙ is)) in cc (same, other));
             },
           )

@@ -16,39 +16,43 @@ use Rattle.entry_arena.specs.Arena.{value_at}
 use Rattle.unit_write.specs.Values.{is_moving, HasSize, HaveSize}
 use Rattle.unit_write.specs.Sizes.{HoldsNumber, NumbersHaveSizes, ExpressionsHaveSizes, ShortestHaveSizes}
 use Rattle.unit_write.specs.inside.Puts.{shape_moves}
-use Rattle.unit_write.proofs.ValueLaws.{shape_is, expr_form}
+use Rattle.unit_write.proofs.ValueLaws.{shape_is, constant_stays, expr_form}
 use Rattle.rewriter.proofs.ShortestBytes.{shortest_bytes}
 use Rattle.rewriter.proofs.ColumnLaws.{IsSpelledBy}
 
 -- A form that is written and spells a reference or a section offset is the one in which it is written: of those that spell a reference
 -- within a unit that is DW_FORM_ref_udata alone.
-holds_number : (f : Form) (c : ℤ) (m : Meaning) (bytes : List ℕ) → shape_moves (shape_of f c) ≡ true → is_written f ≡ true → SpellsShape (shape_of f c) m bytes → HoldsNumber (code_of f) m
-holds_number form.Ref1 c m bytes moves written p = absurd (cc (written))
-holds_number form.Ref2 c m bytes moves written p = absurd (cc (written))
-holds_number form.Ref4 c m bytes moves written p = absurd (cc (written))
-holds_number form.Ref8 c m bytes moves written p = absurd (cc (written))
-holds_number form.RefUdata c m bytes moves written p = subst (HoldsNumber 21) (sym p.2) refl
-holds_number form.RefAddr c m bytes moves written p = subst (HoldsNumber 16) (sym p.1) refl
-holds_number form.SecOffset c m bytes moves written p = subst (HoldsNumber 23) (sym p.1) refl
-holds_number f c m bytes moves written p = absurd (cc (moves))
+holds_number : (f : Form) (name : ℕ) (c : ℤ) (m : Meaning) (bytes : List ℕ) → shape_moves (shape_of f name c) ≡ true → is_written f ≡ true → SpellsShape (shape_of f name c) m bytes → HoldsNumber (code_of f) m
+holds_number form.Ref1 name c m bytes moves written p = absurd (cc (written))
+holds_number form.Ref2 name c m bytes moves written p = absurd (cc (written))
+holds_number form.Ref4 name c m bytes moves written p = absurd (cc (written))
+holds_number form.Ref8 name c m bytes moves written p = absurd (cc (written))
+holds_number form.RefUdata name c m bytes moves written p = subst (HoldsNumber 21) (sym p.2) refl
+holds_number form.RefAddr name c m bytes moves written p = subst (HoldsNumber 16) (sym p.1) refl
+holds_number form.SecOffset name c m bytes moves written p = subst (HoldsNumber 23) (sym p.1) refl
+holds_number form.Data1 name c m bytes moves written p = absurd (cc (constant_stays name, moves))
+holds_number form.Data2 name c m bytes moves written p = absurd (cc (constant_stays name, moves))
+holds_number form.Data4 name c m bytes moves written p = absurd (cc (constant_stays name, moves))
+holds_number form.Data8 name c m bytes moves written p = absurd (cc (constant_stays name, moves))
+holds_number f name c m bytes moves written p = absurd (cc (moves))
 
 -- so a column whose form can be chosen, and which spells such a value, has that form
-pub number_held : (column : Spec) (m : Meaning) (bytes : List ℕ) → is_moving m ≡ true → IsChoice column.form → SpellsValue column.form column.constant m bytes → HoldsNumber column.form m
+pub number_held : (column : Spec) (m : Meaning) (bytes : List ℕ) → is_moving m ≡ true → IsChoice column.form → SpellsValue column.name column.form column.constant m bytes → HoldsNumber column.form m
 number_held column m bytes moves choice s =
-    let shape : shape_moves (shape_of s.form column.constant) ≡ true = sym (shape_is (shape_of s.form column.constant) m bytes s.spelled) ∙ moves in
+    let shape : shape_moves (shape_of s.form column.name column.constant) ≡ true = sym (shape_is (shape_of s.form column.name column.constant) m bytes s.spelled) ∙ moves in
     let written : is_written s.form ≡ true = ap is_written (code_once s.form choice.0 (s.known ∙ sym choice.1)) ∙ choice.2 in
-    subst (λ (z : ℕ). HoldsNumber z m) s.known (holds_number s.form column.constant m bytes shape written s.spelled)
+    subst (λ (z : ℕ). HoldsNumber z m) s.known (holds_number s.form column.name column.constant m bytes shape written s.spelled)
 
 module _ (numbers : NumbersHaveSizes) (expressions : ExpressionsHaveSizes) (others : ShortestHaveSizes) where
   -- an expression of so many bytes can be written, and so can each value that stays
-  stays_sized : (column : Spec) (m : Meaning) (len : ℕ) (bytes : List ℕ) → is_moving m ≡ false → SpellsValue column.form column.constant m bytes → (size : ℕ) × HasSize column m len size
-  stays_sized column (Expression made) len bytes stays s = expressions column made len (expr_form column.form column.constant made bytes s)
+  stays_sized : (column : Spec) (m : Meaning) (len : ℕ) (bytes : List ℕ) → is_moving m ≡ false → SpellsValue column.name column.form column.constant m bytes → (size : ℕ) × HasSize column m len size
+  stays_sized column (Expression made) len bytes stays s = expressions column made len (expr_form column.name column.form column.constant made bytes s)
   stays_sized column m len bytes stays s =
-      let few = shortest_bytes column.form column.constant m bytes s in
+      let few = shortest_bytes column.name column.form column.constant m bytes s in
       (length few.0, others column m len few.0 bytes stays (λ none. none) s few.1)
 
   -- a value that a column spells can be written in it, where it has a form that is written
-  value_sized : (column : Spec) (m : Meaning) (len : ℕ) (bytes : List ℕ) → IsChoice column.form → SpellsValue column.form column.constant m bytes → (size : ℕ) × HasSize column m len size
+  value_sized : (column : Spec) (m : Meaning) (len : ℕ) (bytes : List ℕ) → IsChoice column.form → SpellsValue column.name column.form column.constant m bytes → (size : ℕ) × HasSize column m len size
   value_sized column m len bytes choice s =
       elim (cases_Bool (is_moving m)) [
         | inl moves ↦ numbers column m len (number_held column m bytes moves choice s)

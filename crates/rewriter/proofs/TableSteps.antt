@@ -3,6 +3,7 @@ use Rattle.std.proofs.Common.{◌≡◌, ◌<◌, ◌^◌, ◌∙◌, ℕ, List,
 use Rattle.std.specs.Prelude.{Result, Ok, Err, IfOk}
 use Rattle.std.specs.List.{All}
 use Rattle.std.proofs.lemmas.List.{get_or_default}
+use Rattle.dw_base.specs.declared.classes.Classes.{Classes}
 use Rattle.dw_base.specs.declared.fault.NoMemory.{NoMemory}
 use Rattle.dw_base.specs.declared.fault.Reach.{Reach}
 use Rattle.abbrev_tables.specs.declared.decl.Spec.{Spec}
@@ -47,15 +48,15 @@ module _ (world : World) (reach : Reach) (is : IsWorldOf world.image reach world
     pub units_stand : (section : List ℕ) × AreUnitsOf units old.table named section
     units_stand = (debug_info world.image, units_there)
 
-    module _ (columns : List Spec) (best : (section : List ℕ) → AreUnitsOf units old.table named section → AreBestInside section units old.table.decls named old.table.specs columns) where
-      best_there : AreBestInside (debug_info world.image) world.units old.table.decls (units_with world.table_of number (length world.units)) old.table.specs columns
+    module _ {classes : Classes} (columns : List Spec) (best : (section : List ℕ) → AreUnitsOf units old.table named section → AreBestInside classes section units old.table.decls named old.table.specs columns) where
+      best_there : AreBestInside classes (debug_info world.image) world.units old.table.decls (units_with world.table_of number (length world.units)) old.table.specs columns
       best_there =
-          let listed = subst (λ (ns : List ℕ). AreBestInside (debug_info world.image) units old.table.decls ns old.table.specs columns) named_are (best (debug_info world.image) units_there) in
-          subst (λ (us : List HeadAndForest). AreBestInside (debug_info world.image) us old.table.decls (units_with world.table_of number (length world.units)) old.table.specs columns) units_are listed
+          let listed = subst (λ (ns : List ℕ). AreBestInside classes (debug_info world.image) units old.table.decls ns old.table.specs columns) named_are (best (debug_info world.image) units_there) in
+          subst (λ (us : List HeadAndForest). AreBestInside classes (debug_info world.image) us old.table.decls (units_with world.table_of number (length world.units)) old.table.specs columns) units_are listed
 
       -- the columns that are best for the values are those in their least forms
-      pub chosen_there : AreColumnsChosen world.units (table_at world.tables number) columns
-      chosen_there = subst (λ (t : NamedTable). AreColumnsChosen world.units t columns) (sym table_there) (columns_chosen world.units old (debug_info world.image) world.table_of number of_old columns best_there)
+      pub chosen_there : AreColumnsChosen classes world.units (table_at world.tables number) columns
+      chosen_there = subst (λ (t : NamedTable). AreColumnsChosen classes world.units t columns) (sym table_there) (columns_chosen world.units old (debug_info world.image) world.table_of number of_old columns best_there)
 
       pub writable_there : All IsWritableColumn columns
       writable_there = columns_writable world.units (table_at world.tables number) (table_known world reach is number known) columns chosen_there
@@ -64,8 +65,8 @@ module _ (world : World) (reach : Reach) (is : IsWorldOf world.image reach world
       renewed_there = best_there.inside.count ∙ best_there.are.count
 
 -- the columns of a table that is written are those that were chosen
-pub chosen_still : (units : List HeadAndForest) (old : NamedTable) (columns : List Spec) (r : Result NewTable NoMemory) → AreColumnsChosen units old columns → IfOk r (λ new. new.columns.items ≡ columns) → IfOk r (λ new. AreColumnsChosen units old new.columns.items)
-chosen_still units old columns (Ok new) chosen same = subst (λ (cs : List Spec). AreColumnsChosen units old cs) (sym same) chosen
+pub chosen_still : {classes : Classes} → (units : List HeadAndForest) (old : NamedTable) (columns : List Spec) (r : Result NewTable NoMemory) → AreColumnsChosen classes units old columns → IfOk r (λ new. new.columns.items ≡ columns) → IfOk r (λ new. AreColumnsChosen classes units old new.columns.items)
+chosen_still {classes} units old columns (Ok new) chosen same = subst (λ (cs : List Spec). AreColumnsChosen classes units old cs) (sym same) chosen
 chosen_still units old columns (Err e) chosen same = tt
 
 -- THE USES OF A TABLE

@@ -16,7 +16,7 @@ use Rattle.entry_read.specs.declared.head.UnitHead.{UnitHead}
 use Rattle.entry_read.specs.Units.{end_of}
 use Rattle.unit_write.specs.Taken.{StandsFor}
 use Rattle.unit_write.specs.inside.Puts.{shape_moves}
-use Rattle.unit_write.proofs.ValueLaws.{shape_is}
+use Rattle.unit_write.proofs.ValueLaws.{shape_is, constant_stays}
 use Rattle.written_files.specs.Uses.{names_inside, counted_inside, are_inside, taken_meanings}
 use Rattle.rewriter.specs.inside.Taken.{is_taken, taken_value}
 use Rattle.rewriter.proofs.ColumnLaws.{IsSpelledBy}
@@ -26,18 +26,22 @@ use Rattle.rewriter.proofs.SizedValues.{number_held}
 -- FORMS
 
 -- only DW_FORM_ref_addr spells a reference that counts from the section's first byte
-section_form : (f : Form) (c : ℤ) (n : ℕ) (bytes : List ℕ) → shape_moves (shape_of f c) ≡ true → SpellsShape (shape_of f c) (InSection n) bytes → code_of f ≡ code_of form.RefAddr
-section_form form.Ref1 c n bytes e p = absurd (cc (p.1))
-section_form form.Ref2 c n bytes e p = absurd (cc (p.1))
-section_form form.Ref4 c n bytes e p = absurd (cc (p.1))
-section_form form.Ref8 c n bytes e p = absurd (cc (p.1))
-section_form form.RefUdata c n bytes e p = absurd (cc (p.2))
-section_form form.RefAddr c n bytes e p = refl
-section_form form.SecOffset c n bytes e p = absurd (cc (p.1))
-section_form f c n bytes e p = absurd (cc (e))
+section_form : (f : Form) (name : ℕ) (c : ℤ) (n : ℕ) (bytes : List ℕ) → shape_moves (shape_of f name c) ≡ true → SpellsShape (shape_of f name c) (InSection n) bytes → code_of f ≡ code_of form.RefAddr
+section_form form.Ref1 name c n bytes e p = absurd (cc (p.1))
+section_form form.Ref2 name c n bytes e p = absurd (cc (p.1))
+section_form form.Ref4 name c n bytes e p = absurd (cc (p.1))
+section_form form.Ref8 name c n bytes e p = absurd (cc (p.1))
+section_form form.RefUdata name c n bytes e p = absurd (cc (p.2))
+section_form form.RefAddr name c n bytes e p = refl
+section_form form.SecOffset name c n bytes e p = absurd (cc (p.1))
+section_form form.Data1 name c n bytes e p = absurd (cc (constant_stays name, e))
+section_form form.Data2 name c n bytes e p = absurd (cc (constant_stays name, e))
+section_form form.Data4 name c n bytes e p = absurd (cc (constant_stays name, e))
+section_form form.Data8 name c n bytes e p = absurd (cc (constant_stays name, e))
+section_form f name c n bytes e p = absurd (cc (e))
 
-addr_form : (code : ℕ) (c : ℤ) (n : ℕ) (bytes : List ℕ) → SpellsValue code c (InSection n) bytes → code ≡ code_of form.RefAddr
-addr_form code c n bytes s = sym s.known ∙ section_form s.form c n bytes (sym (shape_is (shape_of s.form c) (InSection n) bytes s.spelled)) s.spelled
+addr_form : (name code : ℕ) (c : ℤ) (n : ℕ) (bytes : List ℕ) → SpellsValue name code c (InSection n) bytes → code ≡ code_of form.RefAddr
+addr_form name code c n bytes s = sym s.known ∙ section_form s.form name c n bytes (sym (shape_is (shape_of s.form name c) (InSection n) bytes s.spelled)) s.spelled
 
 -- whether a column is taken, by its two forms
 is_taken_by : (old new : Spec) → old.form ≡ code_of form.RefAddr → new.form ≡ code_of form.RefUdata → is_taken old new ≡ true
@@ -97,15 +101,15 @@ module _ (values : List (UnitHead × Meaning)) (head : UnitHead) (section : List
   reference_kept : (n : ℕ) → Contains values (head, InSection n) → are_inside values ≡ false → IsTakenIn head section old new (value.SectionRef n)
   reference_kept n among some =
       let is : IsSpelledBy new (InSection n) = plain_spelled (InSection n) among some in
-      let taken : is_taken old new ≡ false = isnt_taken old new (addr_form new.form new.constant n is.1 is.2) in
+      let taken : is_taken old new ≡ false = isnt_taken old new (addr_form new.name new.form new.constant n is.1 is.2) in
       let written : value.SectionRef n ≡ taken_value head.at (is_taken old new) (value.SectionRef n) = ap (λ (t : Bool). taken_value head.at t (value.SectionRef n)) (sym taken) in
       record { stands = inl (sym written); spelled = subst (λ (v : Value). IsSpelledBy new (meant_in section v)) written is }
 
   -- each value of the column that its old form spells is taken so
-  pub taken_in : (v : Value) → Contains values (head, meant_in section v) → (bytes : List ℕ) → SpellsValue old.form old.constant (meant_in section v) bytes → IsTakenIn head section old new v
+  pub taken_in : (v : Value) → Contains values (head, meant_in section v) → (bytes : List ℕ) → SpellsValue old.name old.form old.constant (meant_in section v) bytes → IsTakenIn head section old new v
   taken_in (value.SectionRef n) among bytes s =
       elim (cases_Bool (are_inside values)) [
-        | inl all ↦ reference_inside n among (addr_form old.form old.constant n bytes s) all
+        | inl all ↦ reference_inside n among (addr_form old.name old.form old.constant n bytes s) all
         | inr some ↦ reference_kept n among some
       ]
   taken_in v among bytes s = record { stands = refl; spelled = plain_spelled (meant_in section v) among (not_all (meant_in section v) among refl) }

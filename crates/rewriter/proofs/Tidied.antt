@@ -4,6 +4,7 @@ use Rattle.std.specs.Prelude.{slice_index}
 use Rattle.std.specs.List.{All}
 use Rattle.std.proofs.lemmas.List.{get_or-map, length-map}
 use Rattle.std.proofs.lemmas.List.Elements.{All-from_get_or}
+use Rattle.dw_base.specs.declared.classes.Classes.{Classes}
 use Rattle.leb_codec.specs.Numbering.{IsUsed}
 use Rattle.abbrev_tables.specs.declared.decl.Spec.{Spec}
 use Rattle.abbrev_tables.specs.Tables.{Declared}
@@ -41,7 +42,7 @@ names_same (c ∷ old) (d ∷ new) alike =
     let rest : names_of new ≡ names_of old = names_same old new (record { count = omega arith; each = λ j below. alike.each (suc j) (let b : j < length old = below in omega arith) }) in
     ap (λ (n : ℕ). n ∷ names_of new) first ∙ ap (λ (ns : List ℕ). c.name ∷ ns) rest
 
-module _ (units : List HeadAndForest) (section : List ℕ) (old : NamedTable) (new : TableAnew) (written : IsTableWritten units section old new) where
+module _ {classes : Classes} (units : List HeadAndForest) (section : List ℕ) (old : NamedTable) (new : TableAnew) (written : IsTableWritten classes units section old new) where
   abbrev ds : List Declared
   ds = declarations_of written.listing
 
@@ -99,7 +100,7 @@ place_at : (tables : List NewTable) (i : ℕ) → i < length tables → slice_in
 place_at tables i inside =
     get_or-map (λ (table : TableAnew). table.at) (map table_anew tables) i (anew_at [] 0) 0 (subst (λ (n : ℕ). i < n) (sym (length-map tables table_anew)) inside)
 
-module _ {file : List ℕ} {world : World} {tables : List NewTable} {places : List Places} {new_places : NewPlaces} {info abbrevs : List ℕ} {r s : Reading} (all : AreReadAnew file world tables places new_places info abbrevs r s) where
+module _ {classes : Classes} {file : List ℕ} {world : World} {tables : List NewTable} {places : List Places} {new_places : NewPlaces} {info abbrevs : List ℕ} {r s : Reading} (all : AreReadAnew classes file world tables places new_places info abbrevs r s) where
   tidy_table : (i : ℕ) → i < length world.tables → IsTidyTable r.links s.links abbrevs (table_at world.tables i) (new_table_at tables i).at
   tidy_table i inside =
       let old : NamedTable = table_at world.tables i in
@@ -142,4 +143,4 @@ module _ {file : List ℕ} {world : World} {tables : List NewTable} {places : Li
       record { short = moved.short; ends = moved.ends_short; filled = moved.filled })
 
   pub are_tidy : ((kind : ListKind) → AreTidyLists kind r s) → AreTidyViews r s → AreTidy abbrevs r s
-  are_tidy lists views = record { tables = tidy_tables; units = tidy_units; expressions = expressions_are_tidy file world tables places new_places info abbrevs r s all; lists = lists; views = views }
+  are_tidy lists views = record { tables = tidy_tables; units = tidy_units; expressions = expressions_are_tidy classes file world tables places new_places info abbrevs r s all; lists = lists; views = views }

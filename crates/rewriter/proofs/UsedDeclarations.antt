@@ -6,6 +6,7 @@ use Rattle.std.proofs.lemmas.List.{get_or-map, length-map}
 use Rattle.std.proofs.lemmas.List.Elements.{All-get_or}
 use Rattle.std.proofs.lemmas.Bool.{eq-eqb, cond-true}
 use Rattle.std.proofs.lemmas.List.Sums.{sum_by-cons}
+use Rattle.dw_base.specs.declared.classes.Classes.{Classes}
 use Rattle.abbrev_tables.specs.Tables.{Declared}
 use Rattle.abbrev_tables.specs.Listings.{declared_in}
 use Rattle.entry_arena.specs.declared.entry.Entry.{Entry}
@@ -61,16 +62,16 @@ declaration_known info head ds f (end, unit) id inside =
     let c = comes_to_entry info ds (entries_at head) whole.items (listed_to f end) [] whole.walked id inside in
     subst (λ (z : Entry). z.decl < length ds) (sym c.here) c.adds.known
 
-module _ {file : List ℕ} {world : World} {tables : List NewTable} {abbrevs : List ℕ} {r : Reading} (read : IsReading file r) (holds : Holds file world r) (tables_are : AreTablesWritten world abbrevs tables) where
+module _ {classes : Classes} {file : List ℕ} {world : World} {tables : List NewTable} {abbrevs : List ℕ} {r : Reading} (read : IsReading file r) (holds : Holds file world r) (tables_are : AreTablesWritten classes world abbrevs tables) where
   -- a unit is read of the file
   pub unit_is : (u : ℕ) → u < length r.links.units → IsUnitRead (debug_info file) (debug_abbrev file) (unit_at r.links u)
   unit_is u inside = All-get_or (IsUnitRead (debug_info file) (debug_abbrev file)) r.links.units u no_unit inside read.links.units.each
 
   -- the table of a unit is written anew
-  pub table_written : (u : ℕ) → u < length r.links.units → IsTableWritten world.units abbrevs (named_by (unit_at r.links u)) (new_table_at tables (slice_index world.table_of u))
+  pub table_written : (u : ℕ) → u < length r.links.units → IsTableWritten classes world.units abbrevs (named_by (unit_at r.links u)) (new_table_at tables (slice_index world.table_of u))
   table_written u inside =
       let i : ℕ = slice_index world.table_of u in
-      subst (λ (z : NamedTable). IsTableWritten world.units abbrevs z (new_table_at tables i)) (holds.tables.each u inside) (tables_are.each i (holds.tables.inside u inside))
+      subst (λ (z : NamedTable). IsTableWritten classes world.units abbrevs z (new_table_at tables i)) (holds.tables.each u inside) (tables_are.each i (holds.tables.inside u inside))
 
   -- the declaration of an entry is one of the table
   pub decl_known : (u id : ℕ) → u < length r.links.units → id < length (unit_at r.links u).forest.entries → (entry_of (unit_at r.links u) id).decl < length (unit_at r.links u).table.decls

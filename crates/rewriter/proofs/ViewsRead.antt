@@ -4,6 +4,7 @@ use Rattle.std.specs.Prelude.{slice_index}
 use Rattle.std.proofs.lemmas.Bool.{cases_lt}
 use Rattle.std.proofs.lemmas.List.{get_or-take, length-take-le, take-take, take_all}
 use Rattle.std.proofs.lemmas.List.Sums.{sum_by_more, sum_by_more_le}
+use Rattle.dw_base.specs.declared.classes.Classes.{Classes}
 use Rattle.list_model.specs.declared.entry.ListKind.TheVariants.{Locations}
 use Rattle.list_model.specs.Entries.{AreSaid}
 use Rattle.unit_write.specs.declared.places.Places.{Places}
@@ -72,7 +73,7 @@ module _ (old new : List ViewRead) (numbers : ℕ → ℕ) (rising : (j k : ℕ)
 
 -- ALL RUNS
 
-module _ {file : List ℕ} {world : World} {tables : List NewTable} {places : List Places} {new_places : NewPlaces} {info abbrevs : List ℕ} {r s : Reading} (all : AreReadAnew file world tables places new_places info abbrevs r s) where
+module _ {classes : Classes} {file : List ℕ} {world : World} {tables : List NewTable} {places : List Places} {new_places : NewPlaces} {info abbrevs : List ℕ} {r s : Reading} (all : AreReadAnew classes file world tables places new_places info abbrevs r s) where
   -- runs stay in their order
   numbers_rise : (j k : ℕ) → j < k → k < length r.views → slice_index all.views.numbers j ≤ slice_index all.views.numbers k
   numbers_rise j k less inside = elim (all.views.order j k less inside) [

@@ -1,6 +1,7 @@
 -- Each expression that is written anew is one within the wide limits, with the operations of the old one.
 use Rattle.std.proofs.Common.{◌≡◌, ◌≤◌, ◌<◌, ◌+◌, ◌-◌, ◌∙◌, ℕ, List, [], length, sym, ap, subst, refl, arith}
 use Rattle.std.specs.Prelude.{slice_index}
+use Rattle.dw_base.specs.declared.classes.Classes.{Classes}
 use Rattle.dw_base.specs.declared.fault.Reach.TheVariants.{Wide}
 use Rattle.form_codec.specs.Forms.{Meaning}
 use Rattle.form_codec.specs.Forms.Meaning.{Expression, InUnit, InSection, SectionPlace}
@@ -80,7 +81,7 @@ stands_somewhere info abbrevs unit number is inside =
 
 -- EXPRESSIONS THAT ARE WRITTEN ANEW
 
-module _ {file : List ℕ} {world : World} {tables : List NewTable} {places : List Places} {new_places : NewPlaces} {info abbrevs : List ℕ} {r s : Reading} (all : AreReadAnew file world tables places new_places info abbrevs r s) where
+module _ {classes : Classes} {file : List ℕ} {world : World} {tables : List NewTable} {places : List Places} {new_places : NewPlaces} {info abbrevs : List ℕ} {r s : Reading} (all : AreReadAnew classes file world tables places new_places info abbrevs r s) where
   -- what is written for a value with a number
   taken_there : (u number : ℕ) → u < length r.links.units → number < length (unit_at r.links u).forest.values → MeansFor (unit_at r.links u).head (meant_in (unit_at r.links u).forest.section (value_at (unit_at r.links u).forest.values number)) (taken_meaning all u number)
   taken_there u number inside known =
@@ -131,7 +132,7 @@ module _ {file : List ℕ} {world : World} {tables : List NewTable} {places : Li
       }
 
 pub expressions_are_wide : ExpressionsAreWide
-expressions_are_wide file world tables places new_places info abbrevs r s all = expressions_wide all
+expressions_are_wide classes file world tables places new_places info abbrevs r s all = expressions_wide all
 
 pub expressions_are_tidy : ExpressionsAreTidy
-expressions_are_tidy file world tables places new_places info abbrevs r s all = expressions_tidy all
+expressions_are_tidy classes file world tables places new_places info abbrevs r s all = expressions_tidy all

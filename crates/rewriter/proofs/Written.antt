@@ -1,5 +1,6 @@
 -- Where a unit that is written ends: where its places say.
 use Rattle.std.proofs.Common.{◌≡◌, ◌<◌, ◌+◌, ◌-◌, ℕ, List, length, slice_index, sym, subst, arith}
+use Rattle.dw_base.specs.declared.classes.Classes.{Classes}
 use Rattle.dw_base.specs.declared.fault.Reach.{Reach}
 use Rattle.abbrev_tables.specs.declared.decl.Spec.{Spec}
 use Rattle.abbrev_tables.specs.Listings.{Listing}
@@ -43,7 +44,7 @@ table_coded world reach u is known =
     have_codes (table_for world u) (subst IsTable (sym (table_known world.image world is.r u is.holds (omega arith))) (debug_abbrev world.image, (unit_at is.r.links u).head.table, read.table))
 
 -- a unit that stands behind others ends where its places do
-pub unit_to : (world : World) (reach : Reach) (tables : List NewTable) (places : List Places) (new_places : NewPlaces) (abbrevs section : List ℕ) (u : ℕ) → IsWorldOf world.image reach world → AreTablesWritten world abbrevs tables → u < length world.units → IsUnitBehind world tables places new_places u section → length section ≡ (places_at places u).end
+pub unit_to : {classes : Classes} → (world : World) (reach : Reach) (tables : List NewTable) (places : List Places) (new_places : NewPlaces) (abbrevs section : List ℕ) (u : ℕ) → IsWorldOf world.image reach world → AreTablesWritten classes world abbrevs tables → u < length world.units → IsUnitBehind world tables places new_places u section → length section ≡ (places_at places u).end
 unit_to world reach tables places new_places abbrevs section u is written known behind =
     let size : length world.units ≡ length is.r.links.units = held_count world.image world is.r is.holds in
     let old : slice_index world.table_of u < length world.tables = is.holds.tables.inside u (omega arith) in

@@ -7,6 +7,7 @@ use Rattle.std.proofs.lemmas.List.{length-map, get_or_default, nil_from_length}
 use Rattle.std.proofs.lemmas.List.Elements.{All-get_or}
 use Rattle.std.proofs.lemmas.List.Sums.{sum_by-cons, get_or-le-sum_by}
 use Rattle.std.proofs.lemmas.Slice.Zip.{AllZip-long}
+use Rattle.dw_base.specs.declared.classes.Classes.{Classes}
 use Rattle.dw_base.specs.declared.fault.Reach.TheVariants.{Narrow}
 use Rattle.fixed_width.specs.InitialLengths.{least_reserved}
 use Rattle.elf_sections.specs.Names.{is_debug_name}
@@ -45,16 +46,16 @@ use Rattle.rewriter.proofs.ViewRuns.{runs_are, runs_own, sizes_apart, runs_few}
 -- ---- the lists with their plans and expressions
 
 -- one more list has a plan and expressions
-pub planned_more : (world : World) (places : List Places) (kind : ListKind) (n : ℕ) (lists new : List NamedList) (list : HeldList) (one : NamedList) → ArePlannedTo world places kind n lists → n < length (lists_held world kind) → list ≡ get_or (lists_held world kind) n list → one ≡ with_plan list one.plan one → IsPlanOf world kind list one.plan → AreExpressionsFor world places kind list one.expressions → new ≡ lists ++ one ∷ [] → ArePlannedTo world places kind (n + 1) new
-planned_more world places kind n lists new list one old inside is named planned made pushed = subst (λ (z : List NamedList). ArePlannedTo world places kind (n + 1) z) (sym pushed) (record {
+pub planned_more : {classes : Classes} → (world : World) (places : List Places) (kind : ListKind) (n : ℕ) (lists new : List NamedList) (list : HeldList) (one : NamedList) → ArePlannedTo classes world places kind n lists → n < length (lists_held world kind) → list ≡ get_or (lists_held world kind) n list → one ≡ with_plan list one.plan one → IsPlanOf classes world kind list one.plan → AreExpressionsFor world places kind list one.expressions → new ≡ lists ++ one ∷ [] → ArePlannedTo classes world places kind (n + 1) new
+planned_more {classes} world places kind n lists new list one old inside is named planned made pushed = subst (λ (z : List NamedList). ArePlannedTo classes world places kind (n + 1) z) (sym pushed) (record {
   count = counted_more n lists one old.count;
-  each = λ k d e less. each_more (λ (i : ℕ) (x : NamedList). (b : HeldList) → IsPlannedAs world places kind (get_or (lists_held world kind) i b) x) n lists one old.count (λ i x before b. old.each i b x before) last k e less d;
+  each = λ k d e less. each_more (λ (i : ℕ) (x : NamedList). (b : HeldList) → IsPlannedAs classes world places kind (get_or (lists_held world kind) i b) x) n lists one old.count (λ i x before b. old.each i b x before) last k e less d;
 })
   where
-    last : (b : HeldList) → IsPlannedAs world places kind (get_or (lists_held world kind) n b) one
+    last : (b : HeldList) → IsPlannedAs classes world places kind (get_or (lists_held world kind) n b) one
     last b =
         let same : list ≡ get_or (lists_held world kind) n b = is ∙ get_or_default (lists_held world kind) n list b inside in
-        subst (λ (z : HeldList). IsPlannedAs world places kind z one) same (record { is = named; plan = planned; expressions = made })
+        subst (λ (z : HeldList). IsPlannedAs classes world places kind z one) same (record { is = named; plan = planned; expressions = made })
 
 at_mapped : {X Y : Type 0} (f : X → Y) (xs : List X) (k : ℕ) (y : Y) → k < length xs → (x : X) × (get_or (map f xs) k y ≡ f x) × ((e : X) → get_or xs k e ≡ x)
 at_mapped f [] k y less = absurd (omega arith)
@@ -88,7 +89,7 @@ module _ (r : Reading) (places : List Places) where
   made_few Locations old made new = omega (arith, made_items old made new, items_fewer old.raws)
 
   -- the entries of a plan have as many items as those that are read
-  items_kept : (old : ListRead) (list : HeldList) → IsHeld r.links Locations old list → (written : ToWrite) (plan : IsPlannedFor r Locations old written) (meaning : Meaning) → list.meaning ≡ meaning → length (items_among old.raws) ≡ item_count plan.entries
+  items_kept : {classes : Classes} → (old : ListRead) (list : HeldList) → IsHeld r.links Locations old list → (written : ToWrite) (plan : IsPlannedFor classes r Locations old written) (meaning : Meaning) → list.meaning ≡ meaning → length (items_among old.raws) ≡ item_count plan.entries
   items_kept old list held written plan (Live items) is =
       let meant : HoldsMeaning r.links Locations old list.owner (Live items) = subst (λ (z : Meaning). HoldsMeaning r.links Locations old list.owner z) is held.meaning in
       let (live, (u, owner_is, says)) = meant in
@@ -100,19 +101,19 @@ module _ (r : Reading) (places : List Places) where
       ∙ items_counted r.links.addresses (context_at r.links u) base plan.entries says.bounds gives
   items_kept old list held written plan Dead is =
       let frozen : IsFrozen r.links Locations old = subst (λ (z : Meaning). HoldsMeaning r.links Locations old list.owner z) is held.meaning in
-      items_said old.raws frozen.0 frozen.1 ∙ ap item_count (sym ((plan.same frozen.0 frozen.1).frozen frozen))
+      items_said old.raws frozen.0 frozen.1 ∙ ap item_count (sym ((plan.same frozen.0 frozen.1).kept (inr frozen)))
 
   -- each of these has an expression
-  carried : (kind : ListKind) (old : ListRead) (list : HeldList) → IsHeld r.links kind old list → (written : ToWrite) (plan : IsPlannedFor r kind old written) → AreNewExpressions r.links places kind old written.expressions → HasExpressions kind plan.entries written.expressions
+  carried : {classes : Classes} → (kind : ListKind) (old : ListRead) (list : HeldList) → IsHeld r.links kind old list → (written : ToWrite) (plan : IsPlannedFor classes r kind old written) → AreNewExpressions r.links places kind old written.expressions → HasExpressions kind plan.entries written.expressions
   carried Ranges old list held written plan made = nil_from_length written.expressions (made_count Ranges old written.expressions made)
   carried Locations old list held written plan made = made_items old written.expressions made ∙ items_kept old list held written plan list.meaning refl
 
 -- a list that is planned has its size
-pub planned_sized : (world : World) (places : List Places) (kind : ListKind) → IsWorldOf world.image Narrow world → (n : ℕ) → n < length (lists_held world kind) → (list : HeldList) → list ≡ get_or (lists_held world kind) n list → (one : NamedList) → one ≡ with_plan list one.plan one → IsPlanOf world kind list one.plan → AreExpressionsFor world places kind list one.expressions → IsSized kind (to_write one)
-planned_sized world places kind is n inside list at one named planned made =
+pub planned_sized : {classes : Classes} → (world : World) (places : List Places) (kind : ListKind) → IsWorldOf world.image Narrow world → (n : ℕ) → n < length (lists_held world kind) → (list : HeldList) → list ≡ get_or (lists_held world kind) n list → (one : NamedList) → one ≡ with_plan list one.plan one → IsPlanOf classes world kind list one.plan → AreExpressionsFor world places kind list one.expressions → IsSized kind (to_write one)
+planned_sized {classes} world places kind is n inside list at one named planned made =
     let old : ListRead = list_at (lists_of is.r kind) n in
     let held : IsHeld is.r.links kind old list = subst (λ (z : HeldList). IsHeld is.r.links kind old z) (sym at) ((is.holds.lists kind).each n list (omega (arith, inside, (is.holds.lists kind).count))) in
-    let plan : IsPlannedFor is.r kind old (to_write one) = subst (λ (z : NamedList). IsPlannedFor is.r kind old (to_write z)) (sym named) (planned is.r old one is.holds held) in
+    let plan : IsPlannedFor classes is.r kind old (to_write one) = subst (λ (z : NamedList). IsPlannedFor classes is.r kind old (to_write z)) (sym named) (planned is.r old one is.holds held) in
     record {
       entries = plan.entries;
       picked = plan.picked;
@@ -122,13 +123,13 @@ planned_sized world places kind is n inside list at one named planned made =
 
 -- ---- all lists
 
-module _ (world : World) (places : List Places) (kind : ListKind) (named : List NamedList) (planned : ArePlannedTo world places kind (length (lists_held world kind)) named) where
+module _ {classes : Classes} (world : World) (places : List Places) (kind : ListKind) (named : List NamedList) (planned : ArePlannedTo classes world places kind (length (lists_held world kind)) named) where
   abbrev writes : List ToWrite
   writes = map to_write named
 
   -- a list by its number: what is held, and what is to be written
   record IsAt (k : ℕ) (list : HeldList) (one : NamedList) : Type 0 where
-    planned_as : IsPlannedAs world places kind list one
+    planned_as : IsPlannedAs classes world places kind list one
     held : (d : HeldList) → get_or (lists_held world kind) k d ≡ list
     named_at : (d : NamedList) → get_or named k d ≡ one
     writes_at : written_at writes k ≡ to_write one
@@ -143,7 +144,7 @@ module _ (world : World) (places : List Places) (kind : ListKind) (named : List 
         list,
         one,
         record {
-          planned_as = subst (λ (z : NamedList). IsPlannedAs world places kind list z) (here.2 one) (subst (λ (z : HeldList). IsPlannedAs world places kind z (get_or named k one)) (held.2 list) is);
+          planned_as = subst (λ (z : NamedList). IsPlannedAs classes world places kind list z) (here.2 one) (subst (λ (z : HeldList). IsPlannedAs classes world places kind z (get_or named k one)) (held.2 list) is);
           held = held.2;
           named_at = here.2;
           writes_at = here.1;
@@ -157,7 +158,7 @@ module _ (world : World) (places : List Places) (kind : ListKind) (named : List 
     -- a list by its number: what is read, held and to be written
     record IsFor (k : ℕ) (list : HeldList) (one : NamedList) : Type 0 where
       held : IsHeld r.links kind (list_at olds k) list
-      plan : IsPlannedFor r kind (list_at olds k) (written_at writes k)
+      plan : IsPlannedFor classes r kind (list_at olds k) (written_at writes k)
       made : AreNewExpressions r.links places kind (list_at olds k) (written_at writes k).expressions
       ends : AreEnds one.expressions
       pieces_are : (written_at writes k).expressions ≡ pieces 0 one.expressions.ends.items one.expressions.bytes.items
@@ -177,7 +178,7 @@ module _ (world : World) (places : List Places) (kind : ListKind) (named : List 
           one,
           record {
             held = held;
-            plan = subst (λ (z : ToWrite). IsPlannedFor r kind old z) (sym same) plan;
+            plan = subst (λ (z : ToWrite). IsPlannedFor classes r kind old z) (sym same) plan;
             made = subst (λ (z : List (List ℕ)). AreNewExpressions r.links places kind old z) (sym expressions_are) made;
             ends = at.planned_as.expressions.ends;
             pieces_are = expressions_are;
@@ -185,14 +186,14 @@ module _ (world : World) (places : List Places) (kind : ListKind) (named : List 
           },
         )
 
-    plan_at : (k : ℕ) → k < length olds → IsPlannedFor r kind (list_at olds k) (written_at writes k)
+    plan_at : (k : ℕ) → k < length olds → IsPlannedFor classes r kind (list_at olds k) (written_at writes k)
     plan_at k inside = (for_list k inside).2.plan
 
     count_is : length writes ≡ length olds
     count_is = length-map named to_write ∙ planned.count ∙ (holds.lists kind).count
 
     -- what is written for the file
-    pub lists_written : AreViewsUpTo (lists_held world kind) (views_held world kind) named (length (views_held world kind)) → (section : List ℕ) → section ≡ debug_lists world.image kind → (parts : List Contribution) → parts ≡ contributions_held world kind → (bytes : List ℕ) (new_parts : List Contribution) (moved views : List Moved) → AreWritten kind section parts writes bytes new_parts moved views → AreListsWritten r places kind bytes new_parts moved views
+    pub lists_written : AreViewsUpTo (lists_held world kind) (views_held world kind) named (length (views_held world kind)) → (section : List ℕ) → section ≡ debug_lists world.image kind → (parts : List Contribution) → parts ≡ contributions_held world kind → (bytes : List ℕ) (new_parts : List Contribution) (moved views : List Moved) → AreWritten kind section parts writes bytes new_parts moved views → AreListsWritten classes r places kind bytes new_parts moved views
     lists_written viewed section section_is parts parts_are bytes new_parts moved views written = record {
       lists = writes;
       count = count_is;
@@ -301,7 +302,7 @@ module _ (world : World) (places : List Places) (kind : ListKind) (named : List 
           carried = carried is.r places kind (list_at own_lists k) list found.held (written_at writes k) plan found.made;
         }
 
-    own_plan : (k : ℕ) → k < length own_lists → IsPlannedFor is.r kind (list_at own_lists k) (written_at writes k)
+    own_plan : (k : ℕ) → k < length own_lists → IsPlannedFor classes is.r kind (list_at own_lists k) (written_at writes k)
     own_plan k inside = plan_at is.r is.holds k inside
 
     own_written : CanBeWritten kind own_section.section own_section.parts writes

@@ -5,6 +5,7 @@ use Rattle.std.specs.List.{All, AllZip, sum_by}
 use Rattle.std.proofs.lemmas.List.{take-append-drop, length-take-le}
 use Rattle.std.proofs.lemmas.List.Elements.{All-from_get_or, length_all_zip}
 use Rattle.std.proofs.lemmas.List.Sums.{sum_by-cons}
+use Rattle.dw_base.specs.declared.classes.Classes.{Classes}
 use Rattle.dw_base.specs.declared.fault.Reach.{Reach}
 use Rattle.abbrev_tables.specs.Listings.{Listing, IsTableAt}
 use Rattle.entry_arena.specs.declared.entry.Entry.{Entry}
@@ -83,7 +84,7 @@ sums_same f (x ∷ xs) (y ∷ ys) size each =
     let more : sum_by f xs ≡ sum_by f ys = sums_same f xs ys (let e : length (x ∷ xs) ≡ length (y ∷ ys) = size in omega arith) (λ u inside. each (suc u) (let i : u < length xs = inside in omega arith)) in
     sum_by-cons f x xs ∙ ap (λ (n : ℕ). n + sum_by f xs) here ∙ ap (λ (n : ℕ). f y + n) more ∙ sym (sum_by-cons f y ys)
 
-module _ (world : World) (reach : Reach) (tables : List NewTable) (places : List Places) (new_places : NewPlaces) (abbrevs info : List ℕ) (whole : ℕ) (is : IsWorldOf world.image reach world) (written : AreTablesWritten world abbrevs tables) (are : ArePlacesOf world tables places whole) (taken : AreTaken world tables) (file : List ℕ) (r : Reading) (holds : Holds file world r) where
+module _ {classes : Classes} (world : World) (reach : Reach) (tables : List NewTable) (places : List Places) (new_places : NewPlaces) (abbrevs info : List ℕ) (whole : ℕ) (is : IsWorldOf world.image reach world) (written : AreTablesWritten classes world abbrevs tables) (are : ArePlacesOf world tables places whole) (taken : AreTaken world tables) (file : List ℕ) (r : Reading) (holds : Holds file world r) where
   -- A unit is read of the new section, and is the old one with a number, moved.
   record IsUnitAnew (u : ℕ) (new : UnitRead) : Type 0 where
     pub read : IsUnitRead info abbrevs new
@@ -102,7 +103,7 @@ module _ (world : World) (reach : Reach) (tables : List NewTable) (places : List
     held_as : unit_in world.units u ≡ head_and_forest (unit_at r.links u)
     held_as = held_unit file world r u holds
 
-    anew : IsTableWritten world.units abbrevs (table_at world.tables (slice_index world.table_of u)) (new_table_at tables (slice_index world.table_of u))
+    anew : IsTableWritten classes world.units abbrevs (table_at world.tables (slice_index world.table_of u)) (new_table_at tables (slice_index world.table_of u))
     anew = written.each (slice_index world.table_of u) (is.holds.tables.inside u valid_known)
 
     w : IsWrittenAnew (written_in world tables u) (table_for world u) (new_table_at tables (slice_index world.table_of u)).columns (new_table_at tables (slice_index world.table_of u)).numbers (declarations_of anew.listing) behind.numbers.table behind.numbers.type_offset (new_values behind.numbers) (places_at places u).start (take (places_at places u).end info)

@@ -1,5 +1,5 @@
 // What the sections of a file that are written anew are made of.
-ghost use Rattle.std.specs.Prelude.{◌≡◌, ◌<◌, ◌-◌, ◌^◌, ℕ, List, length, map, slice_index, IfOk};
+ghost use Rattle.std.specs.Prelude.{◌≡◌, ◌<◌, ◌-◌, ◌^◌, ℕ, List, [], length, map, slice_index, IfOk, true, false};
 ghost use Rattle.std.specs.List.{All};
 ghost use Rattle.spelled.specs.Spelled.{Joined};
 ghost use Rattle.dw_base.specs.declared.fault.Reach.TheVariants.{Narrow};
@@ -8,31 +8,52 @@ ghost use Rattle.leb_codec.specs.Records.{OfLines, SpellsRecord};
 ghost use Rattle.line_sums.specs.Accepted.{AreLeastRuns};
 ghost use Rattle.line_write.specs.Least.{LeastLines, OrderedLines};
 ghost use Rattle.line_write.specs.Readings.{StandAnew};
-ghost use Rattle.line_write.specs.Records.{HaveRuns};
+ghost use Rattle.line_machine.specs.declared.head.Head.{Head as AnyHead};
+ghost use Rattle.written_files.specs.Kept.{HaveRunsIn};
 ghost use Rattle.companions.specs.Aranges.{SetsTile, HaveUnits, IsOutside};
 ghost use Rattle.unit_write.specs.declared.places.Places.{Places as AnyPlaces};
 ghost use Rattle.value_links.specs.Sections.{debug_line, debug_aranges};
 ghost use Rattle.value_links.specs.World.{IsWorldOf};
 
 use companions::{ArangeSet, patch_aranges};
-use dw_base::NoMemory;
+use dw_base::{Classes, NoMemory};
 use line_write::{Lines, shrink_lines};
 use std::alloc::Global;
 use unit_write::Places;
 use value_links::World;
 
-/// The line number programs of a file written anew, in fewer than the 2^32 - 1 bytes that a section of the 32-bit format can't have
-/// (DWARF 5 section 7.4), and a record for each that shows why it is least. The only error is want of memory.
-pub fn write_lines(alloc: Global, world: &World<'_>) -> Result<Lines, NoMemory>
+// The line number programs of a file as they are: their section, and where they begin. There are no records.
+fn keep_lines(alloc: Global, world: &World<'_>) -> Result<Lines, NoMemory>
+    requires world { IsWorldOf world.now.image Narrow world.now }
+    ensures bytes { IfOk result (λ lines. lines.bytes.items ≡ debug_line world.now.image) }
+    ensures starts { IfOk result (λ lines. lines.starts.items ≡ map (λ (head : AnyHead). head.at) world.now.programs) }
+    ensures records { IfOk result (λ lines. lines.records.items ≡ []) }
+{
+    let starts = world.programs().iter().map(|head| head.at).collect(alloc)?;
+    Ok(Lines {
+        bytes: world.section(b".debug_line").to_vec(alloc)?,
+        starts,
+        records: Vec::new(alloc),
+    })
+}
+
+/// The line number programs of a file written anew, or as they are where the classes keep them, in fewer than the 2^32 - 1 bytes that a
+/// section of the 32-bit format can't have (DWARF 5 section 7.4), and a record for each that shows why it is least, or none where they
+/// are kept. The only error is want of memory.
+pub fn write_lines(alloc: Global, classes: Classes, world: &World<'_>) -> Result<Lines, NoMemory>
     requires world { IsWorldOf world.now.image Narrow world.now }
     ensures stand { IfOk result (λ lines. StandAnew (debug_line world.now.image) world.now.programs lines.bytes.items lines.starts.items) }
-    ensures least { IfOk result (λ lines. LeastLines (debug_line world.now.image) lines.bytes.items) }
-    ensures order { IfOk result (λ lines. OrderedLines (debug_line world.now.image) lines.bytes.items) }
+    ensures least { IfOk result (λ lines. classes.lines ≡ true → LeastLines (debug_line world.now.image) lines.bytes.items) }
+    ensures order { IfOk result (λ lines. classes.lines ≡ true → OrderedLines (debug_line world.now.image) lines.bytes.items) }
+    ensures kept { IfOk result (λ lines. classes.lines ≡ false → lines.bytes.items ≡ debug_line world.now.image) }
     ensures fits { IfOk result (λ lines. length lines.bytes.items < 2 ^ 32 - 1) }
-    ensures records { IfOk result (λ lines. (all : List (List Run)) × HaveRuns AreLeastRuns lines.bytes.items all × Joined SpellsRecord (map OfLines all) lines.records.items) }
+    ensures records { IfOk result (λ lines. (all : List (List Run)) × HaveRunsIn classes AreLeastRuns lines.bytes.items all × Joined SpellsRecord (map OfLines all) lines.records.items) }
 {
-    let section = world.section(b".debug_line");
-    shrink_lines(alloc, section, world.programs())
+    if classes.lines {
+        shrink_lines(alloc, world.section(b".debug_line"), world.programs())
+    } else {
+        keep_lines(alloc, world)
+    }
 }
 
 // Where units begin.

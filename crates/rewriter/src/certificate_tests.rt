@@ -1,5 +1,6 @@
 // Certificates of small files, worked out by hand.
-use crate::rewrite;
+use crate::rewrite_in;
+use dw_base::Classes;
 use std::test::Fail;
 
 // An executable for x86-64 with section 0 and .shstrtab alone.
@@ -73,23 +74,41 @@ const WITH_ALL: [u8; 936] = [
 ];
 
 // A program without rows has the number 0 for all 65,280 pairs. The potentials of the range list are 9 and 6, and so are those of the
-// location list. The slots of the unit have one byte each, so there is nothing to show of them.
+// location list. The slots of the unit have one byte each, so there is nothing to show of them. For packages programs and lists are kept,
+// so that the units alone have records.
 #[test]
 fn certificates_are_written(rt: HostRuntime) -> Result<(), Fail> {
-    // files, and the certificate of each
-    let table: [(&[u8], &[u8]); 3] = [
-        (BARE.as_slice(), b"DWMIN01\n".as_slice()),
+    // classes, files, and the certificate of each
+    let table: [(Classes, &[u8], &[u8]); 6] = [
+        (Classes::every(), BARE.as_slice(), b"DWMIN01\n".as_slice()),
         (
+            Classes::every(),
             WITHOUT_ROWS.as_slice(),
             b"DWMIN01\n\x01\x80\xfe\x03\x00".as_slice(),
         ),
         (
+            Classes::every(),
             WITH_ALL.as_slice(),
             b"DWMIN01\n\x01\x80\xfe\x03\x00\x02\x02\x09\x06\x02\x02\x09\x06\x03\x00".as_slice(),
         ),
+        (
+            Classes::packaged(),
+            BARE.as_slice(),
+            b"DWMINP1\n".as_slice(),
+        ),
+        (
+            Classes::packaged(),
+            WITHOUT_ROWS.as_slice(),
+            b"DWMINP1\n".as_slice(),
+        ),
+        (
+            Classes::packaged(),
+            WITH_ALL.as_slice(),
+            b"DWMINP1\n\x03\x00".as_slice(),
+        ),
     ];
-    for (file, certificate) in table {
-        let written = match rewrite(rt.alloc(), file) {
+    for (classes, file, certificate) in table {
+        let written = match rewrite_in(rt.alloc(), classes, file) {
             Ok(written) => written,
             Err(_) => return Err("refused")?,
         };

@@ -3,12 +3,12 @@ ghost use Rattle.std.specs.Prelude.{◌≡◌, ◌<◌, ◌^◌, ℕ, List, [], 
 ghost use Rattle.std.specs.List.{All};
 ghost use Rattle.column_forms.specs.TableColumns.{AreBestFor};
 ghost use Rattle.entry_read.specs.Units.{declarations_of, IsTable, IsUnitHeld};
-ghost use Rattle.rewriter.specs.inside.Columns.{AreNamers, values_of_units, HaveRoomFor, AddsEntries, AreUnitsOf, AreBestInside};
+ghost use Rattle.rewriter.specs.inside.Columns.{AreNamers, names_of, values_of_units, HaveRoomFor, AddsEntries, AreUnitsOf, AreBestInside};
 
 use crate::inside_columns::{has_section_refs, see_columns, take_inside};
 use abbrev_tables::{Spec, Table};
 use column_forms::Tallies;
-use dw_base::NoMemory;
+use dw_base::{Classes, NoMemory};
 use entry_read::Unit;
 use std::alloc::Global;
 use unit_write::bytes_are_small;
@@ -62,8 +62,8 @@ fn add_unit(
     requires table { IsTable table.now }
     requires unit { IsUnitHeld unit.now.forest.section unit.now.head (declarations_of table.now) unit.now.forest }
     requires wide { length tallies.old ≡ length table.now.specs }
-    requires room { HaveRoomFor unit.now.forest.section tallies.old (length unit.now.forest.entries) }
-    ensures added { OnOk result (AddsEntries table.now.decls unit.now unit.now.forest.entries tallies.old tallies.new) }
+    requires room { HaveRoomFor (names_of table.now.specs) unit.now.forest.section tallies.old (length unit.now.forest.entries) }
+    ensures added { OnOk result (AddsEntries (names_of table.now.specs) table.now.decls unit.now unit.now.forest.entries tallies.old tallies.new) }
 {
     // What was read stands in bytes of memory.
     bytes_are_small(unit.forest().section());
@@ -72,45 +72,48 @@ fn add_unit(
         let decl = table.decl(entry.decl);
         unit.forest()
             .read_values(entry.first, entry.count, &mut row)?;
-        tallies.add_row(alloc, decl.first as usize, &row)?;
+        let columns = table.columns(entry.decl);
+        tallies.add_row(alloc, decl.first as usize, columns, &row)?;
     }
     Ok(())
 }
 
-// The columns of a table, each in the form in which its values take the fewest bytes as they were read, over all entries of these units,
-// which have the table. `units` are all units, and `named` are the numbers of those.
+// The columns of a table, each in the form of the classes in which its values take the fewest bytes as they were read, over all entries
+// of these units, which have the table. `units` are all units, and `named` are the numbers of those.
 fn best_columns(
     alloc: Global,
+    classes: Classes,
     units: &Vec<Unit<'_>>,
     named: &Vec<u32>,
     table: &Table,
 ) -> Result<Vec<Spec>, NoMemory>
     requires table { IsTable table.now }
     requires named { (section : List ℕ) × AreUnitsOf units.now.items table.now named.now.items section }
-    ensures { IfOk result (λ best. (section : List ℕ) → AreUnitsOf units.now.items table.now named.now.items section → AreBestFor section (values_of_units units.now.items table.now.decls named.now.items) table.now.specs best.items) }
+    ensures { IfOk result (λ best. (section : List ℕ) → AreUnitsOf units.now.items table.now named.now.items section → AreBestFor classes section (values_of_units units.now.items table.now.decls named.now.items) table.now.specs best.items) }
 {
     let specs = table.specs();
     let mut tallies = Tallies::new(alloc, specs.len())?;
     for number in named.iter() {
         add_unit(alloc, &mut tallies, table, &units[*number as usize])?;
     }
-    Ok(tallies.best(alloc, specs)?)
+    Ok(tallies.best(alloc, classes, specs)?)
 }
 
-/// The columns of a table, each in the form in which its values take the fewest bytes, over all entries of these units, which
+/// The columns of a table, each in the form of the classes in which its values take the fewest bytes, over all entries of these units, which
 /// have the table. Where a column of DW_FORM_ref_addr has values, and all name places in their own units, it gets DW_FORM_ref_udata.
 /// `units` are all units, and `named` are the numbers of those. The only error is want of memory.
 pub fn choose_columns(
     alloc: Global,
+    classes: Classes,
     units: &Vec<Unit<'_>>,
     named: &Vec<u32>,
     table: &Table,
 ) -> Result<Vec<Spec>, NoMemory>
     requires table { IsTable table.now }
     requires named { (section : List ℕ) × AreUnitsOf units.now.items table.now named.now.items section }
-    ensures { IfOk result (λ columns. (section : List ℕ) → AreUnitsOf units.now.items table.now named.now.items section → AreBestInside section units.now.items table.now.decls named.now.items table.now.specs columns.items) }
+    ensures { IfOk result (λ columns. (section : List ℕ) → AreUnitsOf units.now.items table.now named.now.items section → AreBestInside classes section units.now.items table.now.decls named.now.items table.now.specs columns.items) }
 {
-    let mut columns = best_columns(alloc, units, named, table)?;
+    let mut columns = best_columns(alloc, classes, units, named, table)?;
     if has_section_refs(&columns) {
         let seen = see_columns(alloc, units, named, table)?;
         take_inside(&mut columns, &seen);

@@ -1,4 +1,4 @@
-//! A whole file written anew: its line number programs, range lists, abbreviation tables and units, with all that refers to them.
+//! A whole file written anew: its line number programs, range lists, location lists, abbreviation tables and units, with all that refers to them.
 #![tactic(auto)]
 
 mod anew;
@@ -33,7 +33,7 @@ mod unit_tests;
 mod units;
 mod uses;
 
-pub use file::{Rewritten, rewrite};
+pub use file::{Rewritten, rewrite, rewrite_in, rewrite_world};
 
 #[cfg(test)]
 mod tests;

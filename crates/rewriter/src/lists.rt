@@ -1,6 +1,7 @@
 // The lists of a file written anew.
-ghost use Rattle.std.specs.Prelude.{◌≡◌, ◌≢◌, ◌≤◌, ◌<◌, [], length, slice_index_or, slice_range, IfOk};
+ghost use Rattle.std.specs.Prelude.{◌≡◌, ◌≢◌, ◌⊎◌, true, false, ◌≤◌, ◌<◌, [], length, slice_index_or, slice_range, IfOk};
 ghost use Rattle.std.specs.List.{Contains};
+ghost use Rattle.dw_base.specs.declared.classes.Classes.{Classes as AnyClasses};
 ghost use Rattle.dw_base.specs.declared.fault.Reach.TheVariants.{Narrow};
 ghost use Rattle.spelled.specs.Spelled.{Appends};
 ghost use Rattle.leb_codec.specs.Records.{OfList, SpellsRecord};
@@ -18,7 +19,7 @@ ghost use Rattle.rewriter.specs.inside.Lists.{AreListsWritten, AreListsRecorded}
 
 use crate::list_expressions::new_expressions;
 use certificates::{Proof, put_record};
-use dw_base::NoMemory;
+use dw_base::{Classes, NoMemory};
 use list_arena::{ListRead, Views};
 use list_least::{Plan, least_in, shortest_lists};
 use list_lookup::TableMaps;
@@ -29,7 +30,7 @@ use std::alloc::Global;
 use unit_write::{Places, bytes_are_small};
 use value_links::World;
 
-// The plan of a list that isn't frozen: the shortest entries that give its items in the context of its owner.
+// The plan of a list that isn't kept: the shortest entries that give its items in the context of its owner.
 fn live_plan(
     alloc: Global,
     world: &World<'_>,
@@ -44,8 +45,8 @@ fn live_plan(
     requires maps { AreMapsFor world.now addr.now maps.now }
     requires list { Contains (lists_held world.now kind) list.now }
     requires items { list.now.meaning ≡ Live items.now }
-    ensures plan { IfOk result (IsPlanOf world.now kind list.now) }
-    ensures potentials { IfOk result (λ plan. ArePotentialsOf world.now kind list.now plan.potentials.items) }
+    ensures plan { IfOk result (λ plan. (classes : AnyClasses) → classes.lists ≡ true → IsPlanOf classes world.now kind list.now plan) }
+    ensures potentials { IfOk result (λ plan. (classes : AnyClasses) → classes.lists ≡ true → ArePotentialsOf classes world.now kind list.now plan.potentials.items) }
 {
     // Laws: the shortest bytes of a plan are least in the class of the list, and entries mean one thing.
     shortest_lists();
@@ -60,11 +61,16 @@ fn live_plan(
     least_in(alloc, kind, items, &context, addr, indexes)
 }
 
-// The plan of a list that is frozen: its own entries.
-fn frozen_plan(alloc: Global, kind: ListKind, list: &ListRead) -> Result<Plan, NoMemory>
+// The plan of a list that is kept: its own entries.
+fn plan_kept(
+    alloc: Global,
+    classes: Classes,
+    kind: ListKind,
+    list: &ListRead,
+) -> Result<Plan, NoMemory>
     requires list { (world : AnyWorld) × IsWorldOf world.image Narrow world × Contains (lists_held world kind) list.now }
-    requires meaning { list.now.meaning ≡ Dead }
-    ensures { IfOk result (λ plan. (world : AnyWorld) → IsPlanOf world kind list.now plan) }
+    requires kept { (classes.lists ≡ false) ⊎ (list.now.meaning ≡ Dead) }
+    ensures { IfOk result (λ plan. (world : AnyWorld) → IsPlanOf classes world kind list.now plan) }
 {
     // Laws: the shortest bytes of entries are least in their class, and what was read says one list of entries.
     shortest_lists();
@@ -72,9 +78,10 @@ fn frozen_plan(alloc: Global, kind: ListKind, list: &ListRead) -> Result<Plan, N
     kept_plan(alloc, kind, list.entries())
 }
 
-// How a list is written: the shortest entries that give its items in the context of its owner or, where it is frozen, its own.
+// How a list is written: the shortest entries that give its items in the context of its owner or, where it is kept, its own.
 fn plan_of(
     alloc: Global,
+    classes: Classes,
     world: &World<'_>,
     maps: &TableMaps,
     addr: &[u8],
@@ -85,12 +92,14 @@ fn plan_of(
     requires addr { addr.now ≡ debug_addr world.now.image }
     requires maps { AreMapsFor world.now addr.now maps.now }
     requires list { Contains (lists_held world.now kind) list.now }
-    ensures plan { IfOk result (IsPlanOf world.now kind list.now) }
-    ensures potentials { IfOk result (λ plan. list.now.meaning ≢ Dead → ArePotentialsOf world.now kind list.now plan.potentials.items) }
+    ensures plan { IfOk result (IsPlanOf classes world.now kind list.now) }
+    ensures potentials { IfOk result (λ plan. classes.lists ≡ true → list.now.meaning ≢ Dead → ArePotentialsOf classes world.now kind list.now plan.potentials.items) }
 {
     match list.meaning() {
-        Meaning::Live(items) => live_plan(alloc, world, maps, addr, kind, list, items.as_slice()),
-        Meaning::Dead => frozen_plan(alloc, kind, list),
+        Meaning::Live(items) if classes.lists => {
+            live_plan(alloc, world, maps, addr, kind, list, items.as_slice())
+        }
+        _ => plan_kept(alloc, classes, kind, list),
     }
 }
 
@@ -141,15 +150,16 @@ fn runs_with(
     Ok(runs)
 }
 
-// Appends the record of a list that isn't frozen, whose potentials are taken from its plan: nothing else asks for them.
+// Appends the record of a list that isn't kept, whose potentials are taken from its plan: nothing else asks for them.
 fn record_plan(
     alloc: Global,
+    classes: Classes,
     records: &mut Vec<u8>,
     list: &ListRead,
     plan: Plan,
 ) -> Result<Plan, NoMemory>
-    ensures recorded { IfOk result (λ rest. list.now.meaning ≢ Dead → Appends SpellsRecord (OfList plan.potentials.items) records.old.items records.new.items) }
-    ensures frozen { IfOk result (λ rest. list.now.meaning ≡ Dead → records.new.items ≡ records.old.items) }
+    ensures recorded { IfOk result (λ rest. classes.lists ≡ true → list.now.meaning ≢ Dead → Appends SpellsRecord (OfList plan.potentials.items) records.old.items records.new.items) }
+    ensures kept { IfOk result (λ rest. (classes.lists ≡ false) ⊎ (list.now.meaning ≡ Dead) → records.new.items ≡ records.old.items) }
     ensures picks { IfOk result (λ rest. (rest.picks.items ≡ plan.picks.items) × (rest.size ≡ plan.size)) }
 {
     let Plan {
@@ -157,7 +167,7 @@ fn record_plan(
         potentials,
         size,
     } = plan;
-    if let Meaning::Live(_) = list.meaning() {
+    if classes.lists && matches!(list.meaning(), Meaning::Live(_)) {
         put_record(records, &Proof::List(potentials))?;
     }
     Ok(Plan {
@@ -169,9 +179,10 @@ fn record_plan(
 
 // The lists of a kind that something names, each written by its plan with the new expressions of its items, behind the view pairs
 // that go with it. Each is written as soon as it is planned, so that no more than one plan is held. Appends the records of those
-// that aren't frozen.
+// that aren't kept.
 fn write_pieces(
     alloc: Global,
+    classes: Classes,
     records: &mut Vec<u8>,
     world: &World<'_>,
     maps: &TableMaps,
@@ -182,8 +193,8 @@ fn write_pieces(
     requires maps { AreMapsFor world.now (debug_addr world.now.image) maps.now }
     requires placed { AllHavePlaces world.now places.now.items }
     requires none { records.old.items ≡ [] }
-    ensures planned { IfOk result (λ pieces. ArePiecesPlanned world.now places.now.items kind (length (lists_held world.now kind)) (length (views_held world.now kind)) pieces) }
-    ensures recorded { IfOk result (λ pieces. AreRecordedTo world.now kind (length (lists_held world.now kind)) records.new.items) }
+    ensures planned { IfOk result (λ pieces. ArePiecesPlanned classes world.now places.now.items kind (length (lists_held world.now kind)) (length (views_held world.now kind)) pieces) }
+    ensures recorded { IfOk result (λ pieces. AreRecordedTo classes world.now kind (length (lists_held world.now kind)) records.new.items) }
 {
     let addr = world.section(b".debug_addr");
     let section = section_of(world, kind);
@@ -193,8 +204,8 @@ fn write_pieces(
     let mut pieces = WrittenPieces::new(alloc);
     for number in 0..lists.len() {
         let list = lists.list(alloc, number)?;
-        let planned = plan_of(alloc, world, maps, addr, kind, &list)?;
-        let plan = record_plan(alloc, records, &list, planned)?;
+        let planned = plan_of(alloc, classes, world, maps, addr, kind, &list)?;
+        let plan = record_plan(alloc, classes, records, &list, planned)?;
         let expressions = new_expressions(alloc, world, places, kind, &list, section)?;
         let runs = runs_with(alloc, world.views(), next, count, list.at())?;
         next += runs.len();
@@ -225,15 +236,17 @@ fn section_of<'a>(world: &'a World<'_>, kind: ListKind) -> &'a [u8]
 pub struct WrittenLists {
     /// Their section.
     pub image: ListImage,
-    /// The records that show why each list that isn't frozen is the shortest, one after the other in the order of the lists.
+    /// The records that show why each list that isn't kept is the shortest, one after the other in the order of the lists.
     pub records: Vec<u8>,
 }
 
 /// The body of .debug_rnglists or .debug_loclists with the lists that something names written anew (DWARF 5 sections 2.6.2, 2.17.3,
-/// 7.7.3, 7.25, 7.28 and 7.29), each in its contribution and in the fewest bytes, with its expressions, in which each reference counts
-/// to the new place of what it names. Before it stand its view pairs. `places` are those of the units. The only error is want of memory.
+/// 7.7.3, 7.25, 7.28 and 7.29), each in its contribution and in the fewest bytes of its class, with its expressions, in which each
+/// reference counts to the new place of what it names. Before it stand its view pairs. `places` are those of the units. The only error is
+/// want of memory.
 pub fn write_kind(
     alloc: Global,
+    classes: Classes,
     world: &World<'_>,
     maps: &TableMaps,
     places: &Vec<Places>,
@@ -242,12 +255,12 @@ pub fn write_kind(
     requires world { IsWorldOf world.now.image Narrow world.now }
     requires maps { AreMapsFor world.now (debug_addr world.now.image) maps.now }
     requires placed { AllHavePlaces world.now places.now.items }
-    ensures written { IfOk result (λ new. (r : Reading) → Holds world.now.image world.now r → AreListsWritten r places.now.items kind new.image.bytes.items new.image.parts.items new.image.lists.items new.image.views.items) }
-    ensures recorded { IfOk result (λ new. (r : Reading) → Holds world.now.image world.now r → AreListsRecorded r kind new.records.items) }
+    ensures written { IfOk result (λ new. (r : Reading) → Holds world.now.image world.now r → AreListsWritten classes r places.now.items kind new.image.bytes.items new.image.parts.items new.image.lists.items new.image.views.items) }
+    ensures recorded { IfOk result (λ new. (r : Reading) → Holds world.now.image world.now r → AreListsRecorded classes r kind new.records.items) }
     ensures fits { IfOk result (λ new. length new.image.bytes.items < least_reserved) }
 {
     let mut records = Vec::new(alloc);
-    let pieces = write_pieces(alloc, &mut records, world, maps, places, kind)?;
+    let pieces = write_pieces(alloc, classes, &mut records, world, maps, places, kind)?;
     let section = section_of(world, kind);
     let parts = world.contributions(kind);
     let image = assemble(alloc, kind, section, parts, &pieces)?;

@@ -1,5 +1,6 @@
 // The new numbers of references and section offsets, and the new expressions.
 ghost use Rattle.std.specs.Prelude.{◌≡◌, ◌≤◌, ◌<◌, ◌+◌, ◌^◌, ℕ, List, IfOk, OnOk, length, slice_index};
+ghost use Rattle.dw_base.specs.declared.classes.Classes.{Classes};
 ghost use Rattle.dw_base.specs.declared.fault.Reach.{Reach};
 ghost use Rattle.dw_base.specs.declared.fault.Reach.TheVariants.{Narrow};
 ghost use Rattle.entry_arena.specs.declared.entry.Target.{Target};
@@ -413,7 +414,7 @@ pub fn new_numbers(
 ) -> Result<NewNumbers, NoMemory>
     requires world { IsWorldOf world.now.image Narrow world.now }
     requires unit { unit < length world.now.units }
-    requires tables { (abbrevs : List ℕ) × (length abbrevs < 2 ^ 32) × AreTablesWritten world.now abbrevs tables.now.items }
+    requires tables { (abbrevs : List ℕ) × (length abbrevs < 2 ^ 32) × (classes : Classes) × AreTablesWritten classes world.now abbrevs tables.now.items }
     requires own { own.now ≡ written_in world.now tables.now.items unit }
     requires taken { AreTaken world.now tables.now.items }
     requires places { (size : ℕ) × ArePlacesOf world.now tables.now.items places.now.items size }

@@ -15,7 +15,7 @@ use certificates::{Proof, put_record};
 use dw_base::NoMemory;
 use list_lookup::owned_lists;
 use std::alloc::Global;
-use unit_write::{Places, lay_out, place_unit, slots_fit};
+use unit_write::{Places, lay_out, slots_fit};
 use value_links::World;
 
 /// Where units stand, and why their slots can't be smaller.
@@ -67,15 +67,7 @@ fn place_numbered(
         &lists,
     )?;
     put_record(records, &Proof::Layout(laid.ranks))?;
-    place_unit(
-        alloc,
-        unit,
-        decls,
-        &new.columns,
-        &new.numbers,
-        &laid.lens,
-        start,
-    )
+    Ok(laid.places.moved_to(start))
 }
 
 /// Where the units of a file stand in the new .debug_info, with their entries and the codes 0 that end chains, by the new columns

@@ -1,14 +1,14 @@
 // The sections of a file written anew, worked out by hand.
 use crate::sections::{NewSections, write_sections};
 use crate::test_file::{FILE, NEW_ABBREVS, NEW_INFO, NEW_LINES, NEW_SETS, world_of};
-use dw_base::NoMemory;
+use dw_base::{Classes, NoMemory};
 use std::alloc::Global;
 use std::test::Fail;
 
 // The sections of the file written anew.
 fn sections_of(alloc: Global) -> Result<NewSections, NoMemory> {
     let world = world_of(alloc, &FILE)?;
-    let new = write_sections(alloc, &world)?;
+    let new = write_sections(alloc, Classes::every(), &world)?;
     Ok(new.sections)
 }
 

@@ -1,5 +1,5 @@
 // The sections of a file that are written anew.
-ghost use Rattle.std.specs.Prelude.{◌≡◌, ◌++◌, IfOk};
+ghost use Rattle.std.specs.Prelude.{◌≡◌, ◌++◌, IfOk, true, false};
 ghost use Rattle.leb_codec.specs.Records.{magic};
 ghost use Rattle.dw_base.specs.declared.fault.Reach.TheVariants.{Narrow};
 ghost use Rattle.line_write.specs.Least.{LeastLines, OrderedLines};
@@ -16,8 +16,8 @@ use crate::new_places::{ListPlaces, NewPlaces, moved_views};
 use crate::places::{PlacedUnits, place_units};
 use crate::tables::write_tables;
 use crate::units::write_units;
-use certificates::MAGIC;
-use dw_base::NoMemory;
+use certificates::magic;
+use dw_base::{Classes, NoMemory};
 use list_lookup::TableMaps;
 use list_model::ListKind;
 use loc_lists::locations_written;
@@ -52,18 +52,19 @@ pub struct Anew {
     pub certificate: Vec<u8>,
 }
 
-// A record file of these records, which are given back: of line number programs, of range lists, of location lists and of units.
+// A record file of these records for these classes: of line number programs, of range lists, of location lists and of units.
 fn certificate_of(
     alloc: Global,
+    classes: Classes,
     lines: Vec<u8>,
     ranges: Vec<u8>,
     locations: Vec<u8>,
     units: Vec<u8>,
 ) -> Result<Vec<u8>, NoMemory>
-    ensures { IfOk result (λ certificate. certificate.items ≡ magic ++ (lines.items ++ (ranges.items ++ (locations.items ++ units.items)))) }
+    ensures { IfOk result (λ certificate. certificate.items ≡ magic classes ++ (lines.items ++ (ranges.items ++ (locations.items ++ units.items)))) }
 {
     let mut certificate = Vec::new(alloc);
-    certificate.extend_from_slice(&MAGIC)?;
+    certificate.extend_from_slice(&magic(classes))?;
     certificate.extend_from_slice(&lines)?;
     certificate.extend_from_slice(&ranges)?;
     certificate.extend_from_slice(&locations)?;
@@ -71,23 +72,24 @@ fn certificate_of(
     Ok(certificate)
 }
 
-/// Writes the debug sections of a file anew: its line number programs and abbreviation tables, then its lists by the new places of its
-/// units, then its units, and the sets of address ranges that name these; and the certificate that shows why nothing shorter is in their
-/// classes. Each section has fewer than the 2^32 - 1 bytes that one of the 32-bit format can't have (DWARF 5 section 7.4). The only error
-/// is want of memory.
-pub fn write_sections(alloc: Global, world: &World<'_>) -> Result<Anew, NoMemory>
+/// Writes the debug sections of a file anew in some classes: its line number programs and abbreviation tables, then its lists by the new
+/// places of its units, then its units, and the sets of address ranges that name these; and the certificate that shows why nothing
+/// shorter is in their classes. Each section has fewer than the 2^32 - 1 bytes that one of the 32-bit format can't have (DWARF 5 section
+/// 7.4). The only error is want of memory.
+pub fn write_sections(alloc: Global, classes: Classes, world: &World<'_>) -> Result<Anew, NoMemory>
     requires world { IsWorldOf world.now.image Narrow world.now }
-    ensures anew { IfOk result (λ new. (r : Reading) → IsReading world.now.image r → Holds world.now.image world.now r → (s : Reading) × AreAnew world.now.image world.now r s new.sections new.certificate.items) }
+    ensures anew { IfOk result (λ new. (r : Reading) → IsReading world.now.image r → Holds world.now.image world.now r → (s : Reading) × AreAnew classes world.now.image world.now r s new.sections new.certificate.items) }
     ensures sections { IfOk result (λ new. AreFor world.now.image new.sections) }
-    ensures least { IfOk result (λ new. LeastLines (debug_line world.now.image) new.sections.lines.items) }
-    ensures order { IfOk result (λ new. OrderedLines (debug_line world.now.image) new.sections.lines.items) }
+    ensures least { IfOk result (λ new. classes.lines ≡ true → LeastLines (debug_line world.now.image) new.sections.lines.items) }
+    ensures order { IfOk result (λ new. classes.lines ≡ true → OrderedLines (debug_line world.now.image) new.sections.lines.items) }
+    ensures kept { IfOk result (λ new. classes.lines ≡ false → new.sections.lines.items ≡ debug_line world.now.image) }
 {
     // Laws, which cost nothing: what was read of a unit can be written, and lists that are written are read.
     values_have_sizes();
     ranges_written();
     locations_written();
-    let lines = write_lines(alloc, world)?;
-    let tables = write_tables(alloc, world)?;
+    let lines = write_lines(alloc, classes, world)?;
+    let tables = write_tables(alloc, classes, world)?;
     let PlacedUnits {
         places,
         records: unit_records,
@@ -96,13 +98,14 @@ pub fn write_sections(alloc: Global, world: &World<'_>) -> Result<Anew, NoMemory
     let WrittenLists {
         image: ranges,
         records: range_records,
-    } = write_kind(alloc, world, &maps, &places, ListKind::Ranges)?;
+    } = write_kind(alloc, classes, world, &maps, &places, ListKind::Ranges)?;
     let WrittenLists {
         image: locations,
         records: location_records,
-    } = write_kind(alloc, world, &maps, &places, ListKind::Locations)?;
+    } = write_kind(alloc, classes, world, &maps, &places, ListKind::Locations)?;
     let certificate = certificate_of(
         alloc,
+        classes,
         lines.records,
         range_records,
         location_records,

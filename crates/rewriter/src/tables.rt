@@ -15,7 +15,7 @@ use crate::columns::{Namers, choose_columns, units_by_table};
 use crate::uses::{Uses, count_uses};
 use abbrev_numbering::number;
 use abbrev_tables::{Spec, Table, listings, tables_written, write_table};
-use dw_base::NoMemory;
+use dw_base::{Classes, NoMemory};
 use entry_arena::trees_are_walks;
 use std::alloc::Global;
 use value_links::World;
@@ -71,10 +71,11 @@ fn append_table(
     })
 }
 
-// Appends the table with a number, each column in its least form. `named` are the units that have the table, and `uses` says how
-// many entries have each of its declarations.
+// Appends the table with a number, each column in its least form of the classes. `named` are the units that have the table, and `uses`
+// says how many entries have each of its declarations.
 fn append_numbered(
     alloc: Global,
+    classes: Classes,
     bytes: &mut Vec<u8>,
     world: &World<'_>,
     named: &Vec<u32>,
@@ -87,10 +88,10 @@ fn append_numbered(
     requires uses { AreUses world.now.units (table_at world.now.tables number) uses.now.items }
     requires few { length uses.now.items < 2 ^ 32 }
     ensures appended { IfOk result (λ new. IsAppended (table_at world.now.tables number).table uses.now.items bytes.old.items bytes.new.items (table_anew new)) }
-    ensures chosen { IfOk result (λ new. AreColumnsChosen world.now.units (table_at world.now.tables number) new.columns.items) }
+    ensures chosen { IfOk result (λ new. AreColumnsChosen classes world.now.units (table_at world.now.tables number) new.columns.items) }
 {
     let old = &world.tables()[number].table;
-    let columns = choose_columns(alloc, world.units(), named, old)?;
+    let columns = choose_columns(alloc, classes, world.units(), named, old)?;
     append_table(alloc, bytes, old, uses, columns)
 }
 
@@ -98,6 +99,7 @@ fn append_numbered(
 // declarations. A used declaration has an entry, and a column of it a value of that entry, so that the bytes are few.
 fn write_all(
     alloc: Global,
+    classes: Classes,
     world: &World<'_>,
     named: &Vec<Namers>,
     all: &Vec<Uses>,
@@ -105,13 +107,21 @@ fn write_all(
     requires world { (reach : Reach) × IsWorldOf world.now.image reach world.now }
     requires named { AreNamers world.now.table_of (length world.now.tables) (length world.now.units) named.now.items }
     requires uses { AreCounted world.now.units world.now.tables all.now.items }
-    ensures appended { IfOk result (λ new. AreAppended world.now.units world.now.tables all.now.items (length world.now.tables) new.bytes.items new.tables.items) }
+    ensures appended { IfOk result (λ new. AreAppended classes world.now.units world.now.tables all.now.items (length world.now.tables) new.bytes.items new.tables.items) }
     ensures fits { IfOk result (λ new. length new.bytes.items < 2 ^ 32 - 1) }
 {
     let mut bytes = Vec::new(alloc);
     let mut written = Vec::new(alloc);
     for i in 0..world.tables().len() {
-        let new = append_numbered(alloc, &mut bytes, world, &named[i].units, &all[i].counts, i)?;
+        let new = append_numbered(
+            alloc,
+            classes,
+            &mut bytes,
+            world,
+            &named[i].units,
+            &all[i].counts,
+            i,
+        )?;
         written.push(new)?;
     }
     Ok(Tables {
@@ -122,12 +132,12 @@ fn write_all(
 
 /// Writes the abbreviation tables of a file anew (DWARF 5 section 7.5.3), each of those that units name once, in the order of
 /// their places. A table has its used declarations, with codes that take the fewest bytes in the table and in the entries of
-/// all units that name it, and each column in the form that takes the fewest bytes in the same entries and the declaration.
+/// all units that name it, and each column in the form of the classes that takes the fewest bytes in the same entries and the declaration.
 /// The section has fewer than 2^32 - 1 bytes, so that 4 bytes hold each place in it (DWARF 5
 /// section 7.4). The only error is want of memory.
-pub fn write_tables(alloc: Global, world: &World<'_>) -> Result<Tables, NoMemory>
+pub fn write_tables(alloc: Global, classes: Classes, world: &World<'_>) -> Result<Tables, NoMemory>
     requires world { (reach : Reach) × IsWorldOf world.now.image reach world.now }
-    ensures written { IfOk result (λ tables. AreTablesWritten world.now tables.bytes.items tables.tables.items) }
+    ensures written { IfOk result (λ tables. AreTablesWritten classes world.now tables.bytes.items tables.tables.items) }
     ensures fits { IfOk result (λ tables. length tables.bytes.items < 2 ^ 32 - 1) }
 {
     // A law, which costs nothing: the entries of a unit are those of a walk, by the declarations of its table.
@@ -135,5 +145,5 @@ pub fn write_tables(alloc: Global, world: &World<'_>) -> Result<Tables, NoMemory
     let tables = world.tables();
     let uses = count_uses(alloc, world.units(), tables, world.table_numbers())?;
     let named = units_by_table(alloc, world.table_numbers(), tables.len())?;
-    write_all(alloc, world, &named, &uses)
+    write_all(alloc, classes, world, &named, &uses)
 }

@@ -1,5 +1,6 @@
 // A small file that holds some of all that is written anew.
 ghost use Rattle.std.specs.Prelude.{◌<◌, ◌-◌, ◌^◌, length, IfOk};
+ghost use Rattle.dw_base.specs.Classes.{every};
 ghost use Rattle.dw_base.specs.declared.fault.Reach.TheVariants.{Narrow};
 ghost use Rattle.value_links.specs.World.{IsWorldOf};
 ghost use Rattle.rewriter.specs.inside.Tables.{AreTablesWritten};
@@ -8,7 +9,7 @@ ghost use Rattle.rewriter.specs.inside.Held.{AreListPlaces, AreNewPlaces};
 
 use crate::new_places::{ListPlaces, NewPlaces};
 use crate::tables::{Tables, write_tables};
-use dw_base::{NoMemory, Reach};
+use dw_base::{Classes, NoMemory, Reach};
 use list_model::ListKind;
 use std::alloc::Global;
 use unit_write::values_have_sizes;
@@ -114,14 +115,14 @@ pub fn world_of<'a>(alloc: Global, file: &'a [u8]) -> Result<World<'a>, NoMemory
 /// The tables of the file of a world, written anew. A unit can be written by them. The only error is want of memory.
 pub fn tables_of(alloc: Global, world: &World<'_>) -> Result<Tables, NoMemory>
     requires world { IsWorldOf world.now.image Narrow world.now }
-    ensures written { IfOk result (λ tables. AreTablesWritten world.now tables.bytes.items tables.tables.items) }
+    ensures written { IfOk result (λ tables. AreTablesWritten every world.now tables.bytes.items tables.tables.items) }
     ensures narrow { IfOk result (λ tables. length tables.bytes.items < 2 ^ 32) }
     ensures taken { IfOk result (λ tables. AreTaken world.now tables.tables.items) }
     ensures writable { IfOk result (λ tables. AreWritable world.now tables.tables.items) }
 {
     // A law, which costs nothing: what was read of a unit can be written.
     values_have_sizes();
-    write_tables(alloc, world)
+    write_tables(alloc, Classes::every(), world)
 }
 
 // The new places of the lists of a kind, where the file of a world has none; NoMemory where it has some.

@@ -1,5 +1,6 @@
 // Units written anew.
 ghost use Rattle.std.specs.Prelude.{◌≡◌, ◌<◌, ◌^◌, ℕ, List, IfOk, OnOk, length};
+ghost use Rattle.dw_base.specs.declared.classes.Classes.{Classes};
 ghost use Rattle.dw_base.specs.declared.fault.Reach.TheVariants.{Narrow};
 ghost use Rattle.leb_codec.specs.Digits.{Extends};
 ghost use Rattle.fixed_width.specs.InitialLengths.{least_reserved};
@@ -31,7 +32,7 @@ fn write_numbered(
 ) -> Result<(), NoMemory>
     requires world { IsWorldOf world.now.image Narrow world.now }
     requires known { number < length world.now.units }
-    requires tables { AreTablesWritten world.now tables.now.bytes.items tables.now.tables.items }
+    requires tables { (classes : Classes) × AreTablesWritten classes world.now tables.now.bytes.items tables.now.tables.items }
     requires narrow { length tables.now.bytes.items < 2 ^ 32 }
     requires taken { AreTaken world.now tables.now.tables.items }
     requires writable { AreWritable world.now tables.now.tables.items }
@@ -87,7 +88,7 @@ pub fn write_units(
     new_places: &NewPlaces,
 ) -> Result<Vec<u8>, NoMemory>
     requires world { IsWorldOf world.now.image Narrow world.now }
-    requires tables { AreTablesWritten world.now tables.now.bytes.items tables.now.tables.items }
+    requires tables { (classes : Classes) × AreTablesWritten classes world.now tables.now.bytes.items tables.now.tables.items }
     requires narrow { length tables.now.bytes.items < 2 ^ 32 }
     requires taken { AreTaken world.now tables.now.tables.items }
     requires writable { AreWritable world.now tables.now.tables.items }

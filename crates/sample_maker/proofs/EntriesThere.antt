@@ -13,7 +13,7 @@ use Rattle.sample_maker.specs.Places.{unit_extent}
 use Rattle.sample_maker.specs.inside.Bytes.{word, long, root_bytes, function_entry_bytes, parameter_entry_bytes, block_entry_bytes, base_type_bytes}
 use Rattle.sample_maker.specs.inside.ReadUnits.{root_number, function_number, parameter_number, base_type_number, block_number, declared_read}
 use Rattle.sample_maker.proofs.Lengths.{word_length, long_length}
-use Rattle.sample_maker.proofs.PlacedBytes.{LiesAt, lies_first, lies_behind, lies_from, lies_take, word_there, long_there, data_small, byte_there, text_there, expression_there, present_there, constant_there, code_there, one_byte, more_bytes}
+use Rattle.sample_maker.proofs.PlacedBytes.{LiesAt, lies_first, lies_behind, lies_from, lies_take, word_there, long_there, byte_there, text_there, expression_there, present_there, constant_there, code_there, one_byte, more_bytes}
 use Rattle.sample_maker.proofs.ForestParts.{IsEntryRead}
 
 -- an entry between two places, by how many bytes it has
@@ -57,23 +57,23 @@ parameter_there section at to line type list views first end few_line few_type f
       coded = code_there section at 3 (omega arith) (lies_first section at (3 ∷ []) (0x78 ∷ 0 ∷ rest) l);
       valued = (
         at + 1 + 2,
-        text_there section (at + 1) (at + 1) (at + 1 + 2) 1 (0x78 ∷ []) refl (omega arith) refl (clear_one 0x78 (omega arith)) (more_bytes 0x78 (0 ∷ []) (omega arith) (one_byte 0 (omega arith))) text,
+        text_there 0x03 section (at + 1) (at + 1) (at + 1 + 2) 1 (0x78 ∷ []) refl (omega arith) refl (clear_one 0x78 (omega arith)) (more_bytes 0x78 (0 ∷ []) (omega arith) (one_byte 0 (omega arith))) text,
         (refl, omega arith),
         (
           at + 1 + 2 + 1,
-          byte_there section (at + 1 + 2) line few_line (lies_first section (at + 1 + 2) (line ∷ []) (word type ++ lists) l2),
+          byte_there 0x3b section (at + 1 + 2) line refl (omega (arith, few_line)) (lies_first section (at + 1 + 2) (line ∷ []) (word type ++ lists) l2),
           tt,
           (
             at + 1 + 2 + 1 + 4,
-            word_there form.Ref4 role.LocalRef section (at + 1 + 2 + 1) type (InUnit type) refl few_type refl (lies_first section (at + 1 + 2 + 1) (word type) lists l3),
+            word_there 0x49 form.Ref4 role.LocalRef section (at + 1 + 2 + 1) type (InUnit type) refl few_type refl (lies_first section (at + 1 + 2 + 1) (word type) lists l3),
             tt,
             (
               at + 1 + 2 + 1 + 4 + 4,
-              word_there form.SecOffset role.Offset section (at + 1 + 2 + 1 + 4) list (SectionPlace list) refl few_list refl (lies_first section (at + 1 + 2 + 1 + 4) (word list) (word views) l4),
+              word_there 0x02 form.SecOffset role.Offset section (at + 1 + 2 + 1 + 4) list (SectionPlace list) refl few_list refl (lies_first section (at + 1 + 2 + 1 + 4) (word list) (word views) l4),
               tt,
               (
                 at + 1 + 2 + 1 + 4 + 4 + 4,
-                word_there form.SecOffset role.Offset section (at + 1 + 2 + 1 + 4 + 4) views (SectionPlace views) refl few_views refl l5,
+                word_there 0x2137 form.SecOffset role.Offset section (at + 1 + 2 + 1 + 4 + 4) views (SectionPlace views) refl few_views refl l5,
                 tt,
                 omega (arith, end),
               ),
@@ -95,7 +95,7 @@ block_there section at to list first end few_list l =
       known = omega arith;
       values_at = at + 1;
       coded = code_there section at 5 (omega arith) (lies_first section at (5 ∷ []) (word list) l);
-      valued = (at + 1 + 4, word_there form.SecOffset role.Offset section (at + 1) list (SectionPlace list) refl few_list refl l1, tt, omega (arith, end));
+      valued = (at + 1 + 4, word_there 0x55 form.SecOffset role.Offset section (at + 1) list (SectionPlace list) refl few_list refl l1, tt, omega (arith, end));
       entry = entry_len at to 5 2 block_number first 1 end;
       said = refl;
     }
@@ -130,15 +130,15 @@ base_type_there section at to first end l =
       coded = code_there section at 4 (omega arith) (lies_first section at (4 ∷ []) (4 ∷ 5 ∷ name) l);
       valued = (
         at + 1 + 1,
-        byte_there section (at + 1) 4 (omega arith) (lies_first section (at + 1) (4 ∷ []) (5 ∷ name) l1),
+        byte_there 0x0b section (at + 1) 4 refl (omega arith) (lies_first section (at + 1) (4 ∷ []) (5 ∷ name) l1),
         tt,
         (
           at + 1 + 1 + 1,
-          byte_there section (at + 1 + 1) 5 (omega arith) (lies_first section (at + 1 + 1) (5 ∷ []) name l2),
+          byte_there 0x3e section (at + 1 + 1) 5 refl (omega arith) (lies_first section (at + 1 + 1) (5 ∷ []) name l2),
           tt,
           (
             at + 1 + 1 + 1 + 4,
-            text_there section (at + 1 + 1 + 1) (at + 3) (at + 1 + 1 + 1 + 4) 3 (0x69 ∷ 0x6e ∷ 0x74 ∷ []) here (omega arith) refl clear_int small_int l3,
+            text_there 0x03 section (at + 1 + 1 + 1) (at + 3) (at + 1 + 1 + 1 + 4) 3 (0x69 ∷ 0x6e ∷ 0x74 ∷ []) here (omega arith) refl clear_int small_int l3,
             (here, omega arith),
             omega (arith, end),
           ),
@@ -182,39 +182,39 @@ function_there section at to line type low size sibling first end few_line few_t
       coded = code_there section at 2 (omega arith) (lies_first section at (2 ∷ []) (0x66 ∷ 0 ∷ rest) l);
       valued = (
         at + 1,
-        present_there section (at + 1) (0x66 ∷ 0 ∷ rest) l1,
+        present_there 0x3f section (at + 1) (0x66 ∷ 0 ∷ rest) l1,
         tt,
         (
           at + 1 + 2,
-          text_there section (at + 1) (at + 1) (at + 1 + 2) 1 (0x66 ∷ []) refl (omega arith) refl (clear_one 0x66 (omega arith)) (more_bytes 0x66 (0 ∷ []) (omega arith) (one_byte 0 (omega arith))) text,
+          text_there 0x03 section (at + 1) (at + 1) (at + 1 + 2) 1 (0x66 ∷ []) refl (omega arith) refl (clear_one 0x66 (omega arith)) (more_bytes 0x66 (0 ∷ []) (omega arith) (one_byte 0 (omega arith))) text,
           (refl, omega arith),
           (
             at + 1 + 2,
-            constant_there section (at + 1 + 2) rest l2,
+            constant_there 0x3a section (at + 1 + 2) rest l2,
             tt,
             (
               at + 1 + 2 + 1,
-              byte_there section (at + 1 + 2) line few_line (lies_first section (at + 1 + 2) (line ∷ []) (word type ++ lows) l2),
+              byte_there 0x3b section (at + 1 + 2) line refl (omega (arith, few_line)) (lies_first section (at + 1 + 2) (line ∷ []) (word type ++ lows) l2),
               tt,
               (
                 at + 1 + 2 + 1 + 4,
-                word_there form.Ref4 role.LocalRef section (at + 1 + 2 + 1) type (InUnit type) refl few_type refl (lies_first section (at + 1 + 2 + 1) (word type) lows l3),
+                word_there 0x49 form.Ref4 role.LocalRef section (at + 1 + 2 + 1) type (InUnit type) refl few_type refl (lies_first section (at + 1 + 2 + 1) (word type) lows l3),
                 tt,
                 (
                   at + 1 + 2 + 1 + 4 + 8,
-                  long_there form.Addr role.Address section (at + 1 + 2 + 1 + 4) low (Address low) refl few_low refl (lies_first section (at + 1 + 2 + 1 + 4) (long low) sizes l4),
+                  long_there 0x11 form.Addr role.Address section (at + 1 + 2 + 1 + 4) low (Address low) refl few_low refl (lies_first section (at + 1 + 2 + 1 + 4) (long low) sizes l4),
                   tt,
                   (
                     at + 1 + 2 + 1 + 4 + 8 + 8,
-                    long_there form.Data8 role.Data section (at + 1 + 2 + 1 + 4 + 8) size (Whole (pos size)) refl (omega (arith, few_size)) (data_small 8 size few_size) (lies_first section (at + 1 + 2 + 1 + 4 + 8) (long size) bases l5),
+                    long_there 0x12 form.Data8 role.Unsigned section (at + 1 + 2 + 1 + 4 + 8) size (Whole (pos size)) refl (omega (arith, few_size)) refl (lies_first section (at + 1 + 2 + 1 + 4 + 8) (long size) bases l5),
                     tt,
                     (
                       at + 1 + 2 + 1 + 4 + 8 + 8 + 2,
-                      expression_there section (at + 1 + 2 + 1 + 4 + 8 + 8) (at + 25) 0x9c here (omega arith) base,
+                      expression_there 0x40 section (at + 1 + 2 + 1 + 4 + 8 + 8) (at + 25) 0x9c here (omega arith) base,
                       omega arith,
                       (
                         at + 1 + 2 + 1 + 4 + 8 + 8 + 2 + 4,
-                        word_there form.Ref4 role.LocalRef section (at + 1 + 2 + 1 + 4 + 8 + 8 + 2) sibling (InUnit sibling) refl few_sibling refl l7,
+                        word_there 0x01 form.Ref4 role.LocalRef section (at + 1 + 2 + 1 + 4 + 8 + 8 + 2) sibling (InUnit sibling) refl few_sibling refl l7,
                         tt,
                         omega (arith, end),
                       ),
@@ -252,31 +252,31 @@ root_there section at to low program end few_low few_program l =
       coded = code_there section at 1 (omega arith) (lies_first section at (1 ∷ []) (word 0 ++ (0x1d ∷ names)) l);
       valued = (
         at + 1 + 4,
-        word_there form.Strp role.StrOffset section (at + 1) 0 (StringPlace 0) refl (omega arith) refl (lies_first section (at + 1) (word 0) (0x1d ∷ names) l1),
+        word_there 0x25 form.Strp role.StrOffset section (at + 1) 0 (StringPlace 0) refl (omega arith) refl (lies_first section (at + 1) (word 0) (0x1d ∷ names) l1),
         tt,
         (
           at + 1 + 4 + 1,
-          byte_there section (at + 1 + 4) 0x1d (omega arith) (lies_first section (at + 1 + 4) (0x1d ∷ []) names l2),
+          byte_there 0x13 section (at + 1 + 4) 0x1d refl (omega arith) (lies_first section (at + 1 + 4) (0x1d ∷ []) names l2),
           tt,
           (
             at + 1 + 4 + 1 + 4,
-            word_there form.LineStrp role.LineStrOffset section (at + 1 + 4 + 1) 0 (LineStringPlace 0) refl (omega arith) refl (lies_first section (at + 1 + 4 + 1) (word 0) places l3),
+            word_there 0x03 form.LineStrp role.LineStrOffset section (at + 1 + 4 + 1) 0 (LineStringPlace 0) refl (omega arith) refl (lies_first section (at + 1 + 4 + 1) (word 0) places l3),
             tt,
             (
               at + 1 + 4 + 1 + 4 + 4,
-              word_there form.LineStrp role.LineStrOffset section (at + 1 + 4 + 1 + 4) 4 (LineStringPlace 4) refl (omega arith) refl (lies_first section (at + 1 + 4 + 1 + 4) (word 4) lows l4),
+              word_there 0x1b form.LineStrp role.LineStrOffset section (at + 1 + 4 + 1 + 4) 4 (LineStringPlace 4) refl (omega arith) refl (lies_first section (at + 1 + 4 + 1 + 4) (word 4) lows l4),
               tt,
               (
                 at + 1 + 4 + 1 + 4 + 4 + 8,
-                long_there form.Addr role.Address section (at + 1 + 4 + 1 + 4 + 4) low (Address low) refl few_low refl (lies_first section (at + 1 + 4 + 1 + 4 + 4) (long low) extents l5),
+                long_there 0x11 form.Addr role.Address section (at + 1 + 4 + 1 + 4 + 4) low (Address low) refl few_low refl (lies_first section (at + 1 + 4 + 1 + 4 + 4) (long low) extents l5),
                 tt,
                 (
                   at + 1 + 4 + 1 + 4 + 4 + 8 + 8,
-                  long_there form.Data8 role.Data section (at + 1 + 4 + 1 + 4 + 4 + 8) unit_extent (Whole (pos unit_extent)) refl (omega arith) (data_small 8 unit_extent (omega arith)) (lies_first section (at + 1 + 4 + 1 + 4 + 4 + 8) (long unit_extent) (word program) l6),
+                  long_there 0x12 form.Data8 role.Unsigned section (at + 1 + 4 + 1 + 4 + 4 + 8) unit_extent (Whole (pos unit_extent)) refl (omega arith) refl (lies_first section (at + 1 + 4 + 1 + 4 + 4 + 8) (long unit_extent) (word program) l6),
                   tt,
                   (
                     at + 1 + 4 + 1 + 4 + 4 + 8 + 8 + 4,
-                    word_there form.SecOffset role.Offset section (at + 1 + 4 + 1 + 4 + 4 + 8 + 8) program (SectionPlace program) refl few_program refl l7,
+                    word_there 0x10 form.SecOffset role.Offset section (at + 1 + 4 + 1 + 4 + 4 + 8 + 8) program (SectionPlace program) refl few_program refl l7,
                     tt,
                     omega (arith, end),
                   ),

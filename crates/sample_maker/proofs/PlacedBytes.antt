@@ -1,7 +1,6 @@
 -- Bytes at a place of a section, and the values that they spell there.
-use Rattle.std.proofs.Common.{◌≡◌, ◌≤◌, ◌<◌, ◌+◌, ◌-◌, ◌*◌, ◌^◌, ℕ, zero, suc, List, [], ◌∷◌, ◌++◌, length, take, drop, true, leb, ◌∙◌, sym, ap, refl, subst, arith}
+use Rattle.std.proofs.Common.{◌≡◌, ◌≤◌, ◌<◌, ◌+◌, ◌-◌, ◌^◌, ℕ, zero, suc, List, [], ◌∷◌, ◌++◌, length, take, drop, true, ◌∙◌, sym, ap, refl, subst, arith}
 use Rattle.std.specs.Prelude.{ℤ, pos}
-use Rattle.std.proofs.lemmas.Bool.{cond_both, leb-true}
 use Rattle.std.proofs.lemmas.Int.{ints}
 use Rattle.std.proofs.lemmas.List.{append-nil, append_assoc, length-append, take_at, drop_at}
 use Rattle.spelled.specs.Spelled.{AreBytes}
@@ -12,10 +11,11 @@ use Rattle.form_codec.specs.declared.form.Form.{Form}
 use Rattle.form_codec.specs.declared.form.Form.TheVariants as form
 use Rattle.form_codec.specs.declared.form.Width.TheVariants.{One, Four, Eight}
 use Rattle.form_codec.specs.declared.form.Role.{Role}
+use Rattle.form_codec.specs.declared.form.Role.TheVariants as role
 use Rattle.form_codec.specs.declared.form.Shape.TheVariants.{Number}
 use Rattle.form_codec.specs.declared.value.Value.TheVariants as value
-use Rattle.form_codec.specs.Forms.{Meaning, SpellsShape, SpellsValue, HasNoZero, shape_of, code_of, in_role, data_of}
-use Rattle.form_codec.specs.Forms.Meaning.{Whole, Bits, Text, Expression, IsSet}
+use Rattle.form_codec.specs.Forms.{Meaning, SpellsShape, SpellsValue, HasNoZero, shape_of, code_of, in_role}
+use Rattle.form_codec.specs.Forms.Meaning.{Whole, Text, Expression, IsSet}
 use Rattle.form_codec.specs.Values.{meant_in}
 use Rattle.form_codec.specs.Written.{low_bytes}
 use Rattle.form_codec.proofs.WriteLaws.{number_low, low_small}
@@ -76,10 +76,10 @@ word_at section at n fits l = ap (λ z. number 4 z) (lies_drop section at (low_b
 
 -- VALUES
 
--- the bytes of a value of a form stand there
-pub value_there : (f : Form) (constant : ℤ) (section : List ℕ) (at to : ℕ) (bytes : List ℕ) (meaning : Meaning) → to ≡ at + length bytes → LiesAt section at bytes → AreBytes bytes → SpellsShape (shape_of f constant) meaning bytes → SpellsBetween (SpellsValue (code_of f) constant meaning) section at to
-value_there f constant section at to bytes meaning end l small spelled =
-    spells_there (SpellsValue (code_of f) constant meaning) section at to bytes end l (record { form = f; known = refl; small = small; spelled = spelled })
+-- the bytes of a value of a form stand there, under an attribute's name
+pub value_there : (name : ℕ) (f : Form) (constant : ℤ) (section : List ℕ) (at to : ℕ) (bytes : List ℕ) (meaning : Meaning) → to ≡ at + length bytes → LiesAt section at bytes → AreBytes bytes → SpellsShape (shape_of f name constant) meaning bytes → SpellsBetween (SpellsValue name (code_of f) constant meaning) section at to
+value_there name f constant section at to bytes meaning end l small spelled =
+    spells_there (SpellsValue name (code_of f) constant meaning) section at to bytes end l (record { form = f; known = refl; small = small; spelled = spelled })
 
 no_bytes : AreBytes []
 no_bytes k lt = absurd (omega arith)
@@ -93,51 +93,47 @@ more_bytes b bytes small others zero lt = small
 more_bytes b bytes small others (suc k) lt = others k (omega (arith, lt))
 
 -- a form of four bytes
-pub word_there : (f : Form) (r : Role) (section : List ℕ) (at n : ℕ) (meaning : Meaning) → shape_of f (pos 0) ≡ Number Four r → n < 256 ^ 4 → meaning ≡ in_role r Four n → LiesAt section at (word n) → SpellsBetween (SpellsValue (code_of f) (pos 0) meaning) section at (at + 4)
+pub word_there : (name : ℕ) (f : Form) (r : Role) (section : List ℕ) (at n : ℕ) (meaning : Meaning) → shape_of f name (pos 0) ≡ Number Four r → n < 256 ^ 4 → meaning ≡ in_role r Four n → LiesAt section at (word n) → SpellsBetween (SpellsValue name (code_of f) (pos 0) meaning) section at (at + 4)
 unfolding word
-word_there f r section at n meaning shape fits means l =
+word_there name f r section at n meaning shape fits means l =
     let said : meaning ≡ in_role r Four (number 4 (low_bytes Four n)) = means ∙ ap (λ (k : ℕ). in_role r Four k) (sym (number_low Four n fits)) in
-    value_there f (pos 0) section at (at + 4) (low_bytes Four n) meaning refl l (low_small 0 4 n) (subst (λ z. SpellsShape z meaning (low_bytes Four n)) (sym shape) (refl, said))
+    value_there name f (pos 0) section at (at + 4) (low_bytes Four n) meaning refl l (low_small 0 4 n) (subst (λ z. SpellsShape z meaning (low_bytes Four n)) (sym shape) (refl, said))
 
 -- of eight
-pub long_there : (f : Form) (r : Role) (section : List ℕ) (at n : ℕ) (meaning : Meaning) → shape_of f (pos 0) ≡ Number Eight r → n < 256 ^ 8 → meaning ≡ in_role r Eight n → LiesAt section at (long n) → SpellsBetween (SpellsValue (code_of f) (pos 0) meaning) section at (at + 8)
+pub long_there : (name : ℕ) (f : Form) (r : Role) (section : List ℕ) (at n : ℕ) (meaning : Meaning) → shape_of f name (pos 0) ≡ Number Eight r → n < 256 ^ 8 → meaning ≡ in_role r Eight n → LiesAt section at (long n) → SpellsBetween (SpellsValue name (code_of f) (pos 0) meaning) section at (at + 8)
 unfolding long
-long_there f r section at n meaning shape fits means l =
+long_there name f r section at n meaning shape fits means l =
     let said : meaning ≡ in_role r Eight (number 8 (low_bytes Eight n)) = means ∙ ap (λ (k : ℕ). in_role r Eight k) (sym (number_low Eight n fits)) in
-    value_there f (pos 0) section at (at + 8) (low_bytes Eight n) meaning refl l (low_small 0 8 n) (subst (λ z. SpellsShape z meaning (low_bytes Eight n)) (sym shape) (refl, said))
+    value_there name f (pos 0) section at (at + 8) (low_bytes Eight n) meaning refl l (low_small 0 8 n) (subst (λ z. SpellsShape z meaning (low_bytes Eight n)) (sym shape) (refl, said))
 
--- a number whose top bit is clear
-pub data_small : (size n : ℕ) → n < 2 ^ (8 * size - 1) → Whole (pos n) ≡ data_of size n
-data_small size n small = cond_both (leb (2 ^ (8 * size - 1)) n) (Bits size n) (Whole (pos n)) (λ (z : Meaning). Whole (pos n) ≡ z) (λ e. absurd (omega (arith, small, leb-true (2 ^ (8 * size - 1)) n e))) (λ e. refl)
-
--- DW_FORM_data1 of a number below 128
-pub byte_there : (section : List ℕ) (at n : ℕ) → n < 128 → LiesAt section at (n ∷ []) → SpellsBetween (SpellsValue 0x0b (pos 0) (Whole (pos n))) section at (at + 1)
-byte_there section at n small l =
+-- DW_FORM_data1 under a name that fixes the sign
+pub byte_there : (name : ℕ) (section : List ℕ) (at n : ℕ) → shape_of form.Data1 name (pos 0) ≡ Number One role.Unsigned → n < 256 → LiesAt section at (n ∷ []) → SpellsBetween (SpellsValue name 0x0b (pos 0) (Whole (pos n))) section at (at + 1)
+byte_there name section at n shape small l =
     let low : n ∷ [] ≡ low_bytes One n = ap (λ (z : ℕ). z ∷ []) (omega (arith, small)) in
     let is : number 1 (n ∷ []) ≡ n = ap (λ z. number 1 z) low ∙ number_low One n (omega (arith, small)) in
-    let said : Whole (pos n) ≡ data_of 1 (number 1 (n ∷ [])) = data_small 1 n (omega (arith, small)) ∙ ap (λ (k : ℕ). data_of 1 k) (sym is) in
-    value_there form.Data1 (pos 0) section at (at + 1) (n ∷ []) (Whole (pos n)) refl l (one_byte n (omega (arith, small))) (refl, said)
+    let said : Whole (pos n) ≡ Whole (pos (number 1 (n ∷ []))) = ap (λ (k : ℕ). Whole (pos k)) (sym is) in
+    value_there name form.Data1 (pos 0) section at (at + 1) (n ∷ []) (Whole (pos n)) refl l (one_byte n small) (subst (λ z. SpellsShape z (Whole (pos n)) (n ∷ [])) (sym shape) (refl, said))
 
 -- DW_FORM_string; the place of its span is told
-pub text_there : (section : List ℕ) (at span to n : ℕ) (text : List ℕ) → span ≡ at → to ≡ at + n + 1 → length text ≡ n → HasNoZero text → AreBytes (text ++ 0 ∷ []) → LiesAt section at (text ++ 0 ∷ []) → SpellsBetween (SpellsValue 0x08 (pos 0) (meant_in section (value.Text (record { at = span; len = n })))) section at to
-text_there section at span to n text here end size clear small l =
+pub text_there : (name : ℕ) (section : List ℕ) (at span to n : ℕ) (text : List ℕ) → span ≡ at → to ≡ at + n + 1 → length text ≡ n → HasNoZero text → AreBytes (text ++ 0 ∷ []) → LiesAt section at (text ++ 0 ∷ []) → SpellsBetween (SpellsValue name 0x08 (pos 0) (meant_in section (value.Text (record { at = span; len = n })))) section at to
+text_there name section at span to n text here end size clear small l =
     let means : Text (take n (drop span section)) ≡ Text text = ap (λ (k : ℕ). Text (take n (drop k section))) here ∙ ap (λ z. Text z) (lies_take section at text n size (lies_first section at text (0 ∷ []) l)) in
     let last : to ≡ at + length (text ++ 0 ∷ []) = omega (arith, length-append text (0 ∷ []), size, end) in
-    value_there form.String (pos 0) section at to (text ++ 0 ∷ []) (Text (take n (drop span section))) last l small (record { text = text; clear = clear; whole = refl; holds = means })
+    value_there name form.String (pos 0) section at to (text ++ 0 ∷ []) (Text (take n (drop span section))) last l small (record { text = text; clear = clear; whole = refl; holds = means })
 
 -- DW_FORM_exprloc of an expression of one byte, likewise
-pub expression_there : (section : List ℕ) (at span b : ℕ) → span ≡ at + 1 → b < 256 → LiesAt section at (1 ∷ b ∷ []) → SpellsBetween (SpellsValue 0x18 (pos 0) (meant_in section (value.Expr (record { at = span; len = 1 })))) section at (at + 2)
-expression_there section at span b here small l =
+pub expression_there : (name : ℕ) (section : List ℕ) (at span b : ℕ) → span ≡ at + 1 → b < 256 → LiesAt section at (1 ∷ b ∷ []) → SpellsBetween (SpellsValue name 0x18 (pos 0) (meant_in section (value.Expr (record { at = span; len = 1 })))) section at (at + 2)
+expression_there name section at span b here small l =
     let means : Expression (take 1 (drop span section)) ≡ Expression (b ∷ []) = ap (λ (k : ℕ). Expression (take 1 (drop k section))) here ∙ ap (λ z. Expression z) (lies_take section (at + 1) (b ∷ []) 1 refl (lies_behind section at (1 ∷ []) (b ∷ []) 1 refl l)) in
-    value_there form.Exprloc (pos 0) section at (at + 2) (1 ∷ b ∷ []) (Expression (take 1 (drop span section))) refl l (more_bytes 1 (b ∷ []) (omega arith) (one_byte b small)) (record { head = 1 ∷ []; body = b ∷ []; count = uleb_byte 1 (omega arith); whole = refl; holds = means })
+    value_there name form.Exprloc (pos 0) section at (at + 2) (1 ∷ b ∷ []) (Expression (take 1 (drop span section))) refl l (more_bytes 1 (b ∷ []) (omega arith) (one_byte b small)) (record { head = 1 ∷ []; body = b ∷ []; count = uleb_byte 1 (omega arith); whole = refl; holds = means })
 
 -- DW_FORM_flag_present, which has no bytes
-pub present_there : (section : List ℕ) (at : ℕ) (bytes : List ℕ) → LiesAt section at bytes → SpellsBetween (SpellsValue 0x19 (pos 0) (IsSet true)) section at at
-present_there section at bytes l = value_there form.FlagPresent (pos 0) section at at [] (IsSet true) (omega arith) (lies_first section at [] bytes l) no_bytes (refl, refl)
+pub present_there : (name : ℕ) (section : List ℕ) (at : ℕ) (bytes : List ℕ) → LiesAt section at bytes → SpellsBetween (SpellsValue name 0x19 (pos 0) (IsSet true)) section at at
+present_there name section at bytes l = value_there name form.FlagPresent (pos 0) section at at [] (IsSet true) (omega arith) (lies_first section at [] bytes l) no_bytes (refl, refl)
 
 -- DW_FORM_implicit_const, whose constant 1 stands in the declaration
-pub constant_there : (section : List ℕ) (at : ℕ) (bytes : List ℕ) → LiesAt section at bytes → SpellsBetween (SpellsValue 0x21 (pos 1) (Whole (pos 1))) section at at
-constant_there section at bytes l = value_there form.ImplicitConst (pos 1) section at at [] (Whole (pos 1)) (omega arith) (lies_first section at [] bytes l) no_bytes (refl, omega (arith, ints), refl)
+pub constant_there : (name : ℕ) (section : List ℕ) (at : ℕ) (bytes : List ℕ) → LiesAt section at bytes → SpellsBetween (SpellsValue name 0x21 (pos 1) (Whole (pos 1))) section at at
+constant_there name section at bytes l = value_there name form.ImplicitConst (pos 1) section at at [] (Whole (pos 1)) (omega arith) (lies_first section at [] bytes l) no_bytes (refl, omega (arith, ints), refl)
 
 -- a code of one byte
 pub code_there : (section : List ℕ) (at n : ℕ) → n < 128 → LiesAt section at (n ∷ []) → SpellsBetween (Uleb n) section at (at + 1)

@@ -2,7 +2,7 @@
 use Rattle.std.proofs.Common.{◌≡◌, ◌≢◌, ◌≤◌, ◌<◌, ◌+◌, ◌∙◌, ℕ, List, length, sym, ap, subst, refl, arith}
 use Rattle.dw_base.specs.declared.fault.Reach.{Reach}
 use Rattle.line_machine.specs.declared.head.Head.{Head}
-use Rattle.entry_read.proofs.Chained.{Chained, stand_apart, has_bytes, ends_by}
+use Rattle.entry_read.proofs.Chained.{Chained, stand_apart, ends_by}
 use Rattle.value_links.specs.inside.Links.{program_among}
 use Rattle.value_links.specs.Reading.{ProgramRead, Reading, no_program, program_at}
 use Rattle.value_links.specs.Sections.{body_named, offset_named, debug_line, line_name}
@@ -72,13 +72,12 @@ module _ (world : World) (some : (reach : Reach) × IsWorldOf world.image reach 
     taken : program_among heads i ≡ (program_at s.links i).head
     taken = ap (λ (z : List Head). program_among z i) same ∙ held_is i there
 
-    pub program_inside : (name : List ℕ) → name ≡ line_name → (program_among heads i).at < length (body_named world.image name)
+    pub program_inside : (name : List ℕ) → name ≡ line_name → (program_among heads i).at ≤ length (body_named world.image name)
     program_inside name is =
-        let some_bytes : 0 < (program_at s.links i).head.len = has_bytes starts sizes s.links.programs 0 (length (debug_line world.image)) i no_program chained there in
         let ends : place_of i + (program_at s.links i).head.len ≤ length (debug_line world.image) = ends_by starts sizes s.links.programs 0 (length (debug_line world.image)) i no_program chained there in
         let at : (program_among heads i).at ≡ place_of i = ap (λ (h : Head). h.at) taken in
-        let here : (program_among heads i).at < length (debug_line world.image) = omega arith in
-        subst (λ (z : List ℕ). (program_among heads i).at < length (body_named world.image z)) (sym is) here
+        let here : (program_among heads i).at ≤ length (debug_line world.image) = omega arith in
+        subst (λ (z : List ℕ). (program_among heads i).at ≤ length (body_named world.image z)) (sym is) here
 
     pub program_least : ((k : ℕ) → k < i → (program_among world.programs k).opcode_base ≡ 13) → (program_among heads i).opcode_base ≢ 13 → (name : List ℕ) → name ≡ line_name → (p : ℕ) → p ≡ offset_named world.image name + (program_among heads i).at → IsLeastPlace (IsOtherProgram world.image) p
     program_least before other name is p place =

@@ -7,7 +7,7 @@ use Rattle.abbrev_tables.specs.Tables.{Declared}
 use Rattle.entry_arena.specs.Trees.{listed_to}
 use Rattle.entry_read.specs.declared.head.UnitHead.{UnitHead}
 use Rattle.entry_read.specs.Units.{HeadAndForest, IsUnit, IsUnitHeld, end_of}
-use Rattle.entry_read.proofs.Chained.{Chained, stand_apart, has_bytes, ends_by}
+use Rattle.entry_read.proofs.Chained.{Chained, stand_apart, ends_by}
 use Rattle.value_links.specs.Links.{held_at}
 use Rattle.value_links.specs.Reading.{UnitRead, Reading, IsUnitRead, declarations, no_unit, unit_at}
 use Rattle.value_links.specs.Sections.{body_named, offset_named, debug_info, debug_abbrev, info_name}
@@ -130,12 +130,10 @@ module _ (world : World) (some : (reach : Reach) × IsWorldOf world.image reach 
       end_counted = let size : length (debug_info world.image) < 2 ^ 64 = body_counted world some info_name in omega (arith, ends)
 
       module _ (name : List ℕ) (is : name ≡ info_name) where
-        pub unit_inside : head.at < length (body_named world.image name)
+        pub unit_inside : head.at ≤ length (body_named world.image name)
         unit_inside =
-            let filled : 0 < (unit_at s.links u).head.len = has_bytes starts sizes s.links.units 0 (length (debug_info world.image)) u no_unit chained there in
-            let len : head.len ≡ (unit_at s.links u).head.len = ap (λ (z : UnitHead). z.len) same_head in
-            let here : head.at < length (debug_info world.image) = omega (arith, ends) in
-            subst (λ (z : List ℕ). head.at < length (body_named world.image z)) (sym is) here
+            let here : head.at ≤ length (debug_info world.image) = omega (arith, ends) in
+            subst (λ (z : List ℕ). head.at ≤ length (body_named world.image z)) (sym is) here
 
         pub padded_least : ((k : ℕ) → k < u → IsFull k) → (end : ℕ) → IsTreeEnd own end → end ≢ head.at + head.len → (p : ℕ) → p ≡ offset_named world.image name + head.at → IsLeastPlace (IsPaddedUnit world.image) p
         padded_least before end tree other p place =

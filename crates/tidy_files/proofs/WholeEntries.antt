@@ -4,6 +4,7 @@ use Rattle.std.specs.Prelude.{◌↔◌}
 use Rattle.std.specs.List.{AllZip}
 use Rattle.std.proofs.lemmas.Bool.{cases_eq, cases_order}
 use Rattle.std.proofs.lemmas.List.{get_or-map}
+use Rattle.dw_base.specs.declared.classes.Classes.{Classes}
 use Rattle.form_codec.specs.declared.value.Value.{Value}
 use Rattle.form_codec.specs.Forms.{Meaning}
 use Rattle.abbrev_tables.specs.declared.decl.Spec.{Spec}
@@ -104,7 +105,7 @@ module _ (file written : List ℕ) (r s : Reading) (read : IsReading file r) (ag
         names = sym (names_meant written s again u id there known_there e new) ∙ names_meant file r read u id inside known e old;
       }
 
-  module _ (tidy : IsTidy file written) where
+  module _ (classes : Classes) (tidy : IsTidy classes file written) where
     no_row : (p : ℕ) → IsUntidyEntry r.links s.links p → ⊥
     no_row p holds = tidy AnEntry (offset_named written info_name + p) (record { r = r; s = s; read = read; again = again; inner = p; holds = holds; place = refl })
 

@@ -6,8 +6,8 @@ use Rattle.tidy_files.proofs.WholeLists.{filled_by_lists}
 use Rattle.tidy_files.proofs.WholeTables.{tiled_tables}
 
 pub tidy_files_are_whole : TidyFilesAreWhole
-tidy_files_are_whole file written r s read again same tidy = record {
-  tables = tiled_tables file written r s read again same tidy;
-  entries = renewed_entries file written r s read again same tidy;
-  filled = filled_by_lists file written r s read again same (go_along file written r s read again same) tidy;
+tidy_files_are_whole classes file written r s read again same tidy = record {
+  tables = tiled_tables file written r s read again same classes tidy;
+  entries = renewed_entries file written r s read again same classes tidy;
+  filled = filled_by_lists file written r s read again same (go_along file written r s read again same) classes tidy;
 }

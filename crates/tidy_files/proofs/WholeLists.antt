@@ -4,6 +4,7 @@ use Rattle.std.specs.Prelude.{filter, nat_eq}
 use Rattle.std.specs.List.{range_with_len}
 use Rattle.std.proofs.lemmas.Bool.{cases_lt, eq-eqb, eqb-true}
 use Rattle.std.proofs.lemmas.List.{length-append, length-take}
+use Rattle.dw_base.specs.declared.classes.Classes.{Classes}
 use Rattle.list_model.specs.declared.contribution.Contribution.{Contribution}
 use Rattle.list_model.specs.declared.entry.ListKind.{ListKind}
 use Rattle.list_model.specs.declared.entry.ListKind.TheVariants.{Ranges, Locations}
@@ -63,7 +64,7 @@ bytes_few section part at bytes rest is =
     omega (arith, size, whole, length-append bytes rest)
 
 module _ (file written : List ℕ) (r s : Reading) (read : IsReading file r) (again : IsReading written s) (same : Same file written)
-    (along : (j n : ℕ) → RunFollows r s j n → GoAlong r s j n) (tidy : IsTidy file written) where
+    (along : (j n : ℕ) → RunFollows r s j n → GoAlong r s j n) (classes : Classes) (tidy : IsTidy classes file written) where
   none : (kind : ListKind) (at : ℕ) → IsElsewhere kind r s at → ⊥
   none kind at holds = tidy AList (offset_named written (lists_name kind) + at) (record { r = r; s = s; read = read; again = again; kind = kind; inner = at; holds = holds; place = refl })
 

@@ -3,6 +3,7 @@ use Rattle.std.proofs.Common.{◌≡◌, ◌≤◌, ◌<◌, ◌+◌, ◌∙◌,
 use Rattle.std.specs.Prelude.{slice_index}
 use Rattle.std.proofs.lemmas.Bool.{cases_eq, cases_lt, cases_order}
 use Rattle.std.proofs.lemmas.List.{get_or-map, length-map}
+use Rattle.dw_base.specs.declared.classes.Classes.{Classes}
 use Rattle.abbrev_tables.specs.Listings.{Listing, IsTableAt}
 use Rattle.abbrev_tables.proofs.ListingOnce.{listing_once}
 use Rattle.value_links.specs.declared.units.NamedTable.{NamedTable}
@@ -92,7 +93,7 @@ module _ (size count : ℕ) (start end : ℕ → ℕ) where
 -- THE TABLES OF A TIDY FILE
 
 module _ (file written : List ℕ) (r s : Reading) (read : IsReading file r) (again : IsReading written s) (same : Same file written)
-    (tidy : IsTidy file written) where
+    (classes : Classes) (tidy : IsTidy classes file written) where
   abbrev section : List ℕ
   section = debug_abbrev written
 

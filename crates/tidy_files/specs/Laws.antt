@@ -1,5 +1,6 @@
 -- Laws: a file that is written anew is tidy, and what a tidy one holds.
 use Rattle.std.specs.Prelude.{◌<◌, ℕ, List, length}
+use Rattle.dw_base.specs.declared.classes.Classes.{Classes}
 use Rattle.list_model.specs.declared.entry.ListKind.{ListKind}
 use Rattle.value_links.specs.Reading.{Reading, of_kind}
 use Rattle.value_links.specs.Same.{Same}
@@ -10,7 +11,7 @@ use Rattle.tidy_files.specs.Tidy.{IsTidy}
 use Rattle.tidy_files.specs.Whole.{HasTiledTables, HasRenewedEntries, IsFilledByLists}
 
 abbrev pub WrittenFilesAreTidy : Type 0
-WrittenFilesAreTidy = (file written : List ℕ) → IsWrittenAnew file written → IsTidy file written
+WrittenFilesAreTidy = (classes : Classes) (file written : List ℕ) → IsWrittenAnew classes file written → IsTidy classes file written
 
 -- What a tidy file holds of tables, entries and contributions: tables tile in the order of the old ones, entries have the declarations that
 -- correspond to their own, and contributions are filled. The rows of sections, codes, columns, units, programs and numbers are what they say.
@@ -20,4 +21,4 @@ pub record IsWholeFor (written : List ℕ) (r s : Reading) : Type 0 where
   pub filled : (kind : ListKind) (p : ℕ) → p < length (of_kind s.links kind).parts → IsFilledByLists kind s p
 
 abbrev pub TidyFilesAreWhole : Type 0
-TidyFilesAreWhole = (file written : List ℕ) (r s : Reading) → IsReading file r → IsReading written s → Same file written → IsTidy file written → IsWholeFor written r s
+TidyFilesAreWhole = (classes : Classes) (file written : List ℕ) (r s : Reading) → IsReading file r → IsReading written s → Same file written → IsTidy classes file written → IsWholeFor written r s

@@ -1,2 +1,3 @@
 -- What inner functions and proofs need, and no public clause says.
 pub mod Paddings
+pub mod Changed

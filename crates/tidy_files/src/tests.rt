@@ -1,6 +1,6 @@
 // A file with one unit and one abbreviation table, the file that is written for it, and files that differ from the latter.
 use crate::accept_classes;
-use dw_base::Reach;
+use dw_base::{Classes, Reach};
 use same_meaning::first_difference;
 use std::alloc::{AllocError, Global};
 use std::test::Fail;
@@ -75,7 +75,7 @@ fn place_of(alloc: Global, file: &[u8]) -> Result<Option<u64>, Fail> {
     let Ok(None) = first_difference(alloc, &before, &after) else {
         return Err("the files differ in meaning")?;
     };
-    match accept_classes(alloc, &before, &after) {
+    match accept_classes(alloc, Classes::every(), &before, &after) {
         Ok(place) => Ok(place),
         Err(_) => Err("no memory")?,
     }

@@ -10,9 +10,9 @@ ghost use Rattle.tidy_places.specs.Firsts.{IsLeastFound};
 ghost use Rattle.tidy_files.specs.Tidy.{IsPaddedUnit};
 ghost use Rattle.tidy_files.specs.inside.Paddings.{IsTreeEnd};
 
-use crate::places::in_file;
 use entry_read::Unit;
 use leb_codec::read_u;
+use tidy_tables::offset_in_file;
 use value_links::World;
 
 // Where the code at a place ends.
@@ -53,7 +53,7 @@ pub(crate) fn first_padded_unit(world: &World<'_>) -> Option<u64>
     for unit in world.units() {
         let head = unit.head();
         if tree_end(unit) != head.at + head.len {
-            return Some(in_file(world, b".debug_info".as_slice(), head.at));
+            return Some(offset_in_file(world, b".debug_info".as_slice(), head.at));
         }
     }
     None

@@ -16,7 +16,7 @@ mod RunsUpTo
 pub mod FilterLaws
 mod PieceLaws
 pub mod OneLength
-mod OldOrder
+pub mod OldOrder
 mod DueLaws
 mod DueSteps
 mod HeldThings
@@ -39,7 +39,7 @@ mod WrittenDue
 mod WrittenLoose
 pub mod WrittenInPlace
 pub mod LengthsThere
-mod BothWays
+pub mod BothWays
 mod PiecesBefore
 pub mod PlacesKept
 pub mod PlacesOrdered

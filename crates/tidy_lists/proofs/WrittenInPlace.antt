@@ -58,7 +58,7 @@ module _ (file written : List ℕ) (r s : Reading) (are : AreKept file written r
 
 -- no row holds of a file that is written anew
 pub written_in_place : AreLaws → WrittenListsAreInPlace
-written_in_place laws file written anew row p bad =
+written_in_place laws classes file written anew row p bad =
     let tidy : AreTidy (debug_abbrev written) bad.r bad.s =
     laws.holds (AreTidy (debug_abbrev written)) file written bad.r bad.s bad.read bad.again anew.tidy in
     let are : AreKept file written bad.r bad.s = record { read = bad.read; again = bad.again; lists = tidy.lists; views = tidy.views } in

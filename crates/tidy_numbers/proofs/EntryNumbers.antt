@@ -46,17 +46,17 @@ pub begins : (S : List ℕ → Type 0) (info : List ℕ) (from to : ℕ) → Spe
 begins S info from to stands = (bytes_between info from to, drop (to - from) (drop from info), stands.spelled, sym (take-append-drop (to - from) (drop from info)))
 
 -- the value of a column that stands at a place, and the form by its code
-module _ (info : List ℕ) (column : Spec) (from : ℕ) (stands : (meaning : Meaning) × (to : ℕ) × SpellsBetween (SpellsValue column.form column.constant meaning) info from to) where
+module _ (info : List ℕ) (column : Spec) (from : ℕ) (stands : (meaning : Meaning) × (to : ℕ) × SpellsBetween (SpellsValue column.name column.form column.constant meaning) info from to) where
   pub form_known : (form : Form) × (code_of form ≡ column.form)
   form_known = (stands.2.spelled.form, stands.2.spelled.known)
 
-  module _ (form : Form) (known : code_of form ≡ column.form) (shape : Shape) (is : shape ≡ shape_of form column.constant) where
+  module _ (form : Form) (known : code_of form ≡ column.form) (shape : Shape) (is : shape ≡ shape_of form column.name column.constant) where
     pub value_shape : (meaning : Meaning) × (first : List ℕ) × (rest : List ℕ) × SpellsShape shape meaning first × (drop from info ≡ first ++ rest)
     value_shape =
         let spelled = stands.2.spelled in
         let one : spelled.form ≡ form = code_once spelled.form form (spelled.known ∙ sym known) in
-        let here = subst (λ (f : Form). SpellsShape (shape_of f column.constant) stands.0 (bytes_between info from stands.1)) one spelled.spelled in
-        let (first, rest, there, whole) = begins (SpellsShape (shape_of form column.constant) stands.0) info from stands.1 (record { order = stands.2.order; inside = stands.2.inside; spelled = here }) in
+        let here = subst (λ (f : Form). SpellsShape (shape_of f column.name column.constant) stands.0 (bytes_between info from stands.1)) one spelled.spelled in
+        let (first, rest, there, whole) = begins (SpellsShape (shape_of form column.name column.constant) stands.0) info from stands.1 (record { order = stands.2.order; inside = stands.2.inside; spelled = here }) in
         (stands.0, first, rest, subst (λ (z : Shape). SpellsShape z stands.0 first) (sym is) there, whole)
 
     pub value_long : (long : Bool) → (IsTrue long ↔ BeginsLongShape shape (drop from info)) → IsTrue long ↔ BeginsLongValue column (drop from info)
@@ -64,7 +64,7 @@ module _ (info : List ℕ) (column : Spec) (from : ℕ) (stands : (meaning : Mea
       λ true. (form, known, subst (λ (z : Shape). BeginsLongShape z (drop from info)) is (decides.0 true)),
       λ (other, also, begins_long).
           let one : other ≡ form = code_once other form (also ∙ sym known) in
-          decides.1 (subst (λ (z : Shape). BeginsLongShape z (drop from info)) (sym is) (subst (λ (f : Form). BeginsLongShape (shape_of f column.constant) (drop from info)) one begins_long)),
+          decides.1 (subst (λ (z : Shape). BeginsLongShape z (drop from info)) (sym is) (subst (λ (f : Form). BeginsLongShape (shape_of f column.name column.constant) (drop from info)) one begins_long)),
     )
 
 -- VALUES
@@ -73,7 +73,7 @@ module _ (info : List ℕ) (column : Spec) (from : ℕ) (stands : (meaning : Mea
 record HasValue (info : List ℕ) (column : Spec) (from : ℕ) : Type 0 where
   value : Value
   next : ℕ
-  spelled : SpellsBetween (SpellsValue column.form column.constant (meant_in info value)) info from next
+  spelled : SpellsBetween (SpellsValue column.name column.form column.constant (meant_in info value)) info from next
   placed : IsPlaced value from next
 
 -- the values of the first columns end at a place
@@ -100,10 +100,10 @@ module _ (info : List ℕ) (columns : List Spec) (from : ℕ) (stand : (values :
         let one : mid ≡ at = (values_once info (take i columns) before.0 come.0 from mid at before.1 come.1).0 in
         subst (HasValue info (spec_at columns i)) one value
 
-    pub value_there : (meaning : Meaning) × (to : ℕ) × SpellsBetween (SpellsValue (spec_at columns i).form (spec_at columns i).constant meaning) info at to
+    pub value_there : (meaning : Meaning) × (to : ℕ) × SpellsBetween (SpellsValue (spec_at columns i).name (spec_at columns i).form (spec_at columns i).constant meaning) info at to
     value_there = (meant_in info here.value, here.next, here.spelled)
 
-    pub come_on : (end : ℕ) → ((meaning : Meaning) (to : ℕ) → SpellsBetween (SpellsValue (spec_at columns i).form (spec_at columns i).constant meaning) info at to → end ≡ to) → HaveCome info columns from (i + 1) end
+    pub come_on : (end : ℕ) → ((meaning : Meaning) (to : ℕ) → SpellsBetween (SpellsValue (spec_at columns i).name (spec_at columns i).form (spec_at columns i).constant meaning) info at to → end ≡ to) → HaveCome info columns from (i + 1) end
     come_on end ends =
         let c : Spec = spec_at columns i in
         let more : take (i + 1) columns ≡ take i columns ++ c ∷ [] = take_more columns i (record { name = 0; form = 0; constant = pos 0 }) inside in

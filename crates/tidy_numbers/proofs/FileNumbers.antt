@@ -1,6 +1,7 @@
 -- The least place among those of all sections, as an offset in the file.
 use Rattle.std.proofs.Common.{◌≡◌, ◌<◌, ◌+◌, ◌^◌, ◌∙◌, ◌⊎◌, inl, inr, ℕ, List, length, sym, ap, subst, refl, arith, true≢false}
 use Rattle.std.specs.Prelude.{Option, Some, None, IfSome, IsNone, MatchOption}
+use Rattle.dw_base.specs.declared.classes.Classes.{Classes}
 use Rattle.dw_base.specs.declared.fault.Reach.{Reach}
 use Rattle.dw_base.specs.declared.fault.Reach.TheVariants.{Wide}
 use Rattle.elf_sections.specs.Elf.{offset_of, body_of}
@@ -106,36 +107,36 @@ module _ (world : World) (some : IsSomeWorld world) where
     info_inside = least_inside (IsLongInInfo s) (length (debug_info world.image)) (info_within (debug_info world.image) s section_is) found (info_least s some.1.read some.1.holds)
 
   -- of lists of a kind, and of view pairs
-  pub lists_inside : (kind : ListKind) (found : Option ℕ) → OfReading world (λ s. IsLeastFound (IsLongInSection s kind) found) → IfSome found (λ p. p < length (debug_lists world.image kind))
-  lists_inside kind found least =
-      let inside : (p : ℕ) → IsLongInSection s kind p → p < length (debug_lists world.image kind) = λ p long. subst (λ (z : List ℕ). p < length z) (some.1.holds.sections kind) (lists_within s kind p long) in
-      least_inside (IsLongInSection s kind) (length (debug_lists world.image kind)) inside found (least s some.1.read some.1.holds)
+  pub lists_inside : (classes : Classes) (kind : ListKind) (found : Option ℕ) → OfReading world (λ s. IsLeastFound (IsLongInSection classes s kind) found) → IfSome found (λ p. p < length (debug_lists world.image kind))
+  lists_inside classes kind found least =
+      let inside : (p : ℕ) → IsLongInSection classes s kind p → p < length (debug_lists world.image kind) = λ p long. subst (λ (z : List ℕ). p < length z) (some.1.holds.sections kind) (lists_within classes s kind p long) in
+      least_inside (IsLongInSection classes s kind) (length (debug_lists world.image kind)) inside found (least s some.1.read some.1.holds)
 
 -- range lists have no view pairs
-pub ranges_least : (world : World) (kind : ListKind) → kind ≡ Ranges → (found : Option ℕ) → OfReading world (λ s. IsLeastFound (IsLongInLists s kind) found) → OfReading world (λ s. IsLeastFound (IsLongInSection s kind) found)
-ranges_least world kind ranges found lists = λ s read holds. least_same (IsLongInLists s kind) (IsLongInSection s kind) (λ p long. inl long) (from s) found (lists s read holds)
+pub ranges_least : (classes : Classes) (world : World) (kind : ListKind) → kind ≡ Ranges → (found : Option ℕ) → OfReading world (λ s. IsLeastFound (IsLongInLists classes s kind) found) → OfReading world (λ s. IsLeastFound (IsLongInSection classes s kind) found)
+ranges_least classes world kind ranges found lists = λ s read holds. least_same (IsLongInLists classes s kind) (IsLongInSection classes s kind) (λ p long. inl long) (from s) found (lists s read holds)
   where
-    from : (s : Reading) (p : ℕ) → IsLongInSection s kind p → IsLongInLists s kind p
+    from : (s : Reading) (p : ℕ) → IsLongInSection classes s kind p → IsLongInLists classes s kind p
     from s p (inl long) = long
     from s p (inr (is, views)) = absurd cc
 
-pub locations_least : (world : World) (kind : ListKind) → kind ≡ Locations → (lists views found : Option ℕ) → OfReading world (λ s. IsLeastFound (IsLongInLists s kind) lists) → OfReading world (λ s. IsLeastFound (IsLongInViews s) views) → IsLeastFound (λ p. (lists ≡ Some p) ⊎ (views ≡ Some p)) found → OfReading world (λ s. IsLeastFound (IsLongInSection s kind) found)
-locations_least world kind locations lists views found first second earlier = λ s read holds.
-    least_same (λ p. IsLongInLists s kind p ⊎ IsLongInViews s p) (IsLongInSection s kind) (to s) (from s) found (least_of_both (IsLongInLists s kind) (IsLongInViews s) lists views found (first s read holds) (second s read holds) earlier)
+pub locations_least : (classes : Classes) (world : World) (kind : ListKind) → kind ≡ Locations → (lists views found : Option ℕ) → OfReading world (λ s. IsLeastFound (IsLongInLists classes s kind) lists) → OfReading world (λ s. IsLeastFound (IsLongInViews s) views) → IsLeastFound (λ p. (lists ≡ Some p) ⊎ (views ≡ Some p)) found → OfReading world (λ s. IsLeastFound (IsLongInSection classes s kind) found)
+locations_least classes world kind locations lists views found first second earlier = λ s read holds.
+    least_same (λ p. IsLongInLists classes s kind p ⊎ IsLongInViews s p) (IsLongInSection classes s kind) (to s) (from s) found (least_of_both (IsLongInLists classes s kind) (IsLongInViews s) lists views found (first s read holds) (second s read holds) earlier)
   where
-    to : (s : Reading) (p : ℕ) → IsLongInLists s kind p ⊎ IsLongInViews s p → IsLongInSection s kind p
+    to : (s : Reading) (p : ℕ) → IsLongInLists classes s kind p ⊎ IsLongInViews s p → IsLongInSection classes s kind p
     to s p (inl long) = inl long
     to s p (inr long) = inr (locations, long)
 
-    from : (s : Reading) (p : ℕ) → IsLongInSection s kind p → IsLongInLists s kind p ⊎ IsLongInViews s p
+    from : (s : Reading) (p : ℕ) → IsLongInSection classes s kind p → IsLongInLists classes s kind p ⊎ IsLongInViews s p
     from s p (inl long) = inl long
     from s p (inr (is, long)) = inr long
 
 -- THE FILE
 
 -- a number of a section of lists, as an offset in the file
-abbrev pub IsLongInKind : List ℕ → Reading → ListKind → ℕ → Type 0
-IsLongInKind file s kind p = HoldsIn file (lists_name kind) (IsLongInSection s kind) p
+abbrev pub IsLongInKind : Classes → List ℕ → Reading → ListKind → ℕ → Type 0
+IsLongInKind classes file s kind p = HoldsIn file (lists_name kind) (IsLongInSection classes s kind) p
 
 abbrev pub IsLongInTablesOf : List ℕ → Reading → ℕ → Type 0
 IsLongInTablesOf file s p = HoldsIn file abbrev_name (IsLongInTables (debug_abbrev file) s) p
@@ -143,36 +144,36 @@ IsLongInTablesOf file s p = HoldsIn file abbrev_name (IsLongInTables (debug_abbr
 abbrev pub IsLongInEntriesOf : List ℕ → Reading → ℕ → Type 0
 IsLongInEntriesOf file s p = HoldsIn file info_name (IsLongInInfo s) p
 
-abbrev pub IsLongInSomeKind : List ℕ → Reading → ℕ → Type 0
-IsLongInSomeKind file s p = (kind : ListKind) × IsLongInKind file s kind p
+abbrev pub IsLongInSomeKind : Classes → List ℕ → Reading → ℕ → Type 0
+IsLongInSomeKind classes file s p = (kind : ListKind) × IsLongInKind classes file s kind p
 
 -- of both kinds of lists
-kinds_least : (file : List ℕ) (s : Reading) (ranges locations lists : Option ℕ) → IsLeastFound (IsLongInKind file s Ranges) ranges → IsLeastFound (IsLongInKind file s Locations) locations → IsLeastFound (λ p. (ranges ≡ Some p) ⊎ (locations ≡ Some p)) lists → IsLeastFound (IsLongInSomeKind file s) lists
-kinds_least file s ranges locations lists first second earlier =
-    least_same (λ p. IsLongInKind file s Ranges p ⊎ IsLongInKind file s Locations p) (IsLongInSomeKind file s) to from lists (least_of_both (IsLongInKind file s Ranges) (IsLongInKind file s Locations) ranges locations lists first second earlier)
+kinds_least : (classes : Classes) (file : List ℕ) (s : Reading) (ranges locations lists : Option ℕ) → IsLeastFound (IsLongInKind classes file s Ranges) ranges → IsLeastFound (IsLongInKind classes file s Locations) locations → IsLeastFound (λ p. (ranges ≡ Some p) ⊎ (locations ≡ Some p)) lists → IsLeastFound (IsLongInSomeKind classes file s) lists
+kinds_least classes file s ranges locations lists first second earlier =
+    least_same (λ p. IsLongInKind classes file s Ranges p ⊎ IsLongInKind classes file s Locations p) (IsLongInSomeKind classes file s) to from lists (least_of_both (IsLongInKind classes file s Ranges) (IsLongInKind classes file s Locations) ranges locations lists first second earlier)
   where
-    to : (p : ℕ) → IsLongInKind file s Ranges p ⊎ IsLongInKind file s Locations p → IsLongInSomeKind file s p
+    to : (p : ℕ) → IsLongInKind classes file s Ranges p ⊎ IsLongInKind classes file s Locations p → IsLongInSomeKind classes file s p
     to p (inl long) = (Ranges, long)
     to p (inr long) = (Locations, long)
 
-    from : (p : ℕ) → IsLongInSomeKind file s p → IsLongInKind file s Ranges p ⊎ IsLongInKind file s Locations p
+    from : (p : ℕ) → IsLongInSomeKind classes file s p → IsLongInKind classes file s Ranges p ⊎ IsLongInKind classes file s Locations p
     from p (Ranges, long) = inl long
     from p (Locations, long) = inr long
 
 -- of what is read of the file, in one way
-numbers_least : (file : List ℕ) (s : Reading) → OneReading → IsReading file s → (found : Option ℕ) → IsLeastFound (IsLongIn file s) found → IsLeastFound (IsLongNumber file) found
-numbers_least file s one read found least = least_same (IsLongIn file s) (IsLongNumber file) (λ p long. (s, read, long)) back found least
+numbers_least : (classes : Classes) (file : List ℕ) (s : Reading) → OneReading → IsReading file s → (found : Option ℕ) → IsLeastFound (IsLongIn classes file s) found → IsLeastFound (IsLongNumber classes file) found
+numbers_least classes file s one read found least = least_same (IsLongIn classes file s) (IsLongNumber classes file) (λ p long. (s, read, long)) back found least
   where
-    back : (p : ℕ) → IsLongNumber file p → IsLongIn file s p
-    back p (other, also, long) = subst (λ (z : Reading). IsLongIn file z p) (one file other s also read) long
+    back : (p : ℕ) → IsLongNumber classes file p → IsLongIn classes file s p
+    back p (other, also, long) = subst (λ (z : Reading). IsLongIn classes file z p) (one file other s also read) long
 
 -- `lists` is the lesser of those of lists, `entries` of these and of .debug_info, and `found` of these and of tables
-module _ (one : OneReading) (world : World) (some : IsSomeWorld world) (abbrevs info ranges locations lists entries found : Option ℕ) (of_lists : IsLeastFound (λ p. (ranges ≡ Some p) ⊎ (locations ≡ Some p)) lists) (of_entries : IsLeastFound (λ p. (info ≡ Some p) ⊎ (lists ≡ Some p)) entries) (of_all : IsLeastFound (λ p. (abbrevs ≡ Some p) ⊎ (entries ≡ Some p)) found) where
-  pub file_least : OfReading world (λ s. IsLeastFound (IsLongInTablesOf world.image s) abbrevs) → OfReading world (λ s. IsLeastFound (IsLongInEntriesOf world.image s) info) → OfReading world (λ s. IsLeastFound (IsLongInKind world.image s Ranges) ranges) → OfReading world (λ s. IsLeastFound (IsLongInKind world.image s Locations) locations) → IsLeastFound (IsLongNumber world.image) found
+module _ (classes : Classes) (one : OneReading) (world : World) (some : IsSomeWorld world) (abbrevs info ranges locations lists entries found : Option ℕ) (of_lists : IsLeastFound (λ p. (ranges ≡ Some p) ⊎ (locations ≡ Some p)) lists) (of_entries : IsLeastFound (λ p. (info ≡ Some p) ⊎ (lists ≡ Some p)) entries) (of_all : IsLeastFound (λ p. (abbrevs ≡ Some p) ⊎ (entries ≡ Some p)) found) where
+  pub file_least : OfReading world (λ s. IsLeastFound (IsLongInTablesOf world.image s) abbrevs) → OfReading world (λ s. IsLeastFound (IsLongInEntriesOf world.image s) info) → OfReading world (λ s. IsLeastFound (IsLongInKind classes world.image s Ranges) ranges) → OfReading world (λ s. IsLeastFound (IsLongInKind classes world.image s Locations) locations) → IsLeastFound (IsLongNumber classes world.image) found
   file_least tables entries_there ranges_there locations_there =
       let s : Reading = some.1.r in
       let file : List ℕ = world.image in
-      let kinds = kinds_least file s ranges locations lists (ranges_there s some.1.read some.1.holds) (locations_there s some.1.read some.1.holds) of_lists in
-      let behind = least_of_both (IsLongInEntriesOf file s) (IsLongInSomeKind file s) info lists entries (entries_there s some.1.read some.1.holds) kinds of_entries in
-      let all = least_of_both (IsLongInTablesOf file s) (λ p. IsLongInEntriesOf file s p ⊎ IsLongInSomeKind file s p) abbrevs entries found (tables s some.1.read some.1.holds) behind of_all in
-      numbers_least file s one some.1.read found all
+      let kinds = kinds_least classes file s ranges locations lists (ranges_there s some.1.read some.1.holds) (locations_there s some.1.read some.1.holds) of_lists in
+      let behind = least_of_both (IsLongInEntriesOf file s) (IsLongInSomeKind classes file s) info lists entries (entries_there s some.1.read some.1.holds) kinds of_entries in
+      let all = least_of_both (IsLongInTablesOf file s) (λ p. IsLongInEntriesOf file s p ⊎ IsLongInSomeKind classes file s p) abbrevs entries found (tables s some.1.read some.1.holds) behind of_all in
+      numbers_least classes file s one some.1.read found all

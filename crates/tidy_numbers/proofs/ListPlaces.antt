@@ -4,6 +4,7 @@ use Rattle.std.specs.Prelude.{Option, Some, None, is_some, Bool, true, false}
 use Rattle.std.specs.List.{Contains}
 use Rattle.std.proofs.lemmas.Bool.{cases_lt, false≢true}
 use Rattle.std.proofs.lemmas.List.{get_or_default}
+use Rattle.dw_base.specs.declared.classes.Classes.{Classes}
 use Rattle.list_model.specs.declared.entry.ListKind.{ListKind}
 use Rattle.list_model.specs.declared.entry.ListKind.TheVariants.{Ranges, Locations}
 use Rattle.list_model.specs.declared.entry.RawEntry.{RawEntry}
@@ -15,9 +16,9 @@ use Rattle.value_links.specs.Lists.{IsOwner, IsFrozen}
 use Rattle.value_links.specs.Reading.{ListRead, Linkable, Reading, of_kind, lists_of, list_at}
 use Rattle.value_links.specs.World.{World, Holds, HoldsList, HoldsMeaning, lists_held}
 use Rattle.tidy_places.specs.Firsts.{IsLeastFound}
-use Rattle.tidy_numbers.specs.LongLists.{AreLongOperandsOf, IsLongLength, HoldsBehindCode, is_owned, IsLongInFrozen, IsLongUnowned, IsLongInList, IsLongInLists}
+use Rattle.tidy_numbers.specs.LongLists.{AreLongOperandsOf, IsLongLength, HoldsBehindCode, is_owned, IsLongInKept, IsLongUnowned, IsLongInList, IsLongInLists}
 use Rattle.tidy_numbers.specs.inside.Expressions.{IsLongAt}
-use Rattle.tidy_numbers.specs.inside.ListEntries.{HoldsAmong, IsLongInItem, IsLongInDead, IsLongInLocations, IsLongInHeld}
+use Rattle.tidy_numbers.specs.inside.ListEntries.{HoldsAmong, IsLongInItem, IsLongInOperands, IsLongInLocations, IsLongInHeld}
 use Rattle.tidy_numbers.proofs.FoundAmong.{HoldsBelow, found_same}
 
 -- THE LEAST PLACE IN ENTRIES
@@ -102,7 +103,7 @@ owner_same r kind at (Some u) None (here, first) none = absurd (none u here)
 owner_same r kind at None (Some v) none (there, other) = absurd (none v there)
 owner_same r kind at None None p q = refl
 
-module _ (r : Linkable) (kind : ListKind) (list : ListRead) (held : HeldList) (holds : HoldsList r kind list held) where
+module _ (classes : Classes) (r : Linkable) (kind : ListKind) (list : ListRead) (held : HeldList) (holds : HoldsList r kind list held) where
   frozen_by : (meaning : Meaning) → HoldsMeaning r kind list held.owner meaning → IsFrozen r kind list → meaning ≡ Dead
   frozen_by (Live items) (thawed, says) frozen = absurd (thawed frozen)
   frozen_by Dead is frozen = refl
@@ -116,80 +117,82 @@ module _ (r : Linkable) (kind : ListKind) (list : ListRead) (held : HeldList) (h
   read_among : (Of : RawEntry → ℕ → Type 0) (p : ℕ) → (raw : RawEntry) × Contains list.raws raw × Of raw p → HoldsAmong Of held.raw p
   read_among Of p long = subst (λ (z : List RawEntry). HoldsAmong Of z p) (sym holds.raws) long
 
-  pub frozen_read : (p : ℕ) → IsLongInDead kind (of_kind r kind).section held p → IsLongInFrozen r kind list p
-  frozen_read p (dead, long) = (dead_frozen dead, among_read (HoldsBehindCode AreLongOperandsOf kind (of_kind r kind).section) p long)
+  pub kept_read : (p : ℕ) → IsLongInOperands classes kind (of_kind r kind).section held p → IsLongInKept classes r kind list p
+  kept_read p (inl kept, long) = (inl kept, among_read (HoldsBehindCode AreLongOperandsOf kind (of_kind r kind).section) p long)
+  kept_read p (inr dead, long) = (inr (dead_frozen dead), among_read (HoldsBehindCode AreLongOperandsOf kind (of_kind r kind).section) p long)
 
-  pub frozen_held : (p : ℕ) → IsLongInFrozen r kind list p → IsLongInDead kind (of_kind r kind).section held p
-  frozen_held p (frozen, long) = (frozen_by held.meaning holds.meaning frozen, read_among (HoldsBehindCode AreLongOperandsOf kind (of_kind r kind).section) p long)
+  pub kept_held : (p : ℕ) → IsLongInKept classes r kind list p → IsLongInOperands classes kind (of_kind r kind).section held p
+  kept_held p (inl kept, long) = (inl kept, read_among (HoldsBehindCode AreLongOperandsOf kind (of_kind r kind).section) p long)
+  kept_held p (inr frozen, long) = (inr (frozen_by held.meaning holds.meaning frozen), read_among (HoldsBehindCode AreLongOperandsOf kind (of_kind r kind).section) p long)
 
 -- a location list
-module _ (r : Linkable) (list : ListRead) (held : HeldList) (holds : HoldsList r Locations list held) where
+module _ (classes : Classes) (r : Linkable) (list : ListRead) (held : HeldList) (holds : HoldsList r Locations list held) where
   pub locations_read : (p : ℕ) → IsLongInLocations r.locations.section held p → IsLongUnowned r list p ⊎ IsLongInList r list p
-  locations_read p (inl (none, long)) = inl (subst (IsOwner r Locations list.at) none holds.owner, among_read r Locations list held holds (HoldsBehindCode IsLongLength Locations r.locations.section) p long)
+  locations_read p (inl (none, long)) = inl (subst (IsOwner r Locations list.at) none holds.owner, among_read classes r Locations list held holds (HoldsBehindCode IsLongLength Locations r.locations.section) p long)
   locations_read p (inr long) =
-      let (raw, there, (item, (inner, in_it, place))) = among_read r Locations list held holds (IsLongInItem (is_owned held.owner) r.locations.section) p long in
+      let (raw, there, (item, (inner, in_it, place))) = among_read classes r Locations list held holds (IsLongInItem (is_owned held.owner) r.locations.section) p long in
       inr (record { owner = held.owner; owned = holds.owner; raw = raw; among = among_items list.raws raw there item; inner = inner; long = in_it; place = place })
 
   pub locations_held : (p : ℕ) → IsLongUnowned r list p ⊎ IsLongInList r list p → IsLongInLocations r.locations.section held p
   locations_held p (inl (none, long)) =
-      inl (owner_same r Locations list.at held.owner None holds.owner none, read_among r Locations list held holds (HoldsBehindCode IsLongLength Locations r.locations.section) p long)
+      inl (owner_same r Locations list.at held.owner None holds.owner none, read_among classes r Locations list held holds (HoldsBehindCode IsLongLength Locations r.locations.section) p long)
   locations_held p (inr is) =
       let owner : is.owner ≡ held.owner = owner_same r Locations list.at is.owner held.owner is.owned holds.owner in
       let (there, item) = item_among list.raws is.raw is.among in
       let long : IsLongAt (is_owned held.owner) r.locations.section is.raw.expr p = subst (λ (o : Option ℕ). IsLongAt (is_owned o) r.locations.section is.raw.expr p) owner (is.inner, is.long, is.place) in
-      inr (read_among r Locations list held holds (IsLongInItem (is_owned held.owner) r.locations.section) p (is.raw, there, (item, long)))
+      inr (read_among classes r Locations list held holds (IsLongInItem (is_owned held.owner) r.locations.section) p (is.raw, there, (item, long)))
 
 -- what is said of a list as it is read
-abbrev IsLongRead : Linkable → ListKind → ListRead → ℕ → Type 0
-IsLongRead r kind list p = IsLongInFrozen r kind list p ⊎ ((kind ≡ Locations) × (IsLongUnowned r list p ⊎ IsLongInList r list p))
+abbrev IsLongRead : Classes → Linkable → ListKind → ListRead → ℕ → Type 0
+IsLongRead classes r kind list p = IsLongInKept classes r kind list p ⊎ ((kind ≡ Locations) × (IsLongUnowned r list p ⊎ IsLongInList r list p))
 
-list_read : (r : Linkable) (kind : ListKind) (list : ListRead) (held : HeldList) → HoldsList r kind list held → (p : ℕ) → IsLongInHeld kind (of_kind r kind).section held p → IsLongRead r kind list p
-list_read r kind list held holds p (inl long) = inl (frozen_read r kind list held holds p long)
-list_read r Ranges list held holds p (inr (wrong, long)) = absurd cc
-list_read r Locations list held holds p (inr (is, long)) = inr (is, locations_read r list held holds p long)
+list_read : (classes : Classes) (r : Linkable) (kind : ListKind) (list : ListRead) (held : HeldList) → HoldsList r kind list held → (p : ℕ) → IsLongInHeld classes kind (of_kind r kind).section held p → IsLongRead classes r kind list p
+list_read classes r kind list held holds p (inl long) = inl (kept_read classes r kind list held holds p long)
+list_read classes r Ranges list held holds p (inr (wrong, long)) = absurd cc
+list_read classes r Locations list held holds p (inr (is, long)) = inr (is, locations_read classes r list held holds p long)
 
-list_held : (r : Linkable) (kind : ListKind) (list : ListRead) (held : HeldList) → HoldsList r kind list held → (p : ℕ) → IsLongRead r kind list p → IsLongInHeld kind (of_kind r kind).section held p
-list_held r kind list held holds p (inl long) = inl (frozen_held r kind list held holds p long)
-list_held r Ranges list held holds p (inr (wrong, long)) = absurd cc
-list_held r Locations list held holds p (inr (is, long)) = inr (is, locations_held r list held holds p long)
+list_held : (classes : Classes) (r : Linkable) (kind : ListKind) (list : ListRead) (held : HeldList) → HoldsList r kind list held → (p : ℕ) → IsLongRead classes r kind list p → IsLongInHeld classes kind (of_kind r kind).section held p
+list_held classes r kind list held holds p (inl long) = inl (kept_held classes r kind list held holds p long)
+list_held classes r Ranges list held holds p (inr (wrong, long)) = absurd cc
+list_held classes r Locations list held holds p (inr (is, long)) = inr (is, locations_held classes r list held holds p long)
 
 -- ALL LISTS OF A KIND
 
 -- a number of the list with a number
-abbrev pub IsLongNumbered : ListKind → List ℕ → List HeldList → ℕ → ℕ → Type 0
-IsLongNumbered kind section lists k p = (held : HeldList) × (held ≡ get_or lists k held) × IsLongInHeld kind section held p
+abbrev pub IsLongNumbered : Classes → ListKind → List ℕ → List HeldList → ℕ → ℕ → Type 0
+IsLongNumbered classes kind section lists k p = (held : HeldList) × (held ≡ get_or lists k held) × IsLongInHeld classes kind section held p
 
-pub numbered_found : (kind : ListKind) (section : List ℕ) (lists : List HeldList) (k : ℕ) (held : HeldList) (found : Option ℕ) → k < length lists → held ≡ get_or lists k held → IsLeastFound (IsLongInHeld kind section held) found → IsLeastFound (IsLongNumbered kind section lists k) found
-numbered_found kind section lists k held found inside here least = found_same (IsLongInHeld kind section held) (IsLongNumbered kind section lists k) (λ p long. (held, here, long)) from found least
+pub numbered_found : (classes : Classes) (kind : ListKind) (section : List ℕ) (lists : List HeldList) (k : ℕ) (held : HeldList) (found : Option ℕ) → k < length lists → held ≡ get_or lists k held → IsLeastFound (IsLongInHeld classes kind section held) found → IsLeastFound (IsLongNumbered classes kind section lists k) found
+numbered_found classes kind section lists k held found inside here least = found_same (IsLongInHeld classes kind section held) (IsLongNumbered classes kind section lists k) (λ p long. (held, here, long)) from found least
   where
-    from : (p : ℕ) → IsLongNumbered kind section lists k p → IsLongInHeld kind section held p
+    from : (p : ℕ) → IsLongNumbered classes kind section lists k p → IsLongInHeld classes kind section held p
     from p (other, there, long) =
         let same : other ≡ held = there ∙ get_or_default lists k other held inside ∙ sym here in
-        subst (λ (z : HeldList). IsLongInHeld kind section z p) same long
+        subst (λ (z : HeldList). IsLongInHeld classes kind section z p) same long
 
 some_at : (lists : List HeldList) (k : ℕ) → k < length lists → (held : HeldList) × (held ≡ get_or lists k held)
 some_at [] k inside = absurd (omega (arith, inside))
 some_at (list ∷ lists) zero inside = (list, refl)
 some_at (list ∷ lists) (suc k) inside = some_at lists k (omega (arith, inside))
 
-pub lists_found : (world : World) (s : Reading) (kind : ListKind) (section : List ℕ) (n : ℕ) (found : Option ℕ) → Holds world.image world s → section ≡ (of_kind s.links kind).section → n ≡ length (lists_held world kind) → IsLeastFound (HoldsBelow (IsLongNumbered kind section (lists_held world kind)) n) found → IsLeastFound (IsLongInLists s kind) found
-lists_found world s kind section n found holds section_is all least = found_same (HoldsBelow (IsLongNumbered kind section (lists_held world kind)) n) (IsLongInLists s kind) to from found least
+pub lists_found : (classes : Classes) (world : World) (s : Reading) (kind : ListKind) (section : List ℕ) (n : ℕ) (found : Option ℕ) → Holds world.image world s → section ≡ (of_kind s.links kind).section → n ≡ length (lists_held world kind) → IsLeastFound (HoldsBelow (IsLongNumbered classes kind section (lists_held world kind)) n) found → IsLeastFound (IsLongInLists classes s kind) found
+lists_found classes world s kind section n found holds section_is all least = found_same (HoldsBelow (IsLongNumbered classes kind section (lists_held world kind)) n) (IsLongInLists classes s kind) to from found least
   where
     count : length (lists_held world kind) ≡ length (lists_of s kind)
     count = (holds.lists kind).count
 
-    to : (p : ℕ) → HoldsBelow (IsLongNumbered kind section (lists_held world kind)) n p → IsLongInLists s kind p
+    to : (p : ℕ) → HoldsBelow (IsLongNumbered classes kind section (lists_held world kind)) n p → IsLongInLists classes s kind p
     to p (k, less, (held, here, long)) =
         let known : k < length (lists_of s kind) = omega (arith, less, all, count) in
         let there : HoldsList s.links kind (list_at (lists_of s kind) k) held = subst (HoldsList s.links kind (list_at (lists_of s kind) k)) (sym here) ((holds.lists kind).each k held known) in
-        (k, known, list_read s.links kind (list_at (lists_of s kind) k) held there p (subst (λ (z : List ℕ). IsLongInHeld kind z held p) section_is long))
+        (k, known, list_read classes s.links kind (list_at (lists_of s kind) k) held there p (subst (λ (z : List ℕ). IsLongInHeld classes kind z held p) section_is long))
 
-    from : (p : ℕ) → IsLongInLists s kind p → HoldsBelow (IsLongNumbered kind section (lists_held world kind)) n p
+    from : (p : ℕ) → IsLongInLists classes s kind p → HoldsBelow (IsLongNumbered classes kind section (lists_held world kind)) n p
     from p (k, known, long) =
         let inside : k < length (lists_held world kind) = omega (arith, known, count) in
         let (held, here) = some_at (lists_held world kind) k inside in
         let there : HoldsList s.links kind (list_at (lists_of s kind) k) held = subst (HoldsList s.links kind (list_at (lists_of s kind) k)) (sym here) ((holds.lists kind).each k held known) in
-        (k, omega (arith, inside, all), (held, here, subst (λ (z : List ℕ). IsLongInHeld kind z held p) (sym section_is) (list_held s.links kind (list_at (lists_of s kind) k) held there p long)))
+        (k, omega (arith, inside, all), (held, here, subst (λ (z : List ℕ). IsLongInHeld classes kind z held p) (sym section_is) (list_held classes s.links kind (list_at (lists_of s kind) k) held there p long)))
 
 -- WHETHER A UNIT OWNS A LIST
 

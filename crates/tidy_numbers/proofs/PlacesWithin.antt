@@ -2,6 +2,7 @@
 use Rattle.std.proofs.Common.{◌≡◌, ◌≢◌, ◌<◌, ◌+◌, ◌-◌, ◌++◌, ◌∙◌, ◌⊎◌, inl, inr, ℕ, List, length, drop, sym, ap, subst, arith}
 use Rattle.std.specs.Prelude.{◌&&◌, Bool, true, IsFalse}
 use Rattle.std.proofs.lemmas.List.{length-append, length-drop, length-take}
+use Rattle.dw_base.specs.declared.classes.Classes.{Classes}
 use Rattle.dw_base.specs.declared.fault.Span.{Span}
 use Rattle.leb_codec.specs.Leb.{Uleb}
 use Rattle.expr_ops.specs.Drafts.{is_slot}
@@ -134,7 +135,7 @@ unit_within unit p (inl (id, known, long, place)) = some_there unit.forest.secti
 unit_within unit p (inr (inl (end, among, long, place))) = some_there unit.forest.section p (begins_some (drop p unit.forest.section) long)
 unit_within unit p (inr (inr value)) =
     let (form, known, long) = value.long in
-    some_there unit.forest.section p (shape_some (shape_of form value.stands.column.constant) (drop p unit.forest.section) long)
+    some_there unit.forest.section p (shape_some (shape_of form value.stands.column.name value.stands.column.constant) (drop p unit.forest.section) long)
 
 -- EXPRESSIONS
 
@@ -198,14 +199,14 @@ run_within section run p l =
     pair_within (inl long) = long_within l.inner l.rest long
     pair_within (inr more) = behind_within Uleb (λ first. IsLong) (λ first. long_within) l.inner l.rest more
 
-pub lists_within : (s : Reading) (kind : ListKind) (p : ℕ) → IsLongInSection s kind p → p < length (of_kind s.links kind).section
-lists_within s kind p (inl (k, known, inl (frozen, (raw, among, long)))) = code_within AreLongOperandsOf list_operands_within kind (of_kind s.links kind).section raw p long
-lists_within s kind p (inl (k, known, inr (is, inl (none, (raw, among, long))))) =
+pub lists_within : (classes : Classes) (s : Reading) (kind : ListKind) (p : ℕ) → IsLongInSection classes s kind p → p < length (of_kind s.links kind).section
+lists_within classes s kind p (inl (k, known, inl (kept, (raw, among, long)))) = code_within AreLongOperandsOf list_operands_within kind (of_kind s.links kind).section raw p long
+lists_within classes s kind p (inl (k, known, inr (is, inl (none, (raw, among, long))))) =
     subst (λ (z : ListKind). p < length (of_kind s.links z).section) (sym is) (code_within IsLongLength length_within Locations s.links.locations.section raw p long)
-lists_within s kind p (inl (k, known, inr (is, inr l))) =
+lists_within classes s kind p (inl (k, known, inr (is, inr l))) =
     let section : List ℕ = s.links.locations.section in
     let inside : l.raw.expr.at + l.inner < length section = in_span section l.raw.expr l.inner (expression_within (is_owned l.owner) (bytes_in section l.raw.expr) l.inner l.long) in
     let place : p ≡ l.raw.expr.at + l.inner = l.place in
     let there : p < length (of_kind s.links Locations).section = omega arith in
     subst (λ (z : ListKind). p < length (of_kind s.links z).section) (sym is) there
-lists_within s kind p (inr (is, (k, known, long))) = subst (λ (z : ListKind). p < length (of_kind s.links z).section) (sym is) (run_within s.links.locations.section (view_at s.views k) p long)
+lists_within classes s kind p (inr (is, (k, known, long))) = subst (λ (z : ListKind). p < length (of_kind s.links z).section) (sym is) (run_within s.links.locations.section (view_at s.views k) p long)

@@ -9,7 +9,7 @@ use Rattle.list_model.specs.declared.entry.ListKind.{ListKind}
 use Rattle.list_model.specs.declared.entry.ListKind.TheVariants.{Ranges, Locations}
 use Rattle.list_model.specs.declared.entry.RawEntry.{RawEntry}
 use Rattle.list_model.specs.Contributions.{part_end, bytes_from}
-use Rattle.list_model.specs.Entries.{Entry, SpellsEntry, SpellsList, IsListEnd}
+use Rattle.list_model.specs.Entries.{Entry, SpellsEntry, SpellsList, IsListEnd, AreSaid}
 use Rattle.list_model.specs.Reading.{AreReadFrom}
 use Rattle.list_model.proofs.EntryLaws.{entries_once, entries_apart}
 use Rattle.range_lists.specs.Ranges.{IsRead as IsRangeRead}
@@ -59,11 +59,12 @@ bare_once Locations entries others a b x y bare other (ls, p) (ms, q) s t h = ap
 
 -- A LIST THAT IS READ
 
--- its bytes without expressions, which can be exchanged where an operand of an entry has a byte too many
+-- its bytes without expressions and the entries that it says; they can be exchanged where an operand of an entry has a byte too many
 pub record StandsBare (kind : ListKind) (section : List ℕ) (raws : List RawEntry) (bytes : List ℕ) : Type 0 where
   pub entries : List Entry
   pub bare : List ℕ
   pub without : AreBare kind bytes bare
+  pub said : AreSaid kind raws entries
   pub spelled : SpellsList kind entries bare
   pub shorter : (raw : RawEntry) → Contains raws raw → IsLongEntry kind section raw → HasShorter (SpellsList kind entries) bare
 
@@ -98,6 +99,7 @@ ranges_bare section at [] [] front rest end ended read whole = record {
   entries = [];
   bare = front ++ end;
   without = refl;
+  said = tt;
   spelled = (front, end, read, ended, refl);
   shorter = no_more Ranges section [] (front ++ end);
 }
@@ -112,6 +114,7 @@ ranges_bare section at (r ∷ raws) (e ∷ es) front rest end ended (first, othe
       entries = e ∷ left.entries;
       bare = first ++ left.bare;
       without = same ∙ ap (λ z. first ++ z) left.without;
+      said = (here.says, left.said);
       spelled = list_more Ranges e left.entries first left.bare here.spelled left.spelled;
       shorter = first_or_later Ranges section r raws (HasShorter (SpellsList Ranges (e ∷ left.entries)) (first ++ left.bare))
           (λ long. shorter_first Ranges e left.entries first left.bare left.spelled (entry_shorter Ranges section r e first (others ++ rest) here.says.of_code here.spelled own long))
@@ -126,6 +129,7 @@ locations_bare section at [] [] front rest end ended read whole =
       entries = [];
       bare = front ++ end;
       without = ([], (same ∙ ended, refl));
+      said = tt;
       spelled = (front, end, read, ended, refl);
       shorter = no_more Locations section [] (front ++ end);
     }
@@ -145,6 +149,7 @@ locations_bare section at (r ∷ raws) (l ∷ ls) front rest end ended (first, o
       entries = l.0 ∷ left.entries;
       bare = own ++ left.bare;
       without = (l ∷ left.without.0, (own, behind, others ++ end, left.bare, entry, after, left.without.1, same, refl));
+      said = (here.says, left.said);
       spelled = list_more Locations l.0 left.entries own left.bare entry left.spelled;
       shorter = first_or_later Locations section r raws (HasShorter (SpellsList Locations (l.0 ∷ left.entries)) (own ++ left.bare))
           (λ long. shorter_first Locations l.0 left.entries own left.bare left.spelled

@@ -76,8 +76,8 @@ value_short : (column : Spec) (meaning : Meaning) (a x bytes : List ℕ) → IsW
 value_short column meaning a x bytes written whole (form, known, long) =
     let spelled = written.0 in
     let one : spelled.form ≡ form = code_once spelled.form form (spelled.known ∙ sym known) in
-    let here : SpellsShape (shape_of form column.constant) meaning a = subst (λ (f : Form). SpellsShape (shape_of f column.constant) meaning a) one spelled.spelled in
-    shape_short (shape_of form column.constant) meaning a x bytes spelled.small here
+    let here : SpellsShape (shape_of form column.name column.constant) meaning a = subst (λ (f : Form). SpellsShape (shape_of f column.name column.constant) meaning a) one spelled.spelled in
+    shape_short (shape_of form column.name column.constant) meaning a x bytes spelled.small here
     (λ others small there. written.1.shortest column.constant others (record { form = form; known = known; small = small; spelled = there }))
     whole long
 
@@ -89,8 +89,8 @@ stands_written section [] c cs [] v vs from place to same written = subst (λ (z
 stands_written section [] c cs (w ∷ ws) v vs from place to none written = absurd none
 stands_written section (b ∷ bs) c cs [] v vs from place to none written = absurd none
 stands_written section (b ∷ bs) c cs (w ∷ ws) v vs from place to (next, spelled, placed, more) (after, short, others) =
-    let here : SpellsBetween (SpellsValue b.form b.constant (meant_in section w)) section from after = record { order = short.order; inside = short.inside; spelled = short.spelled.0 } in
-    let one : next ≡ after = (spells_once (SpellsValue b.form b.constant) (value_once b.form b.constant) section (meant_in section w) (meant_in section w) from next after spelled here).0 in
+    let here : SpellsBetween (SpellsValue b.name b.form b.constant (meant_in section w)) section from after = record { order = short.order; inside = short.inside; spelled = short.spelled.0 } in
+    let one : next ≡ after = (spells_once (SpellsValue b.name b.form b.constant) (value_once b.name b.form b.constant) section (meant_in section w) (meant_in section w) from next after spelled here).0 in
     stands_written section bs c cs ws v vs after place to (subst (λ (z : ℕ). ValuesBetween section bs ws z place) one more) others
 
 -- A UNIT

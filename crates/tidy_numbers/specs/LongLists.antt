@@ -1,8 +1,9 @@
--- The numbers of lists that have a byte too many (DWARF 5 sections 2.6.2, 2.17.3, 7.7.3, 7.25 and 7.28 to 7.29): operands of frozen lists,
--- lengths of expressions of lists that no entry names, and view pairs. A list that isn't frozen is judged as a whole, and the lengths of
+-- The numbers of lists that have a byte too many (DWARF 5 sections 2.6.2, 2.17.3, 7.7.3, 7.25 and 7.28 to 7.29): operands of lists that are kept,
+-- lengths of expressions of lists that no entry names, and view pairs. A list that isn't kept is judged as a whole, and the lengths of
 -- expressions of a list that a unit owns are slots of that unit. Places count from the first byte of the section.
 use Rattle.std.specs.Prelude.{◌≡◌, ◌<◌, ◌+◌, ◌⊎◌, ◌++◌, ◌∷◌, ℕ, List, length, drop, Bool, true, false, Option, Some, None}
 use Rattle.std.specs.List.{Contains}
+use Rattle.dw_base.specs.declared.classes.Classes.{Classes}
 use Rattle.leb_codec.specs.Leb.{Uleb}
 use Rattle.spelled.specs.Spelled.{Joined}
 use Rattle.list_model.specs.declared.entry.EntryKind.{EntryKind}
@@ -16,8 +17,9 @@ use Rattle.list_model.specs.Items.{sets_base}
 use Rattle.loc_lists.specs.Locations.{items_among, bytes_in}
 use Rattle.loc_lists.specs.Views.{SpellsPair}
 use Rattle.loc_lists.specs.declared.views.ViewPair.{ViewPair}
-use Rattle.value_links.specs.Lists.{IsFrozen, IsOwner}
+use Rattle.value_links.specs.Lists.{IsOwner}
 use Rattle.value_links.specs.Reading.{ListRead, ViewRead, Linkable, Reading, of_kind, lists_of, list_at, view_at}
+use Rattle.written_files.specs.Kept.{IsKept}
 use Rattle.tidy_numbers.specs.Fronts.{IsLong, Behind}
 use Rattle.tidy_numbers.specs.LongOperations.{IsLongInExpression}
 
@@ -42,9 +44,9 @@ pub record HoldsBehindCode (Holds : EntryKind → ℕ → List ℕ → Type 0) (
 abbrev pub IsLongLength : EntryKind → ℕ → List ℕ → Type 0
 IsLongLength kind at bytes = (sets_base kind ≡ false) × Behind (SpellsOperands kind) (λ operands. IsLong) at bytes
 
--- an operand of a frozen list
-abbrev pub IsLongInFrozen : Linkable → ListKind → ListRead → ℕ → Type 0
-IsLongInFrozen s kind list p = IsFrozen s kind list × ((raw : RawEntry) × Contains list.raws raw × HoldsBehindCode AreLongOperandsOf kind (of_kind s kind).section raw p)
+-- an operand of a list that is kept
+abbrev pub IsLongInKept : Classes → Linkable → ListKind → ListRead → ℕ → Type 0
+IsLongInKept classes s kind list p = IsKept classes s kind list × ((raw : RawEntry) × Contains list.raws raw × HoldsBehindCode AreLongOperandsOf kind (of_kind s kind).section raw p)
 
 -- the length of an expression of a location list that no entry names
 abbrev pub IsLongUnowned : Linkable → ListRead → ℕ → Type 0
@@ -80,9 +82,9 @@ pub record IsLongInRun (section : List ℕ) (run : ViewRead) (p : ℕ) : Type 0 
   pub place : p ≡ run.at + length front + inner
 
 -- a number of the lists of a kind and, of location lists, of their expressions
-abbrev pub IsLongInLists : Reading → ListKind → ℕ → Type 0
-IsLongInLists s kind p =
-    (k : ℕ) × (k < length (lists_of s kind)) × (IsLongInFrozen s.links kind (list_at (lists_of s kind) k) p ⊎ ((kind ≡ Locations) × (IsLongUnowned s.links (list_at (lists_of s kind) k) p ⊎ IsLongInList s.links (list_at (lists_of s kind) k) p)))
+abbrev pub IsLongInLists : Classes → Reading → ListKind → ℕ → Type 0
+IsLongInLists classes s kind p =
+    (k : ℕ) × (k < length (lists_of s kind)) × (IsLongInKept classes s.links kind (list_at (lists_of s kind) k) p ⊎ ((kind ≡ Locations) × (IsLongUnowned s.links (list_at (lists_of s kind) k) p ⊎ IsLongInList s.links (list_at (lists_of s kind) k) p)))
 
 -- a number of view pairs of location lists
 abbrev pub IsLongInViews : Reading → ℕ → Type 0

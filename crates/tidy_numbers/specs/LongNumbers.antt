@@ -1,6 +1,7 @@
 -- The numbers of a file that have a byte too many, where nothing else says how many bytes they have (DWARF 5 section 7.6). Places are
 -- offsets in the file.
 use Rattle.std.specs.Prelude.{◌≡◌, ◌<◌, ◌+◌, ◌⊎◌, ℕ, List, length, drop, true}
+use Rattle.dw_base.specs.declared.classes.Classes.{Classes}
 use Rattle.dw_base.specs.declared.fault.Span.{Span}
 use Rattle.form_codec.specs.Values.{bytes_in}
 use Rattle.entry_read.specs.Expressions.{IsExprAt}
@@ -42,16 +43,16 @@ abbrev pub IsLongInInfo : Reading → ℕ → Type 0
 IsLongInInfo s p = IsLongInEntries s p ⊎ IsLongInExpressions s p
 
 -- a number of the lists of a kind, with view pairs
-abbrev pub IsLongInSection : Reading → ListKind → ℕ → Type 0
-IsLongInSection s kind p = IsLongInLists s kind p ⊎ ((kind ≡ Locations) × IsLongInViews s p)
+abbrev pub IsLongInSection : Classes → Reading → ListKind → ℕ → Type 0
+IsLongInSection classes s kind p = IsLongInLists classes s kind p ⊎ ((kind ≡ Locations) × IsLongInViews s p)
 
 -- a number of the file, of which this is read
-abbrev pub IsLongIn : List ℕ → Reading → ℕ → Type 0
-IsLongIn file s p =
+abbrev pub IsLongIn : Classes → List ℕ → Reading → ℕ → Type 0
+IsLongIn classes file s p =
     HoldsIn file abbrev_name (IsLongInTables (debug_abbrev file) s) p
     ⊎ (HoldsIn file info_name (IsLongInInfo s) p
-    ⊎ ((kind : ListKind) × HoldsIn file (lists_name kind) (IsLongInSection s kind) p))
+    ⊎ ((kind : ListKind) × HoldsIn file (lists_name kind) (IsLongInSection classes s kind) p))
 
 -- a number of the file
-abbrev pub IsLongNumber : List ℕ → ℕ → Type 0
-IsLongNumber file p = (s : Reading) × IsReading file s × IsLongIn file s p
+abbrev pub IsLongNumber : Classes → List ℕ → ℕ → Type 0
+IsLongNumber classes file p = (s : Reading) × IsReading file s × IsLongIn classes file s p

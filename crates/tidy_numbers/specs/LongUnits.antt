@@ -25,7 +25,7 @@ BeginsLongShape shape bytes = ⊥
 
 -- likewise one of a column, by its form
 abbrev pub BeginsLongValue : Spec → List ℕ → Type 0
-BeginsLongValue column bytes = (form : Form) × (code_of form ≡ column.form) × BeginsLongShape (shape_of form column.constant) bytes
+BeginsLongValue column bytes = (form : Form) × (code_of form ≡ column.form) × BeginsLongShape (shape_of form column.name column.constant) bytes
 
 -- the code of an entry
 abbrev pub IsLongCode : UnitRead → ℕ → Type 0

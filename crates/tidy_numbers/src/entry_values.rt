@@ -27,10 +27,18 @@ fn code_end(info: &[u8], at: usize) -> usize
 
 // Where the value of a column at a place ends.
 fn value_end(info: &[u8], at: usize, column: Spec) -> usize
-    requires { (meaning : Meaning) × (to : ℕ) × SpellsBetween (SpellsValue column.form column.constant meaning) info.now at to }
-    ensures { (meaning : Meaning) (to : ℕ) → SpellsBetween (SpellsValue column.form column.constant meaning) info.now at to → result ≡ to }
+    requires { (meaning : Meaning) × (to : ℕ) × SpellsBetween (SpellsValue column.name column.form column.constant meaning) info.now at to }
+    ensures { (meaning : Meaning) (to : ℕ) → SpellsBetween (SpellsValue column.name column.form column.constant meaning) info.now at to → result ≡ to }
 {
-    match read_value(info, at, info.len(), column.form, column.constant, 0) {
+    match read_value(
+        info,
+        at,
+        info.len(),
+        column.name,
+        column.form,
+        column.constant,
+        0,
+    ) {
         Ok(read) => read.end,
         // A value that stands there has no fault.
         Err(_) => unreachable!(),
@@ -55,11 +63,11 @@ fn begins_long(info: &[u8], at: usize, shape: Shape) -> bool
 
 // Likewise of the value of a column.
 fn is_long_value(info: &[u8], at: usize, column: Spec) -> bool
-    requires { (meaning : Meaning) × (to : ℕ) × SpellsBetween (SpellsValue column.form column.constant meaning) info.now at to }
+    requires { (meaning : Meaning) × (to : ℕ) × SpellsBetween (SpellsValue column.name column.form column.constant meaning) info.now at to }
     ensures { IsTrue result ↔ BeginsLongValue column (drop at info.now) }
 {
     match Form::from_code(column.form) {
-        Some(form) => begins_long(info, at, form.shape(column.constant)),
+        Some(form) => begins_long(info, at, form.shape(column.name, column.constant)),
         // A value that stands there has a form that is known.
         None => unreachable!(),
     }

@@ -66,7 +66,7 @@ pub(crate) fn is_long_signed(bytes: &[u8], at: usize) -> bool
 }
 
 /// The lesser of two places, of which either may be missing.
-pub(crate) fn earlier(one: Option<u64>, other: Option<u64>) -> Option<u64>
+pub fn earlier(one: Option<u64>, other: Option<u64>) -> Option<u64>
     ensures { IsLeastFound (λ p. (one ≡ Some p) ⊎ (other ≡ Some p)) result }
 {
     match (one, other) {

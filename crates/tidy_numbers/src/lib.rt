@@ -20,10 +20,10 @@ mod tables;
 mod units;
 mod views;
 
-use crate::fronts::earlier;
+pub use crate::fronts::earlier;
 pub use crate::laws::written_numbers;
 use crate::sections::{first_in_abbrev, first_in_info, first_in_section};
-use dw_base::NoMemory;
+use dw_base::{Classes, NoMemory};
 use list_model::ListKind;
 use std::alloc::Global;
 use value_links::{World, one_reading};
@@ -31,18 +31,22 @@ use value_links::{World, one_reading};
 /// The least place of a number in ULEB128 or SLEB128 that has a byte too many (DWARF 5 section 7.6), as an offset in the file, or None where
 /// there is none.
 ///
-/// Such numbers stand in abbreviation tables, in entries with their values, in expressions, in frozen lists and in view pairs, and before
+/// Such numbers stand in abbreviation tables, in entries with their values, in expressions, in lists that are kept and in view pairs, and before
 /// the expressions of location lists that no entry names. Left out is what has a size of its own: references within a unit, the lengths of
 /// expressions of units and of the location lists that these own, references to base types and the lengths of what entry_values hold in
-/// such expressions, and the operands of lists that aren't frozen. The only error is want of memory.
-pub fn first_long_number(alloc: Global, world: &World<'_>) -> Result<Option<u64>, NoMemory>
+/// such expressions, and the operands of lists that aren't kept. The only error is want of memory.
+pub fn first_long_number(
+    alloc: Global,
+    classes: Classes,
+    world: &World<'_>,
+) -> Result<Option<u64>, NoMemory>
     requires { (reach : Reach) × IsWorldOf world.now.image reach world.now }
-    ensures { IfOk result (IsLeastFound (IsLongNumber world.now.image)) }
+    ensures { IfOk result (IsLeastFound (IsLongNumber classes world.now.image)) }
 {
     // A file is read in one way.
     one_reading();
-    let ranges = first_in_section(alloc, world, ListKind::Ranges)?;
-    let locations = first_in_section(alloc, world, ListKind::Locations)?;
+    let ranges = first_in_section(alloc, classes, world, ListKind::Ranges)?;
+    let locations = first_in_section(alloc, classes, world, ListKind::Locations)?;
     let lists = earlier(ranges, locations);
     let entries = earlier(first_in_info(world), lists);
     Ok(earlier(first_in_abbrev(world), entries))

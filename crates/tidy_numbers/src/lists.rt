@@ -11,12 +11,12 @@ ghost use Rattle.tidy_places.specs.Firsts.{IsLeastFound};
 ghost use Rattle.tidy_numbers.specs.LongLists.{AreLongOperandsOf, IsLongLength, HoldsBehindCode, is_owned, IsLongInLists};
 ghost use Rattle.tidy_numbers.specs.inside.Expressions.{AreOperationsOf};
 ghost use Rattle.tidy_numbers.specs.inside.Held.{OfReading};
-ghost use Rattle.tidy_numbers.specs.inside.ListEntries.{EntryStands, LengthStands, ExpressionStands, ListStands, HoldsAmong, IsLongInItem, IsLongInDead, IsLongInUnnamed, IsLongInLocations, IsLongInHeld};
+ghost use Rattle.tidy_numbers.specs.inside.ListEntries.{EntryStands, LengthStands, ExpressionStands, ListStands, HoldsAmong, IsLongInItem, IsLongInOperands, IsLongInUnnamed, IsLongInLocations, IsLongInHeld};
 
 use crate::fronts::earlier;
 use crate::list_operands::{first_in_entry, long_length};
 use crate::operations::first_at;
-use dw_base::{NoMemory, Reach, Refusal};
+use dw_base::{Classes, NoMemory, Reach, Refusal};
 use expr_ops::{Op, never_both, push_expr};
 use list_arena::ListRead;
 use list_model::{ListKind, Meaning, RawEntry};
@@ -36,15 +36,15 @@ fn first_operand_in(section: &[u8], kind: ListKind, raws: &[RawEntry]) -> Option
     found
 }
 
-// The first operand of a list, if it is frozen.
-fn first_in_frozen(section: &[u8], kind: ListKind, list: &ListRead) -> Option<u64>
+// The first operand of a list, if it is kept.
+fn first_in_kept(classes: Classes, section: &[u8], kind: ListKind, list: &ListRead) -> Option<u64>
     requires { All (EntryStands kind section.now) list.now.raw }
-    ensures { IsLeastFound (IsLongInDead kind section.now list.now) result }
+    ensures { IsLeastFound (IsLongInOperands classes kind section.now list.now) result }
 {
-    match list.meaning() {
-        Meaning::Dead => first_operand_in(section, kind, list.entries()),
-        Meaning::Live(_) => None,
+    if classes.lists && matches!(list.meaning(), Meaning::Live(_)) {
+        return None;
     }
+    first_operand_in(section, kind, list.entries())
 }
 
 // The first length of an expression of some entries of location lists with a byte too many.
@@ -141,15 +141,16 @@ fn first_in_locations(
 // The first number of a list.
 fn first_in_list(
     alloc: Global,
+    classes: Classes,
     section: &[u8],
     kind: ListKind,
     list: &ListRead,
     ops: &mut Vec<Op>,
 ) -> Result<Option<u64>, NoMemory>
     requires { ListStands kind section.now list.now }
-    ensures { IfOk result (IsLeastFound (IsLongInHeld kind section.now list.now)) }
+    ensures { IfOk result (IsLeastFound (IsLongInHeld classes kind section.now list.now)) }
 {
-    let operand = first_in_frozen(section, kind, list);
+    let operand = first_in_kept(classes, section, kind, list);
     match kind {
         ListKind::Ranges => Ok(operand),
         ListKind::Locations => Ok(earlier(operand, first_in_locations(alloc, section, list, ops)?)),
@@ -169,11 +170,12 @@ fn section_of<'a>(world: &'a World<'_>, kind: ListKind) -> &'a [u8]
 /// The first number of the lists of a kind with a byte too many, by its place in their section.
 pub(crate) fn first_in_lists(
     alloc: Global,
+    classes: Classes,
     world: &World<'_>,
     kind: ListKind,
 ) -> Result<Option<u64>, NoMemory>
     requires { (reach : AnyReach) × IsWorldOf world.now.image reach world.now }
-    ensures { IfOk result (λ place. OfReading world.now (λ s. IsLeastFound (IsLongInLists s kind) place)) }
+    ensures { IfOk result (λ place. OfReading world.now (λ s. IsLeastFound (IsLongInLists classes s kind) place)) }
 {
     let section = section_of(world, kind);
     let mut ops = Vec::new(alloc);
@@ -181,7 +183,10 @@ pub(crate) fn first_in_lists(
     let lists = world.lists(kind);
     for number in 0..lists.len() {
         let list = lists.list(alloc, number)?;
-        found = earlier(found, first_in_list(alloc, section, kind, &list, &mut ops)?);
+        found = earlier(
+            found,
+            first_in_list(alloc, classes, section, kind, &list, &mut ops)?,
+        );
     }
     Ok(found)
 }

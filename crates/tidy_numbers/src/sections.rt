@@ -13,7 +13,7 @@ use crate::operations::first_in_expressions;
 use crate::tables::first_in_tables;
 use crate::units::first_in_entries;
 use crate::views::first_in_views;
-use dw_base::NoMemory;
+use dw_base::{Classes, NoMemory};
 use list_model::ListKind;
 use std::alloc::Global;
 use value_links::World;
@@ -53,13 +53,14 @@ pub(crate) fn first_in_info(world: &World<'_>) -> Option<u64>
 /// The first number of the lists of a kind or of their view pairs with a byte too many, as an offset in the file.
 pub(crate) fn first_in_section(
     alloc: Global,
+    classes: Classes,
     world: &World<'_>,
     kind: ListKind,
 ) -> Result<Option<u64>, NoMemory>
     requires { (reach : Reach) × IsWorldOf world.now.image reach world.now }
-    ensures { IfOk result (λ place. OfReading world.now (λ s. IsLeastFound (HoldsIn world.now.image (lists_name kind) (IsLongInSection s kind)) place)) }
+    ensures { IfOk result (λ place. OfReading world.now (λ s. IsLeastFound (HoldsIn world.now.image (lists_name kind) (IsLongInSection classes s kind)) place)) }
 {
-    let lists = first_in_lists(alloc, world, kind)?;
+    let lists = first_in_lists(alloc, classes, world, kind)?;
     match kind {
         ListKind::Ranges => Ok(in_file(world, b".debug_rnglists".as_slice(), lists)),
         ListKind::Locations => {

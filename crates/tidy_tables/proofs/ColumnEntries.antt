@@ -14,10 +14,10 @@ use Rattle.form_codec.proofs.FormLaws.{read_in}
 use Rattle.abbrev_tables.specs.declared.decl.Decl.{Decl}
 use Rattle.abbrev_tables.specs.declared.decl.Spec.{Spec}
 use Rattle.abbrev_tables.specs.Tables.{Declared}
-use Rattle.abbrev_tables.specs.Listings.{Listing, decl_at}
+use Rattle.abbrev_tables.specs.Listings.{Listing, decl_at, spec_at, declared_in}
 use Rattle.column_forms.specs.Tallies.{Tallying}
 use Rattle.column_forms.specs.Rows.{AreHere}
-use Rattle.column_forms.specs.TableColumns.{IsTallyOf, tally_at, AreTalliesOf, HaveRoomForRow, HaveAtMost, AddsRow}
+use Rattle.column_forms.specs.TableColumns.{IsTallyOf, tally_at, AreTalliesOf, HaveNames, HaveRoomForRow, HaveAtMost, AddsRow}
 use Rattle.entry_arena.specs.declared.entry.Entry.{Entry}
 use Rattle.entry_arena.specs.Arena.{Arena, entry_at, value_at}
 use Rattle.entry_arena.specs.Trees.{ValuesBetween, declared_at}
@@ -30,7 +30,7 @@ use Rattle.entry_read.proofs.PlaceLaws.{entry_stands}
 use Rattle.written_files.specs.Uses.{names_inside, are_inside}
 use Rattle.tidy_tables.specs.declared.column_values.ColumnValues.{ColumnValues}
 use Rattle.tidy_tables.specs.inside.TableNamers.{unit_in, entries_of, AreUnitsOf}
-use Rattle.tidy_tables.specs.inside.ColumnValues.{Headed, headed, without_heads, meant_with_heads, has_column, value_in_column, values_in_column, values_of_unit, values_of_units, with_entries, told_at, HasSeen, HoldsValues, AddsHeaded, HasWidth, HasRoomFor, AddsEntries, AreGathered}
+use Rattle.tidy_tables.specs.inside.ColumnValues.{Headed, headed, without_heads, meant_with_heads, has_column, value_in_column, values_in_column, values_of_unit, values_of_units, with_entries, names_in, told_at, HasSeen, HoldsValues, AddsHeaded, HasWidth, HasRoomFor, AddsEntries, AreGathered}
 
 -- COLUMNS OF A DECLARATION
 
@@ -91,9 +91,9 @@ module _ (decls : List Decl) (unit : HeadAndForest) (e : Entry) where
 -- WHAT IS HELD
 
 -- the same values by another name
-pub holds_as : (section : List ℕ) (values others : ℕ → List Headed) (held : ColumnValues) → ((k : ℕ) → values k ≡ others k) → HoldsValues section values held → HoldsValues section others held
-holds_as section values others held same holds = record {
-  tallied = λ k inside. subst (λ (vs : List Headed). IsTallyOf section (without_heads vs) (tally_at held.tallies k)) (same k) (holds.tallied k inside);
+pub holds_as : (section : List ℕ) (names : ℕ → ℕ) (values others : ℕ → List Headed) (held : ColumnValues) → ((k : ℕ) → values k ≡ others k) → HoldsValues section names values held → HoldsValues section names others held
+holds_as section names values others held same holds = record {
+  tallied = λ k inside. subst (λ (vs : List Headed). IsTallyOf section (names k) (without_heads vs) (tally_at held.tallies k)) (same k) (holds.tallied k inside);
   told = λ k inside. subst (λ (vs : List Headed). told_at held.inside.items k ≡ are_inside (meant_with_heads section vs)) (same k) (holds.told k inside);
 }
 
@@ -112,8 +112,8 @@ inside_more section values head v =
     ∙ ap (λ (b : Bool). are_inside (meant_with_heads section values) && b) one
 
 -- the values of a row are counted, each in its column
-pub row_held : (section : List ℕ) (first : ℕ) (head : UnitHead) (row : List Value) (old new : ColumnValues) (before after : ℕ → List Headed) → first + length row ≤ length old.inside.items → HasSeen first head row (length row) old.inside.items new.inside.items → ((values others : ℕ → List Value) → AddsRow first row values others → AreTalliesOf section values old.tallies → AreTalliesOf section others new.tallies) → AddsHeaded first head row before after → HoldsValues section before old → HoldsValues section after new
-row_held section first head row old new before after wide seen counted adds holds = record {
+pub row_held : (section : List ℕ) (names : ℕ → ℕ) (first : ℕ) (head : UnitHead) (row : List Value) (old new : ColumnValues) (before after : ℕ → List Headed) → first + length row ≤ length old.inside.items → HasSeen first head row (length row) old.inside.items new.inside.items → ((values others : ℕ → List Value) → AddsRow first row values others → AreTalliesOf section names values old.tallies → AreTalliesOf section names others new.tallies) → AddsHeaded first head row before after → HoldsValues section names before old → HoldsValues section names after new
+row_held section names first head row old new before after wide seen counted adds holds = record {
   tallied = counted (λ k. without_heads (before k)) (λ k. without_heads (after k)) (record {
     each = λ j below. ap without_heads (adds.each j below) ∙ map-append (λ (v : Headed). v.1) (before (first + j)) ((head, value_at row j) ∷ []);
     others = λ k out. ap without_heads (adds.others k out);
@@ -161,7 +161,7 @@ valued_between section small [] [] from to p = λ k d below. absurd (omega arith
 valued_between section small [] (v ∷ values) from to p = absurd p
 valued_between section small (c ∷ columns) [] from to p = absurd p
 valued_between section small (c ∷ columns) (v ∷ values) from to p =
-    all_cons section v values (read_in c.form c.constant section from (length section) (record { value = v; end = p.0 }) (omega arith) small (record { starts = p.1.order; inside = p.1.inside; spelled = p.1.spelled; placed = p.2 })) (valued_between section small columns values p.0 to p.3)
+    all_cons section v values (read_in c.name c.form c.constant section from (length section) (record { value = v; end = p.0 }) (omega arith) small (record { starts = p.1.order; inside = p.1.inside; spelled = p.1.spelled; placed = p.2 })) (valued_between section small columns values p.0 to p.3)
 
 module _ (table : Listing) (unit : HeadAndForest) (known : IsTable table) (held : IsUnitHeld unit.forest.section unit.head (declarations_of table) unit.forest) (id : ℕ) (inside : id < length unit.forest.entries) where
   abbrev e : Entry
@@ -197,7 +197,7 @@ module _ (table : Listing) (unit : HeadAndForest) (known : IsTable table) (held 
       let all : All (IsValueIn unit.forest.section) (take e.count (drop e.first own_values)) = valued_between unit.forest.section small (declared_at (declarations_of table) e.decl).columns (take e.count (drop e.first own_values)) s.values_at (e.at + e.len) s.valued in
       record { value = all k (value_at [] 0) below; fits = few }
 
-  module _ (old now : ColumnValues) (adds : AddsEntries table.decls unit (take id unit.forest.entries) old now) where
+  module _ (old now : ColumnValues) (adds : AddsEntries table unit (take id unit.forest.entries) old now) where
     abbrev done : List Entry
     done = take id unit.forest.entries
 
@@ -208,8 +208,8 @@ module _ (table : Listing) (unit : HeadAndForest) (known : IsTable table) (held 
         room_for_row (n + length done) now.tallies (adds.few n most) (omega (arith, size, inside, below))
 
     -- they are counted
-    pub entry_added : (new : ColumnValues) → length new.tallies ≡ length now.tallies → length new.inside.items ≡ length now.inside.items → ((n : ℕ) → HaveAtMost n now.tallies → HaveAtMost (n + 1) new.tallies) → AreBytes unit.forest.section → length unit.forest.section < 2 ^ 63 → (row : List Value) → row ≡ take (entry_at unit.forest.entries id).count (drop (entry_at unit.forest.entries id).first unit.forest.values) → (first : ℕ) → first ≡ (decl_at table.decls (entry_at unit.forest.entries id).decl).first → (head : UnitHead) → head ≡ unit.head → ((section : List ℕ) (before after : ℕ → List Headed) → AreHere section row → AddsHeaded first head row before after → HoldsValues section before now → HoldsValues section after new) → AddsEntries table.decls unit (take (id + 1) unit.forest.entries) old new
-    entry_added new tallies_same inside_same one_more small few row row_is first first_is head head_is law =
+    pub entry_added : (new : ColumnValues) → length new.tallies ≡ length now.tallies → length new.inside.items ≡ length now.inside.items → ((n : ℕ) → HaveAtMost n now.tallies → HaveAtMost (n + 1) new.tallies) → AreBytes unit.forest.section → length unit.forest.section < 2 ^ 63 → (row : List Value) → row ≡ take (entry_at unit.forest.entries id).count (drop (entry_at unit.forest.entries id).first unit.forest.values) → (first : ℕ) → first ≡ (decl_at table.decls (entry_at unit.forest.entries id).decl).first → (head : UnitHead) → head ≡ unit.head → (columns : List Spec) → HaveNames (names_in table) first columns → ((section : List ℕ) (names : ℕ → ℕ) (before after : ℕ → List Headed) → AreHere section row → HaveNames names first columns → AddsHeaded first head row before after → HoldsValues section names before now → HoldsValues section names after new) → AddsEntries table unit (take (id + 1) unit.forest.entries) old new
+    entry_added new tallies_same inside_same one_more small few row row_is first first_is head head_is columns named law =
         let more : done ++ e ∷ [] ≡ take (id + 1) unit.forest.entries = sym (take_more unit.forest.entries id (entry_at [] 0) inside) in
         let longer : length (take (id + 1) unit.forest.entries) ≡ length done + 1 = sym (ap length more) ∙ length-append done (e ∷ []) in
         record {
@@ -223,7 +223,7 @@ module _ (table : Listing) (unit : HeadAndForest) (known : IsTable table) (held 
               let own : AddsHeaded (decl_at table.decls e.decl).first unit.head row (with_entries table.decls unit done before) (with_entries table.decls unit (done ++ e ∷ []) before) = row_added table.decls unit e done before row row_is entry_counted entry_values in
               let there : AddsHeaded first unit.head row (with_entries table.decls unit done before) (with_entries table.decls unit (done ++ e ∷ []) before) = subst (λ (k : ℕ). AddsHeaded k unit.head row (with_entries table.decls unit done before) (with_entries table.decls unit (done ++ e ∷ []) before)) (sym first_is) own in
               let one : AddsHeaded first head row (with_entries table.decls unit done before) (with_entries table.decls unit (done ++ e ∷ []) before) = subst (λ (h : UnitHead). AddsHeaded first h row (with_entries table.decls unit done before) (with_entries table.decls unit (done ++ e ∷ []) before)) (sym head_is) there in
-              subst (λ (es : List Entry). HoldsValues unit.forest.section (with_entries table.decls unit es before) new) more (law unit.forest.section (with_entries table.decls unit done before) (with_entries table.decls unit (done ++ e ∷ []) before) here one (adds.added before holds));
+              subst (λ (es : List Entry). HoldsValues unit.forest.section (names_in table) (with_entries table.decls unit es before) new) more (law unit.forest.section (names_in table) (with_entries table.decls unit done before) (with_entries table.decls unit (done ++ e ∷ []) before) here named one (adds.added before holds));
         }
 
 -- the same of lists that are the unit's
@@ -236,6 +236,29 @@ module _ (table : Listing) (unit : HeadAndForest) (known : IsTable table) (held 
 
   pub first_read : (d : Decl) → d ≡ decl_at table.decls (entry_at entries id).decl → d.first ≡ (decl_at table.decls (entry_at unit.forest.entries id).decl).first
   first_read d d_is = ap (λ (z : Decl). z.first) (d_is ∙ ap (λ (es : List Entry). decl_at table.decls (entry_at es id).decl) entries_are)
+
+  -- the columns of its declaration
+  module _ (columns : List Spec) (columns_are : columns ≡ (declared_in table.specs (decl_at table.decls (entry_at entries id).decl)).columns) where
+    abbrev own_decl : Decl
+    own_decl = decl_at table.decls (entry_at entries id).decl
+
+    own_count : length columns ≡ (decl_at table.decls (entry_at entries id).decl).count
+    own_count =
+        ap length columns_are ∙ length-take-le own_decl.count (drop own_decl.first table.specs) (omega (arith, length-drop own_decl.first table.specs, columns_inside table (entry_at entries id).decl known declared_read))
+
+    -- have their names
+    pub names_read : (d : Decl) → d ≡ decl_at table.decls (entry_at entries id).decl → HaveNames (names_in table) d.first columns
+    names_read d d_is j within =
+        let inside : j < own_decl.count = subst (λ (n : ℕ). j < n) own_count within in
+        let here : spec_at columns j ≡ spec_at table.specs (own_decl.first + j) = ap (λ (cs : List Spec). spec_at cs j) columns_are ∙ get_or-take own_decl.count (drop own_decl.first table.specs) j (spec_at [] 0) inside ∙ get_or-drop own_decl.first table.specs j (spec_at [] 0) in
+        ap (λ (z : Decl). (spec_at table.specs (z.first + j)).name) d_is ∙ ap (λ (c : Spec). c.name) (sym here)
+
+    -- and are as many as the values
+    pub width_read : (row : List Value) → row ≡ take (entry_at unit.forest.entries id).count (drop (entry_at unit.forest.entries id).first unit.forest.values) → length columns ≡ length row
+    width_read row row_is =
+        let e : Entry = entry_at unit.forest.entries id in
+        let size : length (take e.count (drop e.first unit.forest.values)) ≡ e.count = length-take-le e.count (drop e.first unit.forest.values) (omega (arith, length-drop e.first unit.forest.values, entry_values table unit known held id inside_unit)) in
+        own_count ∙ ap (λ (es : List Entry). (decl_at table.decls (entry_at es id).decl).count) entries_are ∙ sym (entry_counted table unit known held id inside_unit) ∙ sym size ∙ sym (ap length row_is)
 
   module _ (lender : Arena) (lent : lender ≡ unit.forest) where
     pub values_read : (entry_at entries id).first + (entry_at entries id).count ≤ length lender.values
@@ -259,12 +282,12 @@ module _ (table : Listing) (unit : HeadAndForest) (known : IsTable table) (held 
           let size : length (take e.count (drop e.first unit.forest.values)) ≡ e.count = length-take-le e.count (drop e.first unit.forest.values) (omega (arith, length-drop e.first unit.forest.values, entry_values table unit known held id inside_unit)) in
           omega (arith, ap length row_read, size, first_read d d_is, entry_columns table unit known held id inside_unit, wide)
 
-pub entries_none : (decls : List Decl) (unit : HeadAndForest) (held : ColumnValues) → AddsEntries decls unit [] held held
-entries_none decls unit held = record {
+pub entries_none : (table : Listing) (unit : HeadAndForest) (held : ColumnValues) → AddsEntries table unit [] held held
+entries_none table unit held = record {
   tallies = refl;
   inside = refl;
   few = λ n most. subst (λ (z : ℕ). HaveAtMost z held.tallies) (let same : n ≡ n + 0 = omega arith in same) most;
-  added = λ before holds. holds_as unit.forest.section before (with_entries decls unit [] before) held (λ k. sym (append-nil (before k))) holds;
+  added = λ before holds. holds_as unit.forest.section (names_in table) before (with_entries table.decls unit [] before) held (λ k. sym (append-nil (before k))) holds;
 }
 
 -- ALL UNITS
@@ -309,16 +332,16 @@ module _ (units : List HeadAndForest) (table : Listing) (named : List ℕ) (sect
         ∙ ap (λ (ns : List ℕ). values_of_units units table.decls ns k) (sym (take_more named n 0 inside))
 
     -- and then they are
-    pub gathered_more : (new : ColumnValues) → AddsEntries table.decls unit unit.forest.entries now new → AreGathered units table named (take (n + 1) named) new
+    pub gathered_more : (new : ColumnValues) → AddsEntries table unit unit.forest.entries now new → AreGathered units table named (take (n + 1) named) new
     gathered_more new adds = record {
       wide = record { tallies = adds.tallies ∙ gathered.wide.tallies; inside = adds.inside ∙ gathered.wide.inside };
       few = subst (λ (z : ℕ). HaveAtMost z new.tallies) so_far (adds.few (sum_by (entries_of units) (take n named)) gathered.few);
       holds = λ other others.
           let lent : unit.forest.section ≡ other = subst (λ (z : HeadAndForest). z.forest.section ≡ other) at_number (others.lent n inside) in
-          let before = subst (λ (z : List ℕ). HoldsValues z (values_of_units units table.decls (take n named)) now) (sym lent) (gathered.holds other others) in
-          let after = subst (λ (z : List ℕ). HoldsValues z (with_entries table.decls unit unit.forest.entries (values_of_units units table.decls (take n named))) new) lent (adds.added (values_of_units units table.decls (take n named)) before) in
-          holds_as other (with_entries table.decls unit unit.forest.entries (values_of_units units table.decls (take n named))) (values_of_units units table.decls (take (n + 1) named)) new more_units after;
+          let before = subst (λ (z : List ℕ). HoldsValues z (names_in table) (values_of_units units table.decls (take n named)) now) (sym lent) (gathered.holds other others) in
+          let after = subst (λ (z : List ℕ). HoldsValues z (names_in table) (with_entries table.decls unit unit.forest.entries (values_of_units units table.decls (take n named))) new) lent (adds.added (values_of_units units table.decls (take n named)) before) in
+          holds_as other (names_in table) (with_entries table.decls unit unit.forest.entries (values_of_units units table.decls (take n named))) (values_of_units units table.decls (take (n + 1) named)) new more_units after;
     }
 
-pub gathered_none : (units : List HeadAndForest) (table : Listing) (named : List ℕ) (held : ColumnValues) (count : ℕ) → count ≡ length table.specs → HasWidth held count → HaveAtMost 0 held.tallies → ((section : List ℕ) → HoldsValues section (λ (k : ℕ). []) held) → AreGathered units table named [] held
-gathered_none units table named held count wide width few none = record { wide = record { tallies = width.tallies ∙ wide; inside = width.inside ∙ wide }; few = few; holds = λ section are. none section }
+pub gathered_none : (units : List HeadAndForest) (table : Listing) (named : List ℕ) (held : ColumnValues) (count : ℕ) → count ≡ length table.specs → HasWidth held count → HaveAtMost 0 held.tallies → ((section : List ℕ) (names : ℕ → ℕ) → HoldsValues section names (λ (k : ℕ). []) held) → AreGathered units table named [] held
+gathered_none units table named held count wide width few none = record { wide = record { tallies = width.tallies ∙ wide; inside = width.inside ∙ wide }; few = few; holds = λ section are. none section (names_in table) }

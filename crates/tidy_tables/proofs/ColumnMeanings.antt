@@ -230,44 +230,44 @@ module _ (section : List ℕ) (head : UnitHead) (c : Spec) (values : List Value)
   abbrev meant : List Entry → List Meaning
   meant es = plain (map (λ (v : Value). (head, meant_in section v)) (map (λ (e : Entry). value_at values (e.first + j)) es))
 
-  entries_spelled : (entries : List Entry) → All (λ (e : Entry). e.decl ≡ number → (bytes : List ℕ) × SpellsValue c.form c.constant (meant_in section (value_at values (e.first + j))) bytes) entries → AreSpelled c.form c.constant (plain (map (λ (v : Value). (head, meant_in section v)) (map (λ (e : Entry). value_at values (e.first + j)) (filter (λ (e : Entry). eqb e.decl number) entries))))
+  entries_spelled : (entries : List Entry) → All (λ (e : Entry). e.decl ≡ number → (bytes : List ℕ) × SpellsValue c.name c.form c.constant (meant_in section (value_at values (e.first + j))) bytes) entries → AreSpelled c.name c.form c.constant (plain (map (λ (v : Value). (head, meant_in section v)) (map (λ (e : Entry). value_at values (e.first + j)) (filter (λ (e : Entry). eqb e.decl number) entries))))
   entries_spelled [] all = tt
   entries_spelled (e ∷ es) all =
       let rest = entries_spelled es (All-tail Fits e es all) in
       let few : List Entry = filter (has_decl number) es in
       elim (cases_eq e.decl number) [
         | inl same ↦
-            let more : AreSpelled c.form c.constant (meant (e ∷ few)) = (All-head Fits e es all same, rest) in
-            subst (λ (zs : List Entry). AreSpelled c.form c.constant (meant zs)) (sym (cond-true {A = List Entry} (eqb e.decl number) (e ∷ few) few (eq-eqb e.decl number same))) more
-        | inr other ↦ subst (λ (zs : List Entry). AreSpelled c.form c.constant (meant zs)) (sym (cond-false {A = List Entry} (eqb e.decl number) (e ∷ few) few (ne_eqb e.decl number other))) rest
+            let more : AreSpelled c.name c.form c.constant (meant (e ∷ few)) = (All-head Fits e es all same, rest) in
+            subst (λ (zs : List Entry). AreSpelled c.name c.form c.constant (meant zs)) (sym (cond-true {A = List Entry} (eqb e.decl number) (e ∷ few) few (eq-eqb e.decl number same))) more
+        | inr other ↦ subst (λ (zs : List Entry). AreSpelled c.name c.form c.constant (meant zs)) (sym (cond-false {A = List Entry} (eqb e.decl number) (e ∷ few) few (ne_eqb e.decl number other))) rest
       ]
 
-spelled_append : (code : ℕ) (constant : ℤ) (ms ns : List Meaning) → AreSpelled code constant ms → AreSpelled code constant ns → AreSpelled code constant (ms ++ ns)
-spelled_append code constant [] ns first second = second
-spelled_append code constant (m ∷ ms) ns (here, rest) second = (here, spelled_append code constant ms ns rest second)
+spelled_append : (name code : ℕ) (constant : ℤ) (ms ns : List Meaning) → AreSpelled name code constant ms → AreSpelled name code constant ns → AreSpelled name code constant (ms ++ ns)
+spelled_append name code constant [] ns first second = second
+spelled_append name code constant (m ∷ ms) ns (here, rest) second = (here, spelled_append name code constant ms ns rest second)
 
-units_spelled : (code : ℕ) (constant : ℤ) (term : HeadAndForest → List (UnitHead × Meaning)) (units : List HeadAndForest) → All (λ (unit : HeadAndForest). AreSpelled code constant (plain (term unit))) units → AreSpelled code constant (plain (flat_map term units))
-units_spelled code constant term [] all = tt
-units_spelled code constant term (unit ∷ units) all =
-    let rest = units_spelled code constant term units (All-tail (λ (x : HeadAndForest). AreSpelled code constant (plain (term x))) unit units all) in
-    let own = All-head (λ (x : HeadAndForest). AreSpelled code constant (plain (term x))) unit units all in
-    subst (λ (ms : List Meaning). AreSpelled code constant ms) (sym (map-append (λ (v : UnitHead × Meaning). v.1) (term unit) (flat_map term units))) (spelled_append code constant (plain (term unit)) (plain (flat_map term units)) own rest)
+units_spelled : (name code : ℕ) (constant : ℤ) (term : HeadAndForest → List (UnitHead × Meaning)) (units : List HeadAndForest) → All (λ (unit : HeadAndForest). AreSpelled name code constant (plain (term unit))) units → AreSpelled name code constant (plain (flat_map term units))
+units_spelled name code constant term [] all = tt
+units_spelled name code constant term (unit ∷ units) all =
+    let rest = units_spelled name code constant term units (All-tail (λ (x : HeadAndForest). AreSpelled name code constant (plain (term x))) unit units all) in
+    let own = All-head (λ (x : HeadAndForest). AreSpelled name code constant (plain (term x))) unit units all in
+    subst (λ (ms : List Meaning). AreSpelled name code constant ms) (sym (map-append (λ (v : UnitHead × Meaning). v.1) (term unit) (flat_map term units))) (spelled_append name code constant (plain (term unit)) (plain (flat_map term units)) own rest)
 
 module _ (units : List HeadAndForest) (table : NamedTable) (section table_of : List ℕ) (i : ℕ) (of : AreOfTable units table section table_of i) (number j : ℕ) (inside : j < (decl_at table.table.decls number).count) where
   abbrev own_column : Spec
   own_column = spec_at table.table.specs ((decl_at table.table.decls number).first + j)
 
-  unit_spelled : (u : ℕ) → u < length units → slice_index table_of u ≡ i → AreSpelled own_column.form own_column.constant (plain (map (λ (v : Value). ((unit_in units u).head, meant_in (unit_in units u).forest.section v)) (values_with number j (unit_in units u))))
+  unit_spelled : (u : ℕ) → u < length units → slice_index table_of u ≡ i → AreSpelled own_column.name own_column.form own_column.constant (plain (map (λ (v : Value). ((unit_in units u).head, meant_in (unit_in units u).forest.section v)) (values_with number j (unit_in units u))))
   unit_spelled u below is =
       let unit : HeadAndForest = unit_in units u in
       let each = All-from_get_or (λ (e : Entry). e.decl ≡ number → IsSpelledBy unit.forest.section own_column (value_at unit.forest.values (e.first + j))) unit.forest.entries (entry_at [] 0)
       (λ id known same. entry_spelled table.table unit of.stands (held_here units table section table_of i of u below is) id known number j inside same) in
       entries_spelled unit.forest.section unit.head own_column unit.forest.values number j unit.forest.entries each
 
-  term_spelled : (u : ℕ) → u < length units → AreSpelled own_column.form own_column.constant (plain (term_of table.place number j (unit_in units u)))
+  term_spelled : (u : ℕ) → u < length units → AreSpelled own_column.name own_column.form own_column.constant (plain (term_of table.place number j (unit_in units u)))
   term_spelled u below =
       let unit : HeadAndForest = unit_in units u in
-      cond_both (eqb unit.head.table table.place) (map (λ (v : Value). (unit.head, meant_in unit.forest.section v)) (values_with number j unit)) [] (λ (ms : List (UnitHead × Meaning)). AreSpelled own_column.form own_column.constant (plain ms))
+      cond_both (eqb unit.head.table table.place) (map (λ (v : Value). (unit.head, meant_in unit.forest.section v)) (values_with number j unit)) [] (λ (ms : List (UnitHead × Meaning)). AreSpelled own_column.name own_column.form own_column.constant (plain ms))
       (λ named. elim (cases_eq (slice_index table_of u) i) [
         | inl is ↦ unit_spelled u below is
         | inr other ↦ absurd (of.apart u below other (eqb-true unit.head.table table.place named))
@@ -275,8 +275,8 @@ module _ (units : List HeadAndForest) (table : NamedTable) (section table_of : L
       (λ _. tt)
 
   -- the form of a column spells the values of all its entries
-  values_spelled : AreSpelled (spec_at table.table.specs ((decl_at table.table.decls number).first + j)).form (spec_at table.table.specs ((decl_at table.table.decls number).first + j)).constant (plain (column_values units table.place number j))
-  values_spelled = units_spelled own_column.form own_column.constant (term_of table.place number j) units (All-from_get_or (λ (unit : HeadAndForest). AreSpelled own_column.form own_column.constant (plain (term_of table.place number j unit))) units (unit_in [] 0) term_spelled)
+  values_spelled : AreSpelled (spec_at table.table.specs ((decl_at table.table.decls number).first + j)).name (spec_at table.table.specs ((decl_at table.table.decls number).first + j)).form (spec_at table.table.specs ((decl_at table.table.decls number).first + j)).constant (plain (column_values units table.place number j))
+  values_spelled = units_spelled own_column.name own_column.form own_column.constant (term_of table.place number j) units (All-from_get_or (λ (unit : HeadAndForest). AreSpelled own_column.name own_column.form own_column.constant (plain (term_of table.place number j unit))) units (unit_in [] 0) term_spelled)
 
 -- ALL COLUMNS OF A TABLE
 
@@ -307,5 +307,5 @@ module _ (units : List HeadAndForest) (table : NamedTable) (named : List ℕ) (a
     spelled = λ k j known inside.
         let c : Spec = spec_at table.table.specs ((decl_at table.table.decls k).first + j) in
         let same : plain (column_values units table.place k j) ≡ meanings_in all.section (without_heads (gathered_values ((decl_at table.table.decls k).first + j))) = ap plain (sym (meant_here k j known inside)) ∙ plain_same all.section (gathered_values ((decl_at table.table.decls k).first + j)) in
-        subst (λ (ms : List Meaning). AreSpelled c.form c.constant ms) same (values_spelled units table all.section all.table_of all.number all.of k j inside);
+        subst (λ (ms : List Meaning). AreSpelled c.name c.form c.constant ms) same (values_spelled units table all.section all.table_of all.number all.of k j inside);
   }

@@ -3,6 +3,7 @@ use Rattle.std.proofs.Common.{◌≡◌, ◌≢◌, ◌≤◌, ◌<◌, ◌+◌,
 use Rattle.std.specs.Prelude.{◌↔◌, IsTrue}
 use Rattle.std.proofs.lemmas.Bool.{cases_lt}
 use Rattle.std.proofs.lemmas.List.{get_or-take, get_or-drop, length-append, length-drop, length-take-le}
+use Rattle.dw_base.specs.declared.classes.Classes.{Classes}
 use Rattle.form_codec.specs.Forms.{Meaning}
 use Rattle.form_codec.specs.Columns.{AreSpelled, IsLeastForm}
 use Rattle.abbrev_tables.specs.declared.decl.Decl.{Decl}
@@ -18,7 +19,7 @@ use Rattle.written_files.specs.Uses.{column_meanings, taken_meanings}
 use Rattle.tidy_places.specs.Firsts.{IsLeastPlace}
 use Rattle.tidy_tables.specs.declared.column_values.ColumnValues.{ColumnValues}
 use Rattle.tidy_tables.specs.Untidy.{IsFallen}
-use Rattle.tidy_tables.specs.inside.ColumnValues.{Headed, meant_with_heads, without_heads, HoldsValues}
+use Rattle.tidy_tables.specs.inside.ColumnValues.{Headed, meant_with_heads, without_heads, names_in, HoldsValues}
 use Rattle.tidy_tables.specs.inside.UntidyDeclarations.{AreShortTo, AreShort, AreShortBelow, HasLongColumnIn, HoldsColumns, IsUntidyBelow, IsUntidyIn}
 
 -- PLACES
@@ -46,7 +47,7 @@ placed_rise specs place (d ∷ decls) bytes (suc i) (suc j) p less below = place
 
 -- COLUMNS
 
-module _ (units : List HeadAndForest) (table : NamedTable) (stands : IsTable table.table) (held : ColumnValues) (holds : HoldsColumns units table held) (k : ℕ) (known : k < length table.table.decls) where
+module _ (classes : Classes) (units : List HeadAndForest) (table : NamedTable) (stands : IsTable table.table) (held : ColumnValues) (holds : HoldsColumns units table held) (k : ℕ) (known : k < length table.table.decls) where
   abbrev own : Decl
   own = decl_at table.table.decls k
 
@@ -75,58 +76,59 @@ module _ (units : List HeadAndForest) (table : NamedTable) (stands : IsTable tab
       spec_here = ap (λ (z : List Spec). spec_at z j) cs_are ∙ get_or-take own.count (drop own.first table.table.specs) j (spec_at [] 0) inside ∙ get_or-drop own.first table.table.specs j (spec_at [] 0)
 
       abbrev IsLeastOf : List Meaning → Spec → Type 0
-      IsLeastOf ms c = IsLeastForm ms c.form c.constant
+      IsLeastOf ms c = IsLeastForm classes c.name ms c.form c.constant
 
       -- what is told of a column
-      pub column_told : (told : Bool) → ((section : List ℕ) (values : ℕ → List Headed) → HoldsValues section values held → values (d.first + j) ≢ [] → AreSpelled (spec_at cs j).form (spec_at cs j).constant (meanings_in section (without_heads (values (d.first + j)))) → IsTrue told ↔ IsLeastForm (taken_meanings (meant_with_heads section (values (d.first + j)))) (spec_at cs j).form (spec_at cs j).constant) → IsTrue told ↔ IsLeastForm (column_meanings units table.place k j) (spec_at (declared_at (declarations_of table.table) k).columns j).form (spec_at (declared_at (declarations_of table.table) k).columns j).constant
+      pub column_told : (told : Bool) → ((section : List ℕ) (names : ℕ → ℕ) (values : ℕ → List Headed) → names (d.first + j) ≡ (spec_at cs j).name → HoldsValues section names values held → values (d.first + j) ≢ [] → AreSpelled (spec_at cs j).name (spec_at cs j).form (spec_at cs j).constant (meanings_in section (without_heads (values (d.first + j)))) → IsTrue told ↔ IsLeastForm classes (spec_at cs j).name (taken_meanings (meant_with_heads section (values (d.first + j)))) (spec_at cs j).form (spec_at cs j).constant) → IsTrue told ↔ IsLeastForm classes (spec_at (declared_at (declarations_of table.table) k).columns j).name (column_meanings units table.place k j) (spec_at (declared_at (declarations_of table.table) k).columns j).form (spec_at (declared_at (declarations_of table.table) k).columns j).constant
       column_told told tells =
           let first : own.first + j ≡ d.first + j = ap (λ (z : Decl). z.first + j) (sym d_is) in
           let some : holds.values (d.first + j) ≢ [] = subst (λ (n : ℕ). holds.values n ≢ []) first (holds.some k j known inside) in
-          let spelled : AreSpelled (spec_at cs j).form (spec_at cs j).constant (meanings_in holds.section (without_heads (holds.values (own.first + j)))) = subst (λ (c : Spec). AreSpelled c.form c.constant (meanings_in holds.section (without_heads (holds.values (own.first + j))))) (sym spec_here) (holds.spelled k j known inside) in
-          let own_told = tells holds.section holds.values holds.holds some (subst (λ (n : ℕ). AreSpelled (spec_at cs j).form (spec_at cs j).constant (meanings_in holds.section (without_heads (holds.values n)))) first spelled) in
+          let spelled : AreSpelled (spec_at cs j).name (spec_at cs j).form (spec_at cs j).constant (meanings_in holds.section (without_heads (holds.values (own.first + j)))) = subst (λ (c : Spec). AreSpelled c.name c.form c.constant (meanings_in holds.section (without_heads (holds.values (own.first + j))))) (sym spec_here) (holds.spelled k j known inside) in
+          let named : names_in table.table (d.first + j) ≡ (spec_at cs j).name = ap (names_in table.table) (sym first) ∙ ap (λ (c : Spec). c.name) (sym spec_here) in
+          let own_told = tells holds.section (names_in table.table) holds.values named holds.holds some (subst (λ (n : ℕ). AreSpelled (spec_at cs j).name (spec_at cs j).form (spec_at cs j).constant (meanings_in holds.section (without_heads (holds.values n)))) first spelled) in
           let mean : taken_meanings (meant_with_heads holds.section (holds.values (d.first + j))) ≡ column_meanings units table.place k j = ap (λ (n : ℕ). taken_meanings (meant_with_heads holds.section (holds.values n))) (sym first) ∙ ap taken_meanings (holds.mean k j known inside) in
-          let named : IsTrue told ↔ IsLeastOf (column_meanings units table.place k j) (spec_at cs j) = subst (λ (ms : List Meaning). IsTrue told ↔ IsLeastOf ms (spec_at cs j)) mean own_told in
-          subst (λ (z : List Spec). IsTrue told ↔ IsLeastOf (column_meanings units table.place k j) (spec_at z j)) (cs_are ∙ sym columns_are) named
+          let here : IsTrue told ↔ IsLeastOf (column_meanings units table.place k j) (spec_at cs j) = subst (λ (ms : List Meaning). IsTrue told ↔ IsLeastOf ms (spec_at cs j)) mean own_told in
+          subst (λ (z : List Spec). IsTrue told ↔ IsLeastOf (column_meanings units table.place k j) (spec_at z j)) (cs_are ∙ sym columns_are) here
 
       -- one more column is in a least form
-      pub short_more : AreShortTo units table k j → IsLeastForm (column_meanings units table.place k j) (spec_at (declared_at (declarations_of table.table) k).columns j).form (spec_at (declared_at (declarations_of table.table) k).columns j).constant → AreShortTo units table k (j + 1)
+      pub short_more : AreShortTo classes units table k j → IsLeastForm classes (spec_at (declared_at (declarations_of table.table) k).columns j).name (column_meanings units table.place k j) (spec_at (declared_at (declarations_of table.table) k).columns j).form (spec_at (declared_at (declarations_of table.table) k).columns j).constant → AreShortTo classes units table k (j + 1)
       short_more before here i less = elim (cases_lt i j) [
         | inl earlier ↦ before i earlier
         | inr from ↦ let same : j ≡ i = omega arith in subst (λ (n : ℕ). IsLeastOf (column_meanings units table.place k n) (spec_at columns n)) same here
       ]
 
   -- all columns are in least forms
-  pub none_long : (n : ℕ) → length (declared_at (declarations_of table.table) k).columns ≤ n → AreShortTo units table k n → HasLongColumnIn units table k → ⊥
+  pub none_long : (n : ℕ) → length (declared_at (declarations_of table.table) k).columns ≤ n → AreShortTo classes units table k n → HasLongColumnIn classes units table k → ⊥
   none_long n past short (j, below, long) = long (short j (omega arith))
 
 -- the columns of one more declaration are in least forms
-pub short_below_more : (units : List HeadAndForest) (table : NamedTable) (n : ℕ) → AreShortBelow units table n → AreShort units table n → AreShortBelow units table (n + 1)
-short_below_more units table n before here k below = elim (cases_lt k n) [
+pub short_below_more : (classes : Classes) (units : List HeadAndForest) (table : NamedTable) (n : ℕ) → AreShortBelow classes units table n → AreShort classes units table n → AreShortBelow classes units table (n + 1)
+short_below_more classes units table n before here k below = elim (cases_lt k n) [
   | inl earlier ↦ before k earlier
-  | inr from ↦ let same : n ≡ k = omega arith in subst (AreShort units table) same here
+  | inr from ↦ let same : n ≡ k = omega arith in subst (AreShort classes units table) same here
 ]
 
 -- THE FIRST OF A TABLE
 
-module _ (units : List HeadAndForest) (table : NamedTable) (stands : IsTable table.table) (n : ℕ) where
+module _ (classes : Classes) (units : List HeadAndForest) (table : NamedTable) (stands : IsTable table.table) (n : ℕ) where
   abbrev Untidy : ℕ → Type 0
-  Untidy k = IsFallen (declarations_of table.table) k ⊎ HasLongColumnIn units table k
+  Untidy k = IsFallen (declarations_of table.table) k ⊎ HasLongColumnIn classes units table k
 
   at_rises : (i j : ℕ) → i < j → j < length table.table.decls → (decl_at table.table.decls i).at < (decl_at table.table.decls j).at
   at_rises i j less below = placed_rise table.table.specs _ table.table.decls stands.2.front i j stands.2.placed less below
 
   -- one more isn't untidy
-  pub none_more : ((p : ℕ) → IsUntidyBelow units table n p → ⊥) → (IsFallen (declarations_of table.table) n ⊎ HasLongColumnIn units table n → ⊥) → (p : ℕ) → IsUntidyBelow units table (n + 1) p → ⊥
+  pub none_more : ((p : ℕ) → IsUntidyBelow classes units table n p → ⊥) → (IsFallen (declarations_of table.table) n ⊎ HasLongColumnIn classes units table n → ⊥) → (p : ℕ) → IsUntidyBelow classes units table (n + 1) p → ⊥
   none_more before tidy p (k, below, place, untidy) = elim (cases_lt k n) [
     | inl earlier ↦ before p (k, earlier, place, untidy)
     | inr from ↦ let same : k ≡ n = omega arith in tidy (subst (λ (z : ℕ). Untidy z) same untidy)
   ]
 
   -- the first that is
-  pub first_found : (p : ℕ) → n < length table.table.decls → p ≡ (decl_at table.table.decls n).at → ((q : ℕ) → IsUntidyBelow units table n q → ⊥) → IsFallen (declarations_of table.table) n ⊎ HasLongColumnIn units table n → IsLeastPlace (IsUntidyIn units table) p
+  pub first_found : (p : ℕ) → n < length table.table.decls → p ≡ (decl_at table.table.decls n).at → ((q : ℕ) → IsUntidyBelow classes units table n q → ⊥) → IsFallen (declarations_of table.table) n ⊎ HasLongColumnIn classes units table n → IsLeastPlace (IsUntidyIn classes units table) p
   first_found p known place before untidy = ((n, known, place, untidy), earliest)
     where
-      earliest : (q : ℕ) → q < p → IsUntidyIn units table q → ⊥
+      earliest : (q : ℕ) → q < p → IsUntidyIn classes units table q → ⊥
       earliest q less (k, inside, at, other) = elim (cases_lt k n) [
         | inl earlier ↦ before q (k, earlier, at, other)
         | inr from ↦ elim (cases_lt n k) [

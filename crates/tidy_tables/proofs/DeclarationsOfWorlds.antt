@@ -5,6 +5,7 @@ use Rattle.std.specs.List.{range_with_len}
 use Rattle.std.proofs.lemmas.Bool.{cases_lt}
 use Rattle.std.proofs.lemmas.List.{get_or-map, get_or_default}
 use Rattle.std.proofs.lemmas.List.FromFn.{length-map-range_with_len, get_or-map-range_with_len}
+use Rattle.dw_base.specs.declared.classes.Classes.{Classes}
 use Rattle.entry_read.specs.Units.{HeadAndForest}
 use Rattle.value_links.specs.declared.units.NamedTable.{NamedTable}
 use Rattle.value_links.specs.Sections.{debug_info}
@@ -38,18 +39,18 @@ uses_are units table =
 -- ALL TABLES
 
 -- one table more
-pub among_more : (units : List HeadAndForest) (tables : List NamedTable) (i : ℕ) (found place : Option ℕ) → IsLeastFound (IsUntidyAmong units tables i) found → IsLeastFound (IsUntidyIn units (table_at tables i)) place → IsLeastFound (IsUntidyAmong units tables (i + 1)) (lesser_of found place)
-among_more units tables i found place before here =
-    least_same (λ (p : ℕ). IsUntidyAmong units tables i p ⊎ IsUntidyIn units (table_at tables i) p) (IsUntidyAmong units tables (i + 1)) (lesser_of found place) to from (least_either (IsUntidyAmong units tables i) (IsUntidyIn units (table_at tables i)) found place before here)
+pub among_more : (classes : Classes) (units : List HeadAndForest) (tables : List NamedTable) (i : ℕ) (found place : Option ℕ) → IsLeastFound (IsUntidyAmong classes units tables i) found → IsLeastFound (IsUntidyIn classes units (table_at tables i)) place → IsLeastFound (IsUntidyAmong classes units tables (i + 1)) (lesser_of found place)
+among_more classes units tables i found place before here =
+    least_same (λ (p : ℕ). IsUntidyAmong classes units tables i p ⊎ IsUntidyIn classes units (table_at tables i) p) (IsUntidyAmong classes units tables (i + 1)) (lesser_of found place) to from (least_either (IsUntidyAmong classes units tables i) (IsUntidyIn classes units (table_at tables i)) found place before here)
   where
-    to : (p : ℕ) → IsUntidyAmong units tables i p ⊎ IsUntidyIn units (table_at tables i) p → IsUntidyAmong units tables (i + 1) p
+    to : (p : ℕ) → IsUntidyAmong classes units tables i p ⊎ IsUntidyIn classes units (table_at tables i) p → IsUntidyAmong classes units tables (i + 1) p
     to p (inl (n, below, untidy)) = (n, omega arith, untidy)
     to p (inr untidy) = (i, omega arith, untidy)
 
-    from : (p : ℕ) → IsUntidyAmong units tables (i + 1) p → IsUntidyAmong units tables i p ⊎ IsUntidyIn units (table_at tables i) p
+    from : (p : ℕ) → IsUntidyAmong classes units tables (i + 1) p → IsUntidyAmong classes units tables i p ⊎ IsUntidyIn classes units (table_at tables i) p
     from p (n, below, untidy) = elim (cases_lt n i) [
       | inl earlier ↦ inl (n, earlier, untidy)
-      | inr last ↦ let same : n ≡ i = omega arith in inr (subst (λ (z : ℕ). IsUntidyIn units (table_at tables z) p) same untidy)
+      | inr last ↦ let same : n ≡ i = omega arith in inr (subst (λ (z : ℕ). IsUntidyIn classes units (table_at tables z) p) same untidy)
     ]
 
 -- there is no least place of one or the other
@@ -59,12 +60,12 @@ none_of_both (Some p) None none = absurd (cc none)
 none_of_both (Some p) (Some q) none = absurd (cc none)
 
 -- and the columns of one table more are in least forms
-pub short_among_more : (units : List HeadAndForest) (tables : List NamedTable) (i : ℕ) (found place : Option ℕ) → (IsNone found → AreShortAmong units tables i) → (IsNone place → AreAllShort units (table_at tables i)) → IsNone (lesser_of found place) → AreShortAmong units tables (i + 1)
-short_among_more units tables i found place before here none n below =
+pub short_among_more : (classes : Classes) (units : List HeadAndForest) (tables : List NamedTable) (i : ℕ) (found place : Option ℕ) → (IsNone found → AreShortAmong classes units tables i) → (IsNone place → AreAllShort classes units (table_at tables i)) → IsNone (lesser_of found place) → AreShortAmong classes units tables (i + 1)
+short_among_more classes units tables i found place before here none n below =
     let (first, second) = none_of_both found place none in
     elim (cases_lt n i) [
       | inl earlier ↦ before first n earlier
-      | inr last ↦ let same : i ≡ n = omega arith in subst (λ (z : ℕ). AreAllShort units (table_at tables z)) same (here second)
+      | inr last ↦ let same : i ≡ n = omega arith in subst (λ (z : ℕ). AreAllShort classes units (table_at tables z)) same (here second)
     ]
 
 module _ (world : World) (r : Reading) (read : IsReading world.image r) (holds : Holds world.image world r) where
@@ -72,34 +73,34 @@ module _ (world : World) (r : Reading) (read : IsReading world.image r) (holds :
   units_read = map head_and_forest r.links.units
 
   -- an untidy declaration of a table is one of a unit that names it
-  untidy_to : (n p : ℕ) → n ≤ length world.tables → IsUntidyAmong world.units world.tables n p → IsUntidyDeclaration r.links p
-  untidy_to n p most (i, below, untidy) =
+  untidy_to : (classes : Classes) (n p : ℕ) → n ≤ length world.tables → IsUntidyAmong classes world.units world.tables n p → IsUntidyDeclaration classes r.links p
+  untidy_to classes n p most (i, below, untidy) =
       let named = holds.tables.named i (omega arith) in
       let u : ℕ = named.0 in
       let same : table_at world.tables i ≡ named_by (unit_at r.links u) = ap (table_at world.tables) (sym named.2) ∙ holds.tables.each u named.1 in
-      let here : IsUntidyIn units_read (table_at world.tables i) p = subst (λ (us : List HeadAndForest). IsUntidyIn us (table_at world.tables i) p) holds.units untidy in
-      let own : IsUntidyIn units_read (named_by (unit_at r.links u)) p = subst (λ (t : NamedTable). IsUntidyIn units_read t p) same here in
+      let here : IsUntidyIn classes units_read (table_at world.tables i) p = subst (λ (us : List HeadAndForest). IsUntidyIn classes us (table_at world.tables i) p) holds.units untidy in
+      let own : IsUntidyIn classes units_read (named_by (unit_at r.links u)) p = subst (λ (t : NamedTable). IsUntidyIn classes units_read t p) same here in
       (u, own.0, named.1, own.1, own.2, own.3)
 
-  untidy_from : (n p : ℕ) → length world.tables ≤ n → IsUntidyDeclaration r.links p → IsUntidyAmong world.units world.tables n p
-  untidy_from n p past (u, k, inside, known, place, untidy) =
+  untidy_from : (classes : Classes) (n p : ℕ) → length world.tables ≤ n → IsUntidyDeclaration classes r.links p → IsUntidyAmong classes world.units world.tables n p
+  untidy_from classes n p past (u, k, inside, known, place, untidy) =
       let i : ℕ = slice_index world.table_of u in
       let below : i < length world.tables = holds.tables.inside u inside in
-      let own : IsUntidyIn units_read (named_by (unit_at r.links u)) p = (k, known, place, untidy) in
-      let here : IsUntidyIn units_read (table_at world.tables i) p = subst (λ (t : NamedTable). IsUntidyIn units_read t p) (sym (holds.tables.each u inside)) own in
-      (i, omega arith, subst (λ (us : List HeadAndForest). IsUntidyIn us (table_at world.tables i) p) (sym holds.units) here)
+      let own : IsUntidyIn classes units_read (named_by (unit_at r.links u)) p = (k, known, place, untidy) in
+      let here : IsUntidyIn classes units_read (table_at world.tables i) p = subst (λ (t : NamedTable). IsUntidyIn classes units_read t p) (sym (holds.tables.each u inside)) own in
+      (i, omega arith, subst (λ (us : List HeadAndForest). IsUntidyIn classes us (table_at world.tables i) p) (sym holds.units) here)
 
   -- the first of all tables is the first of all
-  pub first_of_all : (n : ℕ) (found : Option ℕ) → n ≡ length world.tables → IsLeastFound (IsUntidyAmong world.units world.tables n) found → IsLeastFound (IsUntidyDeclaration r.links) found
-  first_of_all n found all least = least_same (IsUntidyAmong world.units world.tables n) (IsUntidyDeclaration r.links) found (λ p untidy. untidy_to n p (omega arith) untidy) (λ p untidy. untidy_from n p (omega arith) untidy) least
+  pub first_of_all : (classes : Classes) (n : ℕ) (found : Option ℕ) → n ≡ length world.tables → IsLeastFound (IsUntidyAmong classes world.units world.tables n) found → IsLeastFound (IsUntidyDeclaration classes r.links) found
+  first_of_all classes n found all least = least_same (IsUntidyAmong classes world.units world.tables n) (IsUntidyDeclaration classes r.links) found (λ p untidy. untidy_to classes n p (omega arith) untidy) (λ p untidy. untidy_from classes n p (omega arith) untidy) least
 
   -- where the columns of all tables are in least forms, those of the table of each unit are
-  pub all_short : (n : ℕ) → n ≡ length world.tables → AreShortAmong world.units world.tables n → HaveShortColumns r.links
-  all_short n all short u inside =
+  pub all_short : (classes : Classes) (n : ℕ) → n ≡ length world.tables → AreShortAmong classes world.units world.tables n → HaveShortColumns classes r.links
+  all_short classes n all short u inside =
       let i : ℕ = slice_index world.table_of u in
       let below : i < length world.tables = holds.tables.inside u inside in
-      let here : AreAllShort units_read (table_at world.tables i) = subst (λ (us : List HeadAndForest). AreAllShort us (table_at world.tables i)) holds.units (short i (omega arith)) in
-      subst (AreAllShort units_read) (holds.tables.each u inside) here
+      let here : AreAllShort classes units_read (table_at world.tables i) = subst (λ (us : List HeadAndForest). AreAllShort classes us (table_at world.tables i)) holds.units (short i (omega arith)) in
+      subst (AreAllShort classes units_read) (holds.tables.each u inside) here
 
   module _ (used : (q : ℕ) → HasUnused r.links q → ⊥) where
     -- each declaration of the table of a unit has uses

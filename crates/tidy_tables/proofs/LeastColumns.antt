@@ -3,6 +3,7 @@
 use Rattle.std.proofs.Common.{◌≡◌, ◌≢◌, ◌-◌, ◌*◌, ◌^◌, ◌∙◌, ℕ, Bool, true, false, List, [], ◌∷◌, map, leb, sym, ap, refl, subst}
 use Rattle.std.specs.Prelude.{ℤ, pos, ◌↔◌, IsTrue}
 use Rattle.std.proofs.lemmas.Bool.{cond-true, cond-false, cond_both, and_parts}
+use Rattle.dw_base.specs.declared.classes.Classes.{Classes}
 use Rattle.form_codec.specs.declared.form.Content.TheVariants as content
 use Rattle.form_codec.specs.declared.form.Role.{Role}
 use Rattle.form_codec.specs.declared.form.Role.TheVariants as role
@@ -52,9 +53,9 @@ no_shape (UlebCounted content.Expression) n m bytes others s t = absurd (cc (s.h
 no_shape Sixteen n m bytes others s t = absurd (cc (s.1))
 no_shape ZeroEnded n m bytes others s t = absurd (cc (s.holds))
 
-no_form : (code : ℕ) (c : ℤ) (head : UnitHead) (m : Meaning) (bytes others : List ℕ) → names_inside head m ≡ true → SpellsValue code c m bytes → SpellsValue code c (counted_inside head m) others → ⊥
-no_form code c head (InSection n) bytes others is s t = no_shape _ n _ bytes others s.spelled (in_form code s.form c _ others s.known t)
-no_form code c head m bytes others is s t = absurd (cc is)
+no_form : (name code : ℕ) (c : ℤ) (head : UnitHead) (m : Meaning) (bytes others : List ℕ) → names_inside head m ≡ true → SpellsValue name code c m bytes → SpellsValue name code c (counted_inside head m) others → ⊥
+no_form name code c head (InSection n) bytes others is s t = no_shape _ n _ bytes others s.spelled (in_form name code s.form c _ others s.known t)
+no_form name code c head m bytes others is s t = absurd (cc is)
 
 -- A COLUMN
 
@@ -67,18 +68,18 @@ abbrev counted_all : List (UnitHead × Meaning) → List Meaning
 counted_all values = map (λ (v : UnitHead × Meaning). counted_inside v.0 v.1) values
 
 -- values that all name places in their own units aren't in a least form
-inside_long : (section : List ℕ) (column : Spec) (values : List Headed) → are_inside (meant_with_heads section values) ≡ true → values ≢ [] → AreSpelled column.form column.constant (meanings_in section (without_heads values)) → IsLeastForm (counted_all (meant_with_heads section values)) column.form column.constant → ⊥
-inside_long section column [] all some spelled least = some refl
-inside_long section column (v ∷ vs) all some spelled least =
+inside_long : (section : List ℕ) (classes : Classes) (column : Spec) (values : List Headed) → are_inside (meant_with_heads section values) ≡ true → values ≢ [] → AreSpelled column.name column.form column.constant (meanings_in section (without_heads values)) → IsLeastForm classes column.name (counted_all (meant_with_heads section values)) column.form column.constant → ⊥
+inside_long section classes column [] all some spelled least = some refl
+inside_long section classes column (v ∷ vs) all some spelled least =
     let within = least.enough.within in
     let first : names_inside v.0 (meant_in section v.1) ≡ true = (and_parts (names_inside v.0 (meant_in section v.1)) (are_inside (meant_with_heads section vs)) all).0 in
-    no_form column.form column.constant v.0 (meant_in section v.1) spelled.0.0 within.0 first spelled.0.1 within.2
+    no_form column.name column.form column.constant v.0 (meant_in section v.1) spelled.0.0 within.0 first spelled.0.1 within.2
 
 some_left : (vs : List Headed) → vs ≢ [] → without_heads vs ≢ []
 some_left [] one = λ e. one refl
 some_left (v ∷ vs) one = λ e. absurd (cc e)
 
-module _ (section : List ℕ) (column : Spec) (values : List Headed) where
+module _ (section : List ℕ) (classes : Classes) (column : Spec) (values : List Headed) where
   abbrev means : List (UnitHead × Meaning)
   means = meant_with_heads section values
 
@@ -86,13 +87,13 @@ module _ (section : List ℕ) (column : Spec) (values : List Headed) where
   plain = map (λ (v : UnitHead × Meaning). v.1) means
 
   -- a column of such references isn't in a least form
-  pub inside_told : are_inside (meant_with_heads section values) ≡ true → values ≢ [] → AreSpelled column.form column.constant (meanings_in section (without_heads values)) → IsTrue false ↔ IsLeastForm (taken_meanings (meant_with_heads section values)) column.form column.constant
+  pub inside_told : are_inside (meant_with_heads section values) ≡ true → values ≢ [] → AreSpelled column.name column.form column.constant (meanings_in section (without_heads values)) → IsTrue false ↔ IsLeastForm classes column.name (taken_meanings (meant_with_heads section values)) column.form column.constant
   inside_told all some spelled =
       let taken : taken_meanings means ≡ counted_all means = cond-true {A = List Meaning} (are_inside means) (counted_all means) plain all in
-      (λ is. absurd (cc is), λ least. absurd (inside_long section column values all some spelled (subst (λ (ms : List Meaning). IsLeastForm ms column.form column.constant) taken least)))
+      (λ is. absurd (cc is), λ least. absurd (inside_long section classes column values all some spelled (subst (λ (ms : List Meaning). IsLeastForm classes column.name ms column.form column.constant) taken least)))
 
   -- and of another column the sums tell it
-  pub outside_told : (told : Bool) → are_inside (meant_with_heads section values) ≡ false → values ≢ [] → (without_heads values ≢ [] → IsTrue told ↔ IsLeastForm (meanings_in section (without_heads values)) column.form column.constant) → IsTrue told ↔ IsLeastForm (taken_meanings (meant_with_heads section values)) column.form column.constant
+  pub outside_told : (told : Bool) → are_inside (meant_with_heads section values) ≡ false → values ≢ [] → (without_heads values ≢ [] → IsTrue told ↔ IsLeastForm classes column.name (meanings_in section (without_heads values)) column.form column.constant) → IsTrue told ↔ IsLeastForm classes column.name (taken_meanings (meant_with_heads section values)) column.form column.constant
   outside_told told none some tells =
       let taken : taken_meanings means ≡ meanings_in section (without_heads values) = cond-false {A = List Meaning} (are_inside means) (counted_all means) plain none ∙ plain_same section values in
-      subst (λ (ms : List Meaning). IsTrue told ↔ IsLeastForm ms column.form column.constant) (sym taken) (tells (some_left values some))
+      subst (λ (ms : List Meaning). IsTrue told ↔ IsLeastForm classes column.name ms column.form column.constant) (sym taken) (tells (some_left values some))

@@ -2,6 +2,7 @@
 use Rattle.std.proofs.Common.{◌≡◌, ◌≤◌, ◌<◌, ◌+◌, ◌-◌, inl, inr, ◌∙◌, ℕ, zero, suc, List, [], ◌∷◌, length, take, drop, ap, arith}
 use Rattle.std.proofs.lemmas.List.{length-append, length-take}
 use Rattle.std.proofs.lemmas.List.Elements.{All-get_or}
+use Rattle.dw_base.specs.declared.classes.Classes.{Classes}
 use Rattle.abbrev_tables.specs.declared.decl.Decl.{Decl}
 use Rattle.abbrev_tables.specs.declared.decl.Spec.{Spec}
 use Rattle.abbrev_tables.specs.Listings.{Listing, decl_at, ArePlaced, IsTableAt}
@@ -45,8 +46,8 @@ module _ (file written : List ℕ) (r s : Reading) (again : IsReading written s)
   table_inside q (inr (inr (inr (inr (inl others))))) = place_inside others.u q (let inside = others.namer.0 in omega arith) others.place
   table_inside q (inr (inr (inr (inr (inr more))))) = place_inside more.u q more.known more.place
 
-  pub declaration_inside : (p : ℕ) → IsUntidyDeclaration s.links p → p ≤ length (debug_abbrev written)
-  declaration_inside p (u, k, inside, known, here, amiss) =
+  pub declaration_inside : (classes : Classes) (p : ℕ) → IsUntidyDeclaration classes s.links p → p ≤ length (debug_abbrev written)
+  declaration_inside classes p (u, k, inside, known, here, amiss) =
       let within : (decl_at (unit_at s.links u).table.decls k).at ≤ length (debug_abbrev written) = decl_inside (debug_abbrev written) (unit_at s.links u).head.table (unit_at s.links u).table k (unit_is u inside).table known in
       omega arith
 

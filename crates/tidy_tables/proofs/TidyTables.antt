@@ -3,6 +3,7 @@ use Rattle.std.proofs.Common.{◌≡◌, ◌≢◌, ◌<◌, ◌∙◌, inl, inr
 use Rattle.std.specs.Prelude.{ℤ, pos, false, slice_index}
 use Rattle.std.proofs.lemmas.List.{get_or-map}
 use Rattle.std.proofs.lemmas.List.Elements.{All-get_or}
+use Rattle.dw_base.specs.declared.classes.Classes.{Classes}
 use Rattle.dw_base.specs.declared.fault.Reach.{Reach}
 use Rattle.spelled.specs.Spelled.{Joined}
 use Rattle.abbrev_tables.specs.declared.decl.Spec.{Spec}
@@ -69,8 +70,8 @@ module _ (world : World) (after : (reach : Reach) × IsWorldOf world.image reach
       (values_belong (debug_info world.image) (unit_at s.links u).head (declarations (unit_at s.links u)) (unit_at s.links u).forest here.section here.entries).declared id entry
 
   -- each column is in a least form where none of a table isn't
-  pub least_columns : OfBoth world world (λ r s. HaveShortColumns s.links) → HaveLeastColumns world.image world.image
-  least_columns short = (
+  pub least_columns : (classes : Classes) → OfBoth world world (λ r s. HaveShortColumns classes s.links) → HaveLeastColumns classes world.image world.image
+  least_columns classes short = (
     s,
     s,
     after.1.read,
@@ -105,8 +106,8 @@ module _ (world : World) (after : (reach : Reach) × IsWorldOf world.image reach
       ∙ ap (λ (ds : List Declared). slice_index (codes_of ds) (entry_of (unit_at s.links u) id).decl) table
 
   -- and they are least where no table takes more bytes
-  pub least_codes : (before : World) → (reach : Reach) × IsWorldOf before.image reach before → HoldsNowhere before world OfTable → HaveLeastCodes world.image world.image
-  least_codes before old table = (
+  pub least_codes : (before : World) → (reach : Reach) × IsWorldOf before.image reach before → (classes : Classes) → HoldsNowhere classes before world OfTable → HaveLeastCodes world.image world.image
+  least_codes before old classes table = (
     s,
     s,
     after.1.read,

@@ -60,7 +60,7 @@ module _ (declarations_same : SameDeclarations) (file written : List ℕ) (r s :
     column = spec_at (declaration_of (unit_at s.links u) id).columns j
 
     abbrev Pair : UnitHead × Meaning → UnitHead × Meaning → Type 0
-    Pair old new = ArePaired (spec_at (declaration_of (unit_at s.links u) id).columns j).form (spec_at (declaration_of (unit_at s.links u) id).columns j).constant old new
+    Pair old new = ArePaired (spec_at (declaration_of (unit_at s.links u) id).columns j).name (spec_at (declaration_of (unit_at s.links u) id).columns j).form (spec_at (declaration_of (unit_at s.links u) id).columns j).constant old new
 
     names_back : (v other n m : ℕ) → v < length s.links.units → (one : MeansAlike r s v other j) → meaning_in (unit_at r.links v) other j ≡ InSection n → meaning_in (unit_at s.links v) other j ≡ InSection m → names_inside (unit_at s.links v).head (meaning_in (unit_at s.links v) other j) ≡ true → names_inside (unit_at r.links v).head (meaning_in (unit_at r.links v) other j) ≡ true
     names_back v other n m there one old new is =
@@ -78,7 +78,7 @@ module _ (declarations_same : SameDeclarations) (file written : List ℕ) (r s :
         let count : (entry_of (unit_at s.links v) other).count ≡ length (declaration_of (unit_at s.links u) id).columns = owned.counted other entry ∙ ap (λ (d : Declared). length d.columns) declared in
         let within : j < (entry_of (unit_at s.links v) other).count = subst (λ (n : ℕ). j < n) (sym count) below in
         let one : MeansAlike r s v other j = columns_alike file written r s anew.read anew.again anew.anew.same v other j there entry within in
-        let spelled = subst (λ (d : Declared). (bytes : List ℕ) × SpellsValue (spec_at d.columns j).form (spec_at d.columns j).constant (meaning_in (unit_at s.links v) other j) bytes) declared
+        let spelled = subst (λ (d : Declared). (bytes : List ℕ) × SpellsValue (spec_at d.columns j).name (spec_at d.columns j).form (spec_at d.columns j).constant (meaning_in (unit_at s.links v) other j) bytes) declared
         (column_spelled (debug_info written) (debug_abbrev written) (unit_at s.links v) is owned other j entry within) in
         record {
           alike = alike_values r s v v other other (name_in (unit_at r.links v) other j) (name_in (unit_at s.links v) other j) (meaning_in (unit_at r.links v) other j) (meaning_in (unit_at s.links v) other j) one.value one.means one.also;
@@ -100,15 +100,16 @@ module _ (declarations_same : SameDeclarations) (file written : List ℕ) (r s :
         let also : other < length (unit_at s.links v).forest.entries = subst (λ (n : ℕ). other < n) (sym (same.entries v here)) entry in
         pair_of v other here also ((declarations_same file written r s anew u id v other inside known here also).1 has))
 
-    stays : IsLeastForm (taken_meanings (column_values (map head_and_forest s.links.units) (place_of s.links u) (number_of s.links u id) j)) (spec_at (declaration_of (unit_at s.links u) id).columns j).form (spec_at (declaration_of (unit_at s.links u) id).columns j).constant
+    stays : IsLeastForm anew.classes (spec_at (declaration_of (unit_at s.links u) id).columns j).name (taken_meanings (column_values (map head_and_forest s.links.units) (place_of s.links u) (number_of s.links u id) j)) (spec_at (declaration_of (unit_at s.links u) id).columns j).form (spec_at (declaration_of (unit_at s.links u) id).columns j).constant
     stays =
-        let columns : HaveColumns IsLeastColumn r.links s.links = holds_of_these (λ x y. HaveColumns IsLeastColumn x.links y.links) file written r s anew.read anew.again anew.anew.columns in
+        let columns : HaveColumns (IsLeastColumn anew.classes) r.links s.links = holds_of_these (λ x y. HaveColumns (IsLeastColumn anew.classes) x.links y.links) file written r s anew.read anew.again anew.anew.columns in
         let here = columns u id (back u inside) (subst (λ (n : ℕ). id < n) (same.entries u inside) known) in
         let olds : List Meaning = taken_meanings (column_values (map head_and_forest r.links.units) (place_of r.links u) (number_of r.links u id) j) in
-        let least : IsLeastForm olds column.form column.constant = (here.each j (subst (λ (n : ℕ). j < n) here.count below)).least in
-        let spelled : AreSpelled column.form column.constant olds = spelled_in column.form column.constant olds least.enough.entries least.enough.within in
-        let (kins, again) = taken_kins column.form column.constant least.enough.choice (column_values (map head_and_forest r.links.units) (place_of r.links u) (number_of r.links u id) j) (column_values (map head_and_forest s.links.units) (place_of s.links u) (number_of s.links u id) j) all_paired spelled in
-        least_for_kin olds (taken_meanings (column_values (map head_and_forest s.links.units) (place_of s.links u) (number_of s.links u id) j)) column.form column.constant kins again least
+        let new_column = here.each j (subst (λ (n : ℕ). j < n) here.count below) in
+        let least : IsLeastForm anew.classes column.name olds column.form column.constant = subst (λ (n : ℕ). IsLeastForm anew.classes n olds column.form column.constant) (sym new_column.name) new_column.least in
+        let spelled : AreSpelled column.name column.form column.constant olds = spelled_in column.name column.form column.constant olds least.enough.entries least.enough.within in
+        let (kins, again) = taken_kins column.name column.form column.constant least.enough.choice (column_values (map head_and_forest r.links.units) (place_of r.links u) (number_of r.links u id) j) (column_values (map head_and_forest s.links.units) (place_of s.links u) (number_of s.links u id) j) all_paired spelled in
+        least_for_kin anew.classes column.name olds (taken_meanings (column_values (map head_and_forest s.links.units) (place_of s.links u) (number_of s.links u id) j)) column.form column.constant kins again least
 
 -- Where entries share declarations in the written file as they did in the old one, its columns are least for the values that they have in it.
 pub columns_stay_least : SameDeclarations → ColumnsStayLeast

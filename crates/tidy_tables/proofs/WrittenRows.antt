@@ -1,5 +1,6 @@
 -- Tables, declarations and entries of a file that is written anew are as a writer makes them: each row is refuted.
 use Rattle.std.proofs.Common.{◌≡◌, ◌≢◌, ◌≤◌, ◌<◌, ◌+◌, ◌⊎◌, ◌↔◌, inl, inr, ◌∙◌, ℕ, List, length, map, sym, subst, arith}
+use Rattle.dw_base.specs.declared.classes.Classes.{Classes}
 use Rattle.form_codec.specs.Columns.{IsLeastForm}
 use Rattle.abbrev_tables.specs.Listings.{Listing, spec_at}
 use Rattle.entry_arena.specs.Trees.{declared_at}
@@ -21,7 +22,7 @@ use Rattle.tidy_tables.proofs.WrittenDeclarations.{renewed, same_declaration}
 use Rattle.tidy_tables.proofs.WrittenPlaces.{same_old, same_written, earlier_written, ends_before, same_table, covered}
 use Rattle.tidy_tables.proofs.WrittenUses.{used_again, codes_least, outlines_same, some_uses}
 
-module _ (section : List ℕ) (r s : Linkable) (are : AreRenewed section r s) where
+module _ (classes : Classes) (section : List ℕ) (r s : Linkable) (are : AreRenewed section r s) where
   again : (u : ℕ) → u < length r.units → u < length s.units
   again u known = (let same = are.units in omega arith)
 
@@ -82,10 +83,10 @@ module _ (section : List ℕ) (r s : Linkable) (are : AreRenewed section r s) wh
   -- a column of an entry
   abbrev IsShortAt : ℕ → ℕ → Listing → ℕ → Type 0
   IsShortAt place k table j =
-      IsLeastForm (column_meanings (map head_and_forest s.units) place k j) (spec_at (declared_at (declarations_of table) k).columns j).form (spec_at (declared_at (declarations_of table) k).columns j).constant
+      IsLeastForm classes (spec_at (declared_at (declarations_of table) k).columns j).name (column_meanings (map head_and_forest s.units) place k j) (spec_at (declared_at (declarations_of table) k).columns j).form (spec_at (declared_at (declarations_of table) k).columns j).constant
 
   module _ (columns : (u id j : ℕ) → u < length s.units → id < length (unit_at s u).forest.entries → j < length (declared_at (declarations (unit_at s u)) (number_of s u id)).columns → IsShortAt (place_of s u) (number_of s u id) (unit_at s u).table j) where
-    not_long : (u k : ℕ) → u < length s.units → k < length (declarations (unit_at s u)) → HasLongColumn s u k → ⊥
+    not_long : (u k : ℕ) → u < length s.units → k < length (declarations (unit_at s u)) → HasLongColumn classes s u k → ⊥
     not_long u k known inside (j, within, long) =
         let entry : IsHad s (place_of s u) k = had s (place_of s u) k (some_uses section r s are u known k inside) in
         let one_table : (unit_at s entry.u).table ≡ (unit_at s u).table = same_table section r s are entry.u u entry.known known entry.names in
@@ -97,7 +98,7 @@ module _ (section : List ℕ) (r s : Linkable) (are : AreRenewed section r s) wh
         (subst (λ (t : Listing). IsShortAt (place_of s u) k t j) one_table
         (subst (λ (z : ℕ). IsShortAt z k (unit_at s entry.u).table j) entry.names (subst (λ (z : ℕ). IsShortAt (place_of s entry.u) z (unit_at s entry.u).table j) entry.has least)))
 
-    not_untidy_declaration : (p : ℕ) → IsUntidyDeclaration s p → ⊥
+    not_untidy_declaration : (p : ℕ) → IsUntidyDeclaration classes s p → ⊥
     not_untidy_declaration p (u, k, known, inside, place, inl fallen) = not_fallen u k known (let size = count_same (unit_at s u).table in omega arith) fallen
     not_untidy_declaration p (u, k, known, inside, place, inr long) = not_long u k known (let size = count_same (unit_at s u).table in omega arith) long
 
@@ -116,7 +117,7 @@ module _ (section : List ℕ) (r s : Linkable) (are : AreRenewed section r s) wh
 -- ALL ROWS
 
 pub written_tables_tidy : AreLaws → ColumnsStayLeast → WrittenTablesAreTidy
-written_tables_tidy laws columns file written anew row p untidy = refuted row untidy.inner untidy.holds
+written_tables_tidy laws columns classes file written anew row p untidy = refuted row untidy.inner untidy.holds
   where
     r : Reading
     r = untidy.r
@@ -125,14 +126,14 @@ written_tables_tidy laws columns file written anew row p untidy = refuted row un
     s = untidy.s
 
     is : AreAnew file written r s
-    is = record { read = untidy.read; again = untidy.again; anew = anew }
+    is = record { classes = classes; read = untidy.read; again = untidy.again; anew = anew }
 
     are : AreRenewed (debug_abbrev written) r.links s.links
     are = renewed laws file written r s is
 
-    refuted : (row : Row) (q : ℕ) → HoldsAt (debug_abbrev written) r.links s.links row q → ⊥
-    refuted OfTable q holds = not_untidy (debug_abbrev written) r.links s.links are q holds
-    refuted OfLooseByte q holds = not_loose (debug_abbrev written) r.links s.links are q holds
-    refuted OfMissingTable q holds = not_missing (debug_abbrev written) r.links s.links are holds.0
-    refuted OfDeclaration q holds = not_untidy_declaration (debug_abbrev written) r.links s.links are (columns file written r s is) q holds
-    refuted OfEntry q holds = not_untidy_entry (debug_abbrev written) r.links s.links are q holds
+    refuted : (row : Row) (q : ℕ) → HoldsAt classes (debug_abbrev written) r.links s.links row q → ⊥
+    refuted OfTable q holds = not_untidy classes (debug_abbrev written) r.links s.links are q holds
+    refuted OfLooseByte q holds = not_loose classes (debug_abbrev written) r.links s.links are q holds
+    refuted OfMissingTable q holds = not_missing classes (debug_abbrev written) r.links s.links are holds.0
+    refuted OfDeclaration q holds = not_untidy_declaration classes (debug_abbrev written) r.links s.links are (columns file written r s is) q holds
+    refuted OfEntry q holds = not_untidy_entry classes (debug_abbrev written) r.links s.links are q holds

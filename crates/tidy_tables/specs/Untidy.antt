@@ -5,6 +5,7 @@
 -- declarations count from the first byte of .debug_abbrev, those of entries from the first byte of .debug_info.
 use Rattle.std.specs.Prelude.{◌≡◌, ◌≢◌, ◌≤◌, ◌<◌, ◌+◌, ◌⊎◌, ℕ, zero, suc, List, [], ◌∷◌, length, map, slice_index, Bool}
 use Rattle.std.specs.List.Sorted.{IsPermutation}
+use Rattle.dw_base.specs.declared.classes.Classes.{Classes}
 use Rattle.leb_codec.specs.Numbering.{IsLeastNumbering}
 use Rattle.form_codec.specs.Columns.{IsLeastForm}
 use Rattle.abbrev_tables.specs.declared.decl.Spec.{Spec}
@@ -108,14 +109,14 @@ IsMissing r s = (old : ℕ) × (other : ℕ) × (new : ℕ) × (old ≢ other) �
 abbrev pub IsFallen : List Declared → ℕ → Type 0
 IsFallen ds k = (j : ℕ) × (j + 1 ≡ k) × ((declared_at ds k).code ≤ (declared_at ds j).code)
 
--- one of its columns isn't in a least form for the values that it has in entries of all units that name the table
-abbrev pub HasLongColumn : Linkable → ℕ → ℕ → Type 0
-HasLongColumn s u k =
-    (j : ℕ) × (j < length (declared_at (declarations_of (unit_at s u).table) k).columns) × (¬ IsLeastForm (column_meanings (map head_and_forest s.units) (place_of s u) k j) (spec_at (declared_at (declarations_of (unit_at s u).table) k).columns j).form (spec_at (declared_at (declarations_of (unit_at s u).table) k).columns j).constant)
+-- one of its columns isn't in a least form of the classes for the values that it has in entries of all units that name the table
+abbrev pub HasLongColumn : Classes → Linkable → ℕ → ℕ → Type 0
+HasLongColumn classes s u k =
+    (j : ℕ) × (j < length (declared_at (declarations_of (unit_at s u).table) k).columns) × (¬ IsLeastForm classes (spec_at (declared_at (declarations_of (unit_at s u).table) k).columns j).name (column_meanings (map head_and_forest s.units) (place_of s u) k j) (spec_at (declared_at (declarations_of (unit_at s u).table) k).columns j).form (spec_at (declared_at (declarations_of (unit_at s u).table) k).columns j).constant)
 
-abbrev pub IsUntidyDeclaration : Linkable → ℕ → Type 0
-IsUntidyDeclaration s p =
-    (u : ℕ) × (k : ℕ) × (u < length s.units) × (k < length (unit_at s u).table.decls) × (p ≡ (decl_at (unit_at s u).table.decls k).at) × (IsFallen (declarations_of (unit_at s u).table) k ⊎ HasLongColumn s u k)
+abbrev pub IsUntidyDeclaration : Classes → Linkable → ℕ → Type 0
+IsUntidyDeclaration classes s p =
+    (u : ℕ) × (k : ℕ) × (u < length s.units) × (k < length (unit_at s u).table.decls) × (p ≡ (decl_at (unit_at s u).table.decls k).at) × (IsFallen (declarations_of (unit_at s u).table) k ⊎ HasLongColumn classes s u k)
 
 -- WHAT IS AMISS WITH AN ENTRY
 

@@ -6,7 +6,7 @@ ghost use Rattle.form_codec.specs.Columns.{AreSpelled, IsLeastForm};
 ghost use Rattle.form_codec.specs.Values.{meant_in};
 ghost use Rattle.column_forms.specs.Rows.{AreHere};
 ghost use Rattle.column_forms.specs.Tallies.{meanings_in};
-ghost use Rattle.column_forms.specs.TableColumns.{HaveAtMost, HaveRoomForRow};
+ghost use Rattle.column_forms.specs.TableColumns.{HaveAtMost, HaveNames, HaveRoomForRow};
 ghost use Rattle.entry_read.specs.Units.{declarations_of, IsTable, IsUnitHeld};
 ghost use Rattle.written_files.specs.Uses.{names_inside, taken_meanings};
 ghost use Rattle.tidy_tables.specs.inside.TableNamers.{AreUnitsOf};
@@ -14,7 +14,7 @@ ghost use Rattle.tidy_tables.specs.inside.ColumnValues.{Headed, meant_with_heads
 
 use abbrev_tables::{Spec, Table};
 use column_forms::Tallies;
-use dw_base::NoMemory;
+use dw_base::{Classes, NoMemory};
 use entry_read::{Unit, UnitHead};
 use form_codec::Value;
 use std::alloc::Global;
@@ -63,7 +63,7 @@ impl ColumnValues {
     fn new(alloc: Global, count: usize) -> Result<ColumnValues, NoMemory>
         ensures wide { IfOk result (λ held. HasWidth held count) }
         ensures few { IfOk result (λ held. HaveAtMost 0 held.tallies) }
-        ensures none { IfOk result (λ held. (section : List ℕ) → HoldsValues section (λ (k : ℕ). []) held) }
+        ensures none { IfOk result (λ held. (section : List ℕ) (names : ℕ → ℕ) → HoldsValues section names (λ (k : ℕ). []) held) }
     {
         Ok(ColumnValues {
             tallies: Tallies::new(alloc, count)?,
@@ -71,24 +71,26 @@ impl ColumnValues {
         })
     }
 
-    // Adds the values of an entry of a unit with this header, whose declaration has the columns from one on.
+    // Adds the values of an entry of a unit with this header, whose declaration has these columns, numbered from one on.
     fn add_row(
         &mut self,
         alloc: Global,
         first: usize,
         head: &UnitHead,
+        columns: &[Spec],
         row: &[Value],
     ) -> Result<(), NoMemory>
         requires tallies { first + length row.now ≤ length self.old.tallies }
         requires inside { first + length row.now ≤ length self.old.inside.items }
+        requires width { length columns.now ≡ length row.now }
         requires room { HaveRoomForRow self.old.tallies }
         ensures tallies { length self.new.tallies ≡ length self.old.tallies }
         ensures inside { length self.new.inside.items ≡ length self.old.inside.items }
         ensures few { OnOk result ((n : ℕ) → HaveAtMost n self.old.tallies → HaveAtMost (n + 1) self.new.tallies) }
-        ensures added { OnOk result ((section : List ℕ) (before after : ℕ → List Headed) → AreHere section row.now → AddsHeaded first head.now row.now before after → HoldsValues section before self.old → HoldsValues section after self.new) }
+        ensures added { OnOk result ((section : List ℕ) (names : ℕ → ℕ) (before after : ℕ → List Headed) → AreHere section row.now → HaveNames names first columns.now → AddsHeaded first head.now row.now before after → HoldsValues section names before self.old → HoldsValues section names after self.new) }
     {
         see_row(&mut self.inside, first, head, row);
-        self.tallies.add_row(alloc, first, row)
+        self.tallies.add_row(alloc, first, columns, row)
     }
 
     // Adds the values of all entries of a unit.
@@ -97,7 +99,7 @@ impl ColumnValues {
         requires unit { IsUnitHeld unit.now.forest.section unit.now.head (declarations_of table.now) unit.now.forest }
         requires wide { HasWidth self.old (length table.now.specs) }
         requires room { HasRoomFor self.old (length unit.now.forest.entries) }
-        ensures { OnOk result (AddsEntries table.now.decls unit.now unit.now.forest.entries self.old self.new) }
+        ensures { OnOk result (AddsEntries table.now unit.now unit.now.forest.entries self.old self.new) }
     {
         // What was read stands in bytes of memory.
         bytes_are_small(unit.forest().section());
@@ -107,7 +109,8 @@ impl ColumnValues {
             let decl = table.decl(entry.decl);
             unit.forest()
                 .read_values(entry.first, entry.count, &mut row)?;
-            self.add_row(alloc, decl.first as usize, &head, &row)?;
+            let columns = table.columns(entry.decl);
+            self.add_row(alloc, decl.first as usize, &head, columns, &row)?;
         }
         Ok(())
     }
@@ -131,17 +134,17 @@ impl ColumnValues {
         Ok(held)
     }
 
-    /// Whether the column with a number is in a least form (DWARF 5 sections 7.5.3 and 7.5.6), where references to places in their own units
-    /// count from these units if all values of the column are such. The column has values, and its form spells them.
-    pub(crate) fn is_least(&self, k: usize, column: Spec) -> bool
+    /// Whether the column with a number is in a least form of the classes (DWARF 5 sections 7.5.3 and 7.5.6), where references to places in
+    /// their own units count from these units if all values of the column are such. The column has values, and its form spells them.
+    pub(crate) fn is_least(&self, k: usize, classes: Classes, column: Spec) -> bool
         requires tallies { k < length self.now.tallies }
         requires inside { k < length self.now.inside.items }
-        ensures { (section : List ℕ) (values : ℕ → List Headed) → HoldsValues section values self.now → values k ≢ [] → AreSpelled column.form column.constant (meanings_in section (without_heads (values k))) → IsTrue result ↔ IsLeastForm (taken_meanings (meant_with_heads section (values k))) column.form column.constant }
+        ensures { (section : List ℕ) (names : ℕ → ℕ) (values : ℕ → List Headed) → names k ≡ column.name → HoldsValues section names values self.now → values k ≢ [] → AreSpelled column.name column.form column.constant (meanings_in section (without_heads (values k))) → IsTrue result ↔ IsLeastForm classes column.name (taken_meanings (meant_with_heads section (values k))) column.form column.constant }
     {
         if self.inside[k] {
             // No form spells both these references and those that count from their units.
             return false;
         }
-        self.tallies.is_least(k, column)
+        self.tallies.is_least(k, classes, column)
     }
 }

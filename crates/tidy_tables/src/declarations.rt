@@ -12,7 +12,7 @@ use crate::column_values::ColumnValues;
 use crate::table_namers::units_by_table;
 use crate::table_places::lesser;
 use abbrev_tables::Table;
-use dw_base::NoMemory;
+use dw_base::{Classes, NoMemory};
 use entry_read::Unit;
 use std::alloc::Global;
 use value_links::{NamedTable, World};
@@ -26,17 +26,17 @@ fn is_fallen(table: &Table, number: u32) -> bool
 }
 
 // Whether a declaration has a column that isn't in a least form. `values` are those of all columns of its table.
-fn has_long_column(values: &ColumnValues, table: &NamedTable, number: u32) -> bool
+fn has_long_column(values: &ColumnValues, classes: Classes, table: &NamedTable, number: u32) -> bool
     requires known { number < length table.now.table.decls }
     requires stands { IsTable table.now.table }
     requires values { (units : List HeadAndForest) × HoldsColumns units table.now values.now }
-    ensures long { (units : List HeadAndForest) → HoldsColumns units table.now values.now → IsTrue result ↔ HasLongColumnIn units table.now number }
-    ensures short { (units : List HeadAndForest) → HoldsColumns units table.now values.now → IsFalse result → AreShort units table.now number }
+    ensures long { (units : List HeadAndForest) → HoldsColumns units table.now values.now → IsTrue result ↔ HasLongColumnIn classes units table.now number }
+    ensures short { (units : List HeadAndForest) → HoldsColumns units table.now values.now → IsFalse result → AreShort classes units table.now number }
 {
     let first = table.table.decl(number).first as usize;
     let columns = table.table.columns(number);
     for j in 0..columns.len() {
-        if !values.is_least(first + j, columns[j]) {
+        if !values.is_least(first + j, classes, columns[j]) {
             return true;
         }
     }
@@ -44,25 +44,25 @@ fn has_long_column(values: &ColumnValues, table: &NamedTable, number: u32) -> bo
 }
 
 // Whether a declaration has such a code or such a column.
-fn is_untidy(values: &ColumnValues, table: &NamedTable, number: u32) -> bool
+fn is_untidy(values: &ColumnValues, classes: Classes, table: &NamedTable, number: u32) -> bool
     requires known { number < length table.now.table.decls }
     requires stands { IsTable table.now.table }
     requires values { (units : List HeadAndForest) × HoldsColumns units table.now values.now }
-    ensures untidy { (units : List HeadAndForest) → HoldsColumns units table.now values.now → IsTrue result ↔ (IsFallen (declarations_of table.now.table) number ⊎ HasLongColumnIn units table.now number) }
-    ensures short { (units : List HeadAndForest) → HoldsColumns units table.now values.now → IsFalse result → AreShort units table.now number }
+    ensures untidy { (units : List HeadAndForest) → HoldsColumns units table.now values.now → IsTrue result ↔ (IsFallen (declarations_of table.now.table) number ⊎ HasLongColumnIn classes units table.now number) }
+    ensures short { (units : List HeadAndForest) → HoldsColumns units table.now values.now → IsFalse result → AreShort classes units table.now number }
 {
-    is_fallen(&table.table, number) || has_long_column(values, table, number)
+    is_fallen(&table.table, number) || has_long_column(values, classes, table, number)
 }
 
 // The place of the first declaration of a table that has.
-fn first_of_values(values: &ColumnValues, table: &NamedTable) -> Option<u64>
+fn first_of_values(values: &ColumnValues, classes: Classes, table: &NamedTable) -> Option<u64>
     requires stands { IsTable table.now.table }
     requires values { (units : List HeadAndForest) × HoldsColumns units table.now values.now }
-    ensures least { (units : List HeadAndForest) → HoldsColumns units table.now values.now → IsLeastFound (IsUntidyIn units table.now) result }
-    ensures short { (units : List HeadAndForest) → HoldsColumns units table.now values.now → IsNone result → AreAllShort units table.now }
+    ensures least { (units : List HeadAndForest) → HoldsColumns units table.now values.now → IsLeastFound (IsUntidyIn classes units table.now) result }
+    ensures short { (units : List HeadAndForest) → HoldsColumns units table.now values.now → IsNone result → AreAllShort classes units table.now }
 {
     for number in 0..table.table.len() {
-        if is_untidy(values, table, number) {
+        if is_untidy(values, classes, table, number) {
             return Some(table.table.decl(number).at);
         }
     }
@@ -72,32 +72,37 @@ fn first_of_values(values: &ColumnValues, table: &NamedTable) -> Option<u64>
 // The same from the units, of which these name the table.
 fn first_of_table(
     alloc: Global,
+    classes: Classes,
     units: &Vec<Unit<'_>>,
     named: &Vec<u32>,
     table: &NamedTable,
 ) -> Result<Option<u64>, NoMemory>
     requires { AreAllNamers units.now.items table.now named.now.items }
-    ensures least { IfOk result (λ place. IsLeastFound (IsUntidyIn units.now.items table.now) place) }
-    ensures short { IfOk result (λ place. IsNone place → AreAllShort units.now.items table.now) }
+    ensures least { IfOk result (λ place. IsLeastFound (IsUntidyIn classes units.now.items table.now) place) }
+    ensures short { IfOk result (λ place. IsNone place → AreAllShort classes units.now.items table.now) }
 {
     let values = ColumnValues::gather(alloc, units, named, &table.table)?;
-    Ok(first_of_values(&values, table))
+    Ok(first_of_values(&values, classes, table))
 }
 
-/// The first declaration of a written file that has a column which isn't in a least form, or a code that isn't above the one before it, by
-/// its place in .debug_abbrev. Where there is none, all columns are in least forms. Each declaration has uses.
-pub(crate) fn first_declaration(alloc: Global, after: &World<'_>) -> Result<Option<u64>, NoMemory>
+/// The first declaration of a written file that has a column which isn't in a least form of the classes, or a code that isn't above the one
+/// before it, by its place in .debug_abbrev. Where there is none, all columns are in least forms. Each declaration has uses.
+pub(crate) fn first_declaration(
+    alloc: Global,
+    classes: Classes,
+    after: &World<'_>,
+) -> Result<Option<u64>, NoMemory>
     requires after { (reach : Reach) × IsWorldOf after.now.image reach after.now }
     requires used { OfBoth after.now after.now (λ r s. (q : ℕ) → HasUnused s.links q → ⊥) }
-    ensures least { IfOk result (λ place. OfBoth after.now after.now (λ r s. IsLeastFound (IsUntidyDeclaration s.links) place)) }
-    ensures short { IfOk result (λ place. IsNone place → OfBoth after.now after.now (λ r s. HaveShortColumns s.links)) }
+    ensures least { IfOk result (λ place. OfBoth after.now after.now (λ r s. IsLeastFound (IsUntidyDeclaration classes s.links) place)) }
+    ensures short { IfOk result (λ place. IsNone place → OfBoth after.now after.now (λ r s. HaveShortColumns classes s.links)) }
 {
     let tables = after.tables();
     let named = units_by_table(alloc, after.table_numbers(), tables.len())?;
     let mut first = None;
     for i in 0..tables.len() {
         // Places rise within a table, but tables may stand in one another.
-        let place = first_of_table(alloc, after.units(), &named[i].units, &tables[i])?;
+        let place = first_of_table(alloc, classes, after.units(), &named[i].units, &tables[i])?;
         first = lesser(first, place);
     }
     Ok(first)

@@ -29,9 +29,9 @@ use crate::declarations::first_declaration;
 use crate::entries::first_entry;
 pub use crate::laws::written_tables;
 use crate::loose::{first_loose_byte, is_missing};
-use crate::offsets::offset_in_file;
+pub use crate::offsets::offset_in_file;
 use crate::tables::first_table;
-use dw_base::NoMemory;
+use dw_base::{Classes, NoMemory};
 use std::alloc::Global;
 use value_links::World;
 
@@ -45,21 +45,22 @@ use value_links::World;
 ///   no entry has or others than the old table, or whose codes take more bytes than they need;
 /// - a byte of .debug_abbrev that no table has;
 /// - a missing table, where two old tables are written as one, which is said of the end of .debug_abbrev;
-/// - a declaration with a column that isn't in a least form, or with a code that isn't above the one before it;
+/// - a declaration with a column that isn't in a least form of the classes, or with a code that isn't above the one before it;
 /// - an entry that has another declaration than an earlier one where both had one, or one declaration where both had others.
 ///
-/// Where there is none, each column of the written file is in a least form for its values, and the codes of each table take the fewest
-/// bytes for its uses (DWARF 5 sections 7.5.3 and 7.5.6). The only error is want of memory.
+/// Where there is none, each column of the written file is in a least form of the classes for its values, and the codes of each table take
+/// the fewest bytes for its uses (DWARF 5 sections 7.5.3 and 7.5.6). The only error is want of memory.
 pub fn first_untidy(
     alloc: Global,
+    classes: Classes,
     before: &World<'_>,
     after: &World<'_>,
 ) -> Result<Option<u64>, NoMemory>
     requires before { (reach : Reach) × IsWorldOf before.now.image reach before.now }
     requires after { (reach : Reach) × IsWorldOf after.now.image reach after.now }
     requires same { Same before.now.image after.now.image }
-    ensures first { IfOk result (IsFirstFoundIn order_of (IsUntidy before.now.image after.now.image)) }
-    ensures columns { IfOk result (λ place. IsNone place → HaveLeastColumns after.now.image after.now.image) }
+    ensures first { IfOk result (IsFirstFoundIn order_of (IsUntidy classes before.now.image after.now.image)) }
+    ensures columns { IfOk result (λ place. IsNone place → HaveLeastColumns classes after.now.image after.now.image) }
     ensures codes { IfOk result (λ place. IsNone place → HaveLeastCodes after.now.image after.now.image) }
 {
     if let Some(place) = first_table(alloc, before, after)? {
@@ -72,7 +73,7 @@ pub fn first_untidy(
         let end = after.section(b".debug_abbrev").len() as u64;
         return Ok(Some(offset_in_file(after, b".debug_abbrev", end)));
     }
-    if let Some(place) = first_declaration(alloc, after)? {
+    if let Some(place) = first_declaration(alloc, classes, after)? {
         return Ok(Some(offset_in_file(after, b".debug_abbrev", place)));
     }
     match first_entry(alloc, before, after)? {

@@ -6,7 +6,7 @@ use value_links::World;
 
 /// The offset in the file of a place in its section with a name, or of the section's end. The name is given without its zero byte, and a
 /// section that is missing stands at 0.
-pub(crate) fn offset_in_file(world: &World<'_>, name: &[u8], place: u64) -> u64
+pub fn offset_in_file(world: &World<'_>, name: &[u8], place: u64) -> u64
     requires { place ≤ length (body_named world.now.image name.now) }
     ensures { result ≡ offset_named world.now.image name.now + place }
 {

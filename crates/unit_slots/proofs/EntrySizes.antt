@@ -72,7 +72,7 @@ record HasFirst (section : List ℕ) (c : Spec) (cs : List Spec) (vs : List Valu
   later : List Value
   values : vs ≡ value ∷ later
   next : ℕ
-  spelled : SpellsBetween (SpellsValue c.form c.constant (meant_in section value)) section from next
+  spelled : SpellsBetween (SpellsValue c.name c.form c.constant (meant_in section value)) section from next
   placed : IsPlaced value from next
   rest : ValuesBetween section cs later next to
 
@@ -149,7 +149,7 @@ module _ (unit : UnitRead) (held : IsUnitHeld unit.forest.section unit.head (dec
     pub known : entry.first + k < length unit.forest.values
     known = let all : entry.first + entry.count ≤ length unit.forest.values = owners.inside id inside in let size = counted in omega (arith, all, size, below)
 
-    pub value_there : (meaning : Meaning) × (next : ℕ) × SpellsBetween (SpellsValue c.form c.constant meaning) section from next
+    pub value_there : (meaning : Meaning) × (next : ℕ) × SpellsBetween (SpellsValue c.name c.form c.constant meaning) section from next
     value_there = (meant_in section first.value, first.next, first.spelled)
 
     later_is : first.later ≡ drop (k + 1) values
@@ -165,15 +165,15 @@ module _ (unit : UnitRead) (held : IsUnitHeld unit.forest.section unit.head (dec
         less : (k : ℕ) → k + 0 ≡ k
         less k = omega arith
 
-    module _ (to : ℕ) (ends : (meaning : Meaning) (next : ℕ) → SpellsBetween (SpellsValue c.form c.constant meaning) section from next → to ≡ next) where
+    module _ (to : ℕ) (ends : (meaning : Meaning) (next : ℕ) → SpellsBetween (SpellsValue c.name c.form c.constant meaning) section from next → to ≡ next) where
       end_is : to ≡ first.next
       end_is = ends (meant_in section first.value) first.next first.spelled
 
-      spelled : SpellsBetween (SpellsValue c.form c.constant (meant_in section first.value)) section from to
-      spelled = subst (λ (z : ℕ). SpellsBetween (SpellsValue c.form c.constant (meant_in section first.value)) section from z) (sym end_is) first.spelled
+      spelled : SpellsBetween (SpellsValue c.name c.form c.constant (meant_in section first.value)) section from to
+      spelled = subst (λ (z : ℕ). SpellsBetween (SpellsValue c.name c.form c.constant (meant_in section first.value)) section from z) (sym end_is) first.spelled
 
-      pub stands_here : SpellsBetween (SpellsValue c.form c.constant (meaning_at unit.forest (entry.first + k))) section from to
-      stands_here = subst (λ (v : Value). SpellsBetween (SpellsValue c.form c.constant (meant_in section v)) section from to) value_is spelled
+      pub stands_here : SpellsBetween (SpellsValue c.name c.form c.constant (meaning_at unit.forest (entry.first + k))) section from to
+      stands_here = subst (λ (v : Value). SpellsBetween (SpellsValue c.name c.form c.constant (meant_in section v)) section from to) value_is spelled
 
       pub placed_here : IsPlaced (value_at unit.forest.values (entry.first + k)) from to
       placed_here = subst (λ (v : Value). IsPlaced v from to) value_is (subst (λ (z : ℕ). IsPlaced first.value from z) (sym end_is) first.placed)
@@ -261,7 +261,7 @@ module _ (unit : UnitRead) (held : IsUnitHeld unit.forest.section unit.head (dec
         more : (n : ℕ) → n ≡ n + 0
         more n = omega arith
 
-    pub come_on : (k from : ℕ) (old mid new : List ℕ) → k < length columns → (come : HaveCome unit ops id k from old mid) → (to : ℕ) → ((meaning : Meaning) (next : ℕ) → SpellsBetween (SpellsValue (spec_at columns k).form (spec_at columns k).constant meaning) section from next → to ≡ next) → AddsSizes (HasValueSizes section from to (meaning_at unit.forest (entry.first + k)) (ops (entry.first + k))) mid new → HaveCome unit ops id (k + 1) to old new
+    pub come_on : (k from : ℕ) (old mid new : List ℕ) → k < length columns → (come : HaveCome unit ops id k from old mid) → (to : ℕ) → ((meaning : Meaning) (next : ℕ) → SpellsBetween (SpellsValue (spec_at columns k).name (spec_at columns k).form (spec_at columns k).constant meaning) section from next → to ≡ next) → AddsSizes (HasValueSizes section from to (meaning_at unit.forest (entry.first + k)) (ops (entry.first + k))) mid new → HaveCome unit ops id (k + 1) to old new
     come_on k from old mid new below come to ends adds =
         let value : AreValueSizes unit (entry.first + k) adds.added = sizes_here k from below come.stand to ends adds.added adds.are.are in
         let total : sum new ≡ sum mid + sum adds.added = ap sum adds.behind ∙ sum_append mid adds.added in

@@ -107,7 +107,7 @@ record AreSizesAt (unit : UnitRead) (number : ℕ) (sizes : List ℕ) (id : ℕ)
   from : ℕ
   stands : HasValueAt unit id number name meaning from
   to : ℕ
-  ends : SpellsBetween (SpellsValue stands.column.form stands.column.constant meaning) unit.forest.section from to
+  ends : SpellsBetween (SpellsValue stands.column.name stands.column.form stands.column.constant meaning) unit.forest.section from to
   are : AreMeaningSizes unit.forest.section from to meaning sizes
 
 at_entry : (unit : UnitRead) (number : ℕ) (sizes : List ℕ) → (p : AreValueSizes unit number sizes) → AreSizesAt unit number sizes p.id
@@ -126,9 +126,9 @@ at_entry_once unit number id xs ys p q =
     let begin : a.values_at ≡ b.values_at = (spells_once Uleb unique_u section code code (entry_of unit id).at a.values_at b.values_at a.coded b.coded).0 in
     let valued : ValuesBetween section b.earlier_columns a.earlier b.values_at p.from = subst (λ (z : List Spec). ValuesBetween section z a.earlier b.values_at p.from) parts.0 (subst (λ (z : ℕ). ValuesBetween section a.earlier_columns a.earlier z p.from) begin a.valued) in
     let from : p.from ≡ q.from = (values_once section b.earlier_columns a.earlier b.earlier b.values_at p.from q.from valued b.valued).0 in
-    let here : SpellsBetween (SpellsValue a.column.form a.column.constant p.meaning) section q.from p.to = subst (λ (z : ℕ). SpellsBetween (SpellsValue a.column.form a.column.constant p.meaning) section z p.to) from p.ends in
-    let spelled : SpellsBetween (SpellsValue b.column.form b.column.constant p.meaning) section q.from p.to = subst (λ (c : Spec). SpellsBetween (SpellsValue c.form c.constant p.meaning) section q.from p.to) parts.1 here in
-    let one = spells_once (SpellsValue b.column.form b.column.constant) (value_once b.column.form b.column.constant) section p.meaning q.meaning q.from p.to q.to spelled q.ends in
+    let here : SpellsBetween (SpellsValue a.column.name a.column.form a.column.constant p.meaning) section q.from p.to = subst (λ (z : ℕ). SpellsBetween (SpellsValue a.column.name a.column.form a.column.constant p.meaning) section z p.to) from p.ends in
+    let spelled : SpellsBetween (SpellsValue b.column.name b.column.form b.column.constant p.meaning) section q.from p.to = subst (λ (c : Spec). SpellsBetween (SpellsValue c.name c.form c.constant p.meaning) section q.from p.to) parts.1 here in
+    let one = spells_once (SpellsValue b.column.name b.column.form b.column.constant) (value_once b.column.name b.column.form b.column.constant) section p.meaning q.meaning q.from p.to q.to spelled q.ends in
     let first : AreMeaningSizes section q.from p.to p.meaning xs = subst (λ (z : ℕ). AreMeaningSizes section z p.to p.meaning xs) from p.are in
     let second : AreMeaningSizes section q.from q.to p.meaning xs = subst (λ (z : ℕ). AreMeaningSizes section q.from z p.meaning xs) one.0 first in
     meaning_sizes_once section q.from q.to q.meaning xs ys (subst (λ (m : Meaning). AreMeaningSizes section q.from q.to m xs) one.1 second) q.are

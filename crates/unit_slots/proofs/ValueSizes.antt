@@ -122,7 +122,7 @@ other_sizes section from to (value.LocalRef n) os no_reference no_expression ord
 other_sizes section from to (value.Expr span) os no_reference no_expression order = absurd (no_expression span refl)
 other_sizes section from to v os no_reference no_expression order = record { are = refl; can = tt; room = omega (arith, order) }
 
-module _ (f : Arena) (held : HeldOps) (k from to form : ℕ) (constant : ℤ) (stands : SpellsBetween (SpellsValue form constant (meaning_at f k)) f.section from to) (placed : IsPlaced (value_at f.values k) from to) where
+module _ (f : Arena) (held : HeldOps) (k from to name form : ℕ) (constant : ℤ) (stands : SpellsBetween (SpellsValue name form constant (meaning_at f k)) f.section from to) (placed : IsPlaced (value_at f.values k) from to) where
   abbrev Sizes : List ℕ → Type 0
   Sizes = HasValueSizes f.section from to (meaning_at f k) (operations_in f held k)
 
@@ -136,8 +136,8 @@ module _ (f : Arena) (held : HeldOps) (k from to form : ℕ) (constant : ℤ) (s
   pub reference_added : (n : ℕ) (old new : List ℕ) → value_at f.values k ≡ value.LocalRef n → new ≡ old ++ (to - from) ∷ [] → AddsSizes Sizes old new
   reference_added n old new is pushed =
       let meant : meaning_at f k ≡ InUnit n = ap (meant_in f.section) is in
-      let spelled : SpellsValue form constant (InUnit n) (bytes_between f.section from to) = subst (λ (m : Meaning). SpellsValue form constant m (bytes_between f.section from to)) meant stands.spelled in
-      let some : 0 < length (bytes_between f.section from to) = reference_shape (shape_of spelled.form constant) n (bytes_between f.section from to) spelled.spelled in
+      let spelled : SpellsValue name form constant (InUnit n) (bytes_between f.section from to) = subst (λ (m : Meaning). SpellsValue name form constant m (bytes_between f.section from to)) meant stands.spelled in
+      let some : 0 < length (bytes_between f.section from to) = reference_shape (shape_of spelled.form name constant) n (bytes_between f.section from to) spelled.spelled in
       let long : length (bytes_between f.section from to) ≡ to - from = length_between f.section from to stands.inside in
       let sizes : HasValueSizes f.section from to (InUnit n) (operations_in f held k) ((to - from) ∷ []) = record { are = refl; can = (omega (arith, some, long), tt); room = omega (arith, some, long) } in
       record { added = (to - from) ∷ []; behind = pushed; are = subst (λ (m : Meaning). HasValueSizes f.section from to m (operations_in f held k) ((to - from) ∷ [])) (sym meant) sizes }
@@ -154,8 +154,8 @@ module _ (f : Arena) (held : HeldOps) (k from to form : ℕ) (constant : ℤ) (s
 
     counted : IsCountedBody body (bytes_between f.section from to)
     counted =
-        let spelled : SpellsValue form constant (Expression body) (bytes_between f.section from to) = subst (λ (m : Meaning). SpellsValue form constant m (bytes_between f.section from to)) means stands.spelled in
-        expression_shape (shape_of spelled.form constant) body (bytes_between f.section from to) spelled.spelled
+        let spelled : SpellsValue name form constant (Expression body) (bytes_between f.section from to) = subst (λ (m : Meaning). SpellsValue name form constant m (bytes_between f.section from to)) means stands.spelled in
+        expression_shape (shape_of spelled.form name constant) body (bytes_between f.section from to) spelled.spelled
 
     pub length_begins : Begins Uleb (drop from f.section)
     unfolding IsCountedBody

@@ -101,7 +101,7 @@ module _ (laws : AreLaws) (file written : List ℕ) (r s : Reading) (new : AreAn
           stands = stands;
           to = to;
           ends = record { order = written_there.order; inside = written_there.inside; spelled = written_there.spelled.0 };
-          are = meaning_stands laws unit.forest.section (ops k) place to stands.column.form (value_at unit.forest.values k)
+          are = meaning_stands laws unit.forest.section (ops k) place to stands.column.name stands.column.form (value_at unit.forest.values k)
               (laws.written_forms file written r s new u id k name (meaning_at unit.forest k) place known stands)
               (record { order = written_there.order; inside = written_there.inside; spelled = written_there.spelled.1 })
               (λ span here. (laws.entries_fewest file written r s new u k span known (record { inside = inside; is = here }), spelled k span (record { inside = inside; is = here })));
@@ -134,19 +134,19 @@ module _ (laws : AreLaws) (file written : List ℕ) (r s : Reading) (new : AreAn
 module _ (laws : AreLaws) where
   -- The slots of a file that is written anew stand in the bytes that their numbers need.
   pub written_slots_stand : WrittenSlotsStand
-  written_slots_stand file written anew s read u known rows sizes layout =
+  written_slots_stand classes file written anew s read u known rows sizes layout =
       let (r, other, read_file, read_other, holds) = anew.tidy in
-      slots_stand laws file written r s (record { read = read_file; again = read; anew = anew }) u known rows sizes layout
+      slots_stand laws file written r s (record { classes = classes; read = read_file; again = read; anew = anew }) u known rows sizes layout
 
   -- So the least layouts of its units are those that stand.
   pub least_layouts_stand : LeastLayoutsStand
-  least_layouts_stand file written anew (r, s, read_file, read, layouts) = (
+  least_layouts_stand classes file written anew (r, s, read_file, read, layouts) = (
     s,
     read,
     λ u known. let least = layouts u known in record {
       rows = least.rows;
       sizes = least.sizes;
-      stand = written_slots_stand file written anew s read u known least.rows least.sizes least.layout;
+      stand = written_slots_stand classes file written anew s read u known least.rows least.sizes least.layout;
       least = least.least;
     },
   )

@@ -41,8 +41,8 @@ written_value section [] column later [] v behind from end place (next, written,
 written_value section [] column later (w ∷ ws) v behind from end place all valued = absurd valued
 written_value section (c ∷ cs) column later [] v behind from end place all valued = absurd valued
 written_value section (c ∷ cs) column later (w ∷ ws) v behind from end place (next, written, more) (after, spelled, placed, valued) =
-    let own : SpellsBetween (SpellsValue c.form c.constant (meant_in section w)) section from next = record { order = written.order; inside = written.inside; spelled = written.spelled.0 } in
-    let same : next ≡ after = (spells_once (SpellsValue c.form c.constant) (value_once c.form c.constant) section (meant_in section w) (meant_in section w) from next after own spelled).0 in
+    let own : SpellsBetween (SpellsValue c.name c.form c.constant (meant_in section w)) section from next = record { order = written.order; inside = written.inside; spelled = written.spelled.0 } in
+    let same : next ≡ after = (spells_once (SpellsValue c.name c.form c.constant) (value_once c.name c.form c.constant) section (meant_in section w) (meant_in section w) from next after own spelled).0 in
     written_value section cs column later ws v behind after end place (subst (λ (n : ℕ). WrittenBetween section (cs ++ column ∷ later) (ws ++ v ∷ behind) n end) same more) valued
 
 pub value_written : (unit : UnitRead) (id number name place : ℕ) (meaning : Meaning) → (stands : HasValueAt unit id number name meaning place) → StandsShort unit.forest.section (declarations unit) unit.forest.values (entry_of unit id) → (to : ℕ) × SpellsBetween (IsWritten stands.column meaning) unit.forest.section place to
@@ -62,9 +62,9 @@ same_place : (m n : ℕ) → InUnit m ≡ InUnit n → n ≡ m
 same_place m n e = cc
 
 -- a reference within the unit has the bytes that its number needs
-reference_long : (n : ℕ) (bytes : List ℕ) → SpellsShortest (code_of RefUdata) (InUnit n) bytes → length bytes ≡ least_unsigned_len n
-reference_long n bytes short =
-    let (m, spelled, is) = in_form (code_of RefUdata) RefUdata short.constant (InUnit n) bytes refl short.spelled in
+reference_long : (name n : ℕ) (bytes : List ℕ) → SpellsShortest name (code_of RefUdata) (InUnit n) bytes → length bytes ≡ least_unsigned_len n
+reference_long name n bytes short =
+    let (m, spelled, is) = in_form name (code_of RefUdata) RefUdata short.constant (InUnit n) bytes refl short.spelled in
     let own : Uleb n bytes = subst (λ (k : ℕ). Uleb k bytes) (same_place n m is) spelled in
     let (others, also, size) = unsigned_spellings.each_len n (least_unsigned_len n) (omega arith) in
     let less : length bytes ≤ length others = short.shortest short.constant others (record { form = RefUdata; known = refl; small = also.0.byte; spelled = (n, (also, own.1), refl) }) in
@@ -72,9 +72,9 @@ reference_long n bytes short =
     omega (arith, less, more, size)
 
 -- and so has the length of an expression
-length_begins : (body bytes rest : List ℕ) → SpellsShortest (code_of Exprloc) (Expression body) bytes → BeginsWith (least_unsigned_len (length body)) (bytes ++ rest)
-length_begins body bytes rest short =
-    let spelled = in_form (code_of Exprloc) Exprloc short.constant (Expression body) bytes refl short.spelled in
+length_begins : (name : ℕ) (body bytes rest : List ℕ) → SpellsShortest name (code_of Exprloc) (Expression body) bytes → BeginsWith (least_unsigned_len (length body)) (bytes ++ rest)
+length_begins name body bytes rest short =
+    let spelled = in_form name (code_of Exprloc) Exprloc short.constant (Expression body) bytes refl short.spelled in
     let same : spelled.body ≡ body = same_body body spelled.body spelled.holds in
     let head : List ℕ = spelled.head in
     let count : Uleb (length body) head = subst (λ (z : List ℕ). Uleb (length z) head) same spelled.count in
@@ -96,18 +96,18 @@ length_begins body bytes rest short =
 
 -- THE SIZES OF ITS SLOTS
 
-module _ (laws : AreLaws) (section : List ℕ) (os : List Operation) (from to form : ℕ) where
+module _ (laws : AreLaws) (section : List ℕ) (os : List Operation) (from to name form : ℕ) where
   -- they are those that they need
-  pub meaning_stands : (v : Value) → HasWrittenForm (meant_in section v) form → SpellsBetween (SpellsShortest form (meant_in section v)) section from to → ((span : Span) → v ≡ value.Expr span → HasFewestBytes (bytes_in section span) × IsExpression Wide os (bytes_in section span)) → AreMeaningSizes section from to (meant_in section v) (needs (value_aims (meant_in section v) os))
+  pub meaning_stands : (v : Value) → HasWrittenForm (meant_in section v) form → SpellsBetween (SpellsShortest name form (meant_in section v)) section from to → ((span : Span) → v ≡ value.Expr span → HasFewestBytes (bytes_in section span) × IsExpression Wide os (bytes_in section span)) → AreMeaningSizes section from to (meant_in section v) (needs (value_aims (meant_in section v) os))
   meaning_stands (value.LocalRef n) written stands fewest =
-      let short : SpellsShortest (code_of RefUdata) (InUnit n) (bytes_between section from to) = subst (λ (f : ℕ). SpellsShortest f (InUnit n) (bytes_between section from to)) written stands.spelled in
-      let size : to - from ≡ least_unsigned_len n = sym (length_between section from to stands.inside) ∙ reference_long n (bytes_between section from to) short in
+      let short : SpellsShortest name (code_of RefUdata) (InUnit n) (bytes_between section from to) = subst (λ (f : ℕ). SpellsShortest name f (InUnit n) (bytes_between section from to)) written stands.spelled in
+      let size : to - from ≡ least_unsigned_len n = sym (length_between section from to stands.inside) ∙ reference_long name n (bytes_between section from to) short in
       ap (λ (k : ℕ). k ∷ []) (sym size)
   meaning_stands (value.Expr span) written stands fewest =
       let body : List ℕ = bytes_in section span in
       let (few, spelled) = fewest span refl in
-      let short : SpellsShortest (code_of Exprloc) (Expression body) (bytes_between section from to) = subst (λ (f : ℕ). SpellsShortest f (Expression body) (bytes_between section from to)) written stands.spelled in
-      let begins : BeginsWith (least_unsigned_len (length body)) (bytes_between section from to ++ drop (to - from) (drop from section)) = length_begins body (bytes_between section from to) (drop (to - from) (drop from section)) short in
+      let short : SpellsShortest name (code_of Exprloc) (Expression body) (bytes_between section from to) = subst (λ (f : ℕ). SpellsShortest name f (Expression body) (bytes_between section from to)) written stands.spelled in
+      let begins : BeginsWith (least_unsigned_len (length body)) (bytes_between section from to ++ drop (to - from) (drop from section)) = length_begins name body (bytes_between section from to) (drop (to - from) (drop from section)) short in
       let whole : bytes_between section from to ++ drop (to - from) (drop from section) ≡ drop from section = take-append-drop (to - from) (drop from section) in
       expression_stands laws (drop from section) body os few spelled (subst (BeginsWith (least_unsigned_len (length body))) whole begins)
   meaning_stands v written stands fewest = refl

@@ -89,7 +89,7 @@ pub record AreValueSizes (unit : UnitRead) (number : ℕ) (sizes : List ℕ) : T
   pub from : ℕ
   pub stands : HasValueAt unit id number name meaning from
   pub to : ℕ
-  pub ends : SpellsBetween (SpellsValue stands.column.form stands.column.constant meaning) unit.forest.section from to
+  pub ends : SpellsBetween (SpellsValue stands.column.name stands.column.form stands.column.constant meaning) unit.forest.section from to
   pub are : AreMeaningSizes unit.forest.section from to meaning sizes
 
 -- the sizes of some things, one after the other

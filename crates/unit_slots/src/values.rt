@@ -36,10 +36,18 @@ fn code_end(info: &[u8], at: usize) -> usize
 
 // Where the value of a column at a place ends.
 fn value_end(info: &[u8], at: usize, column: Spec) -> usize
-    requires { (meaning : Meaning) × (to : ℕ) × SpellsBetween (SpellsValue column.form column.constant meaning) info.now at to }
-    ensures { (meaning : Meaning) (to : ℕ) → SpellsBetween (SpellsValue column.form column.constant meaning) info.now at to → result ≡ to }
+    requires { (meaning : Meaning) × (to : ℕ) × SpellsBetween (SpellsValue column.name column.form column.constant meaning) info.now at to }
+    ensures { (meaning : Meaning) (to : ℕ) → SpellsBetween (SpellsValue column.name column.form column.constant meaning) info.now at to → result ≡ to }
 {
-    match read_value(info, at, info.len(), column.form, column.constant, 0) {
+    match read_value(
+        info,
+        at,
+        info.len(),
+        column.name,
+        column.form,
+        column.constant,
+        0,
+    ) {
         Ok(read) => read.end,
         // A value that stands there has no fault.
         Err(_) => unreachable!(),
@@ -57,7 +65,7 @@ fn push_value_sizes(
 ) -> Result<(), NoMemory>
     requires operations { HasOperations Wide forest.now operations.now }
     requires known { number < length forest.now.values }
-    requires stands { (form : ℕ) × (constant : ℤ) × SpellsBetween (SpellsValue form constant (meaning_at forest.now number)) forest.now.section from to }
+    requires stands { (name : ℕ) × (form : ℕ) × (constant : ℤ) × SpellsBetween (SpellsValue name form constant (meaning_at forest.now number)) forest.now.section from to }
     requires placed { IsPlaced (value_at forest.now.values number) from to }
     requires short { length forest.now.section < 2 ^ 32 }
     requires few { length sizes.old.items ≤ most_slots }

@@ -1,11 +1,16 @@
 // Each form, by hand from the table of DWARF 5 section 7.5.6.
 use dw_base::{NoMemory, Span};
 use form_codec::{
-    ReadValue, Value, Whole, admits, known, read_value, size_of, spelled_size, write_value,
+    ReadValue, Value, Whole, admits, known, read_value, size_of, spelled_size, unsigned,
+    write_value,
 };
+
+// DW_AT_const_value, under which a constant of fixed size doesn't tell its sign.
+const CONST_VALUE: u64 = 0x1c;
 
 #[derive(Clone, Copy)]
 struct Row {
+    name: u64,
     form: u64,
     bytes: &'static [u8],
     value: Value,
@@ -14,6 +19,18 @@ struct Row {
 
 fn example(form: u64, bytes: &'static [u8], value: Value, size: u64) -> Row {
     Row {
+        name: CONST_VALUE,
+        form,
+        bytes,
+        value,
+        size,
+    }
+}
+
+// The same of an attribute with another name.
+fn named(name: u64, form: u64, bytes: &'static [u8], value: Value, size: u64) -> Row {
+    Row {
+        name,
         form,
         bytes,
         value,
@@ -36,11 +53,11 @@ fn reads(row: &Row) -> bool {
         return false;
     }
     let end = bytes.len();
-    let whole = read_value(bytes, 0, end, row.form, -5, 100);
+    let whole = read_value(bytes, 0, end, row.name, row.form, -5, 100);
     let value = row.value;
     let mut right = whole == Ok(ReadValue { value, end });
     for cut in 0..end {
-        match read_value(bytes, 0, cut, row.form, -5, 100) {
+        match read_value(bytes, 0, cut, row.name, row.form, -5, 100) {
             Ok(_) => right = false,
             Err(fault) => right = right && fault.place == 100,
         }
@@ -54,14 +71,14 @@ fn writes(row: &Row, written: &[u8], out: &mut Vec<u8>) -> Result<bool, NoMemory
     if !known(row.form) {
         return Ok(false);
     }
-    let Ok(read) = read_value(bytes, 0, bytes.len(), row.form, -5, 0) else {
+    let Ok(read) = read_value(bytes, 0, bytes.len(), row.name, row.form, -5, 0) else {
         return Ok(false);
     };
-    if !admits(row.form, &read.value) {
+    if !admits(row.name, row.form, &read.value) {
         return Ok(false);
     }
     out.clear();
-    write_value(out, row.form, &read.value, bytes)?;
+    write_value(out, row.name, row.form, &read.value, bytes)?;
     Ok(out.as_slice() == written && size_of(row.form, &read.value) == row.size)
 }
 
@@ -131,7 +148,10 @@ fn each_other_form(rt: HostRuntime) -> Result<(), NoMemory> {
     }
     // forms that are never written
     for form in [0x11, 0x12, 0x13, 0x14] {
-        assert!(rt; !admits(form, &Value::LocalRef(1)), "form {form}");
+        assert!(rt;
+            !admits(CONST_VALUE, form, &Value::LocalRef(1)),
+            "form {form}"
+        );
     }
     assert!(rt; reads(&example(0x12, &[2, 1], Value::LocalRef(258), 0)));
     assert!(rt; !known(0x16) && !known(0x2d) && !known(0));
@@ -161,6 +181,65 @@ fn values_have_sizes(rt: HostRuntime) {
         (0x08, Value::Text(span(0, 3)), 4),
     ];
     for (form, value, size) in rows.iter() {
-        assert_eq!(rt; spelled_size(*form, value), *size);
+        assert_eq!(rt; spelled_size(CONST_VALUE, *form, value), *size);
     }
+}
+
+// The attributes whose constants have no sign, by the codes of their names (DWARF 5 section 7.5.4): ordering, byte_size, bit_size, high_pc,
+// language, visibility, inline, accessibility, calling_convention, decl_column, decl_file, decl_line, encoding, identifier_case, virtuality,
+// call_column, call_file, call_line, decimal_sign, digit_count, endianity, alignment and defaulted.
+const UNSIGNED: [u64; 23] = [
+    0x09, 0x0b, 0x0d, 0x12, 0x13, 0x17, 0x20, 0x32, 0x36, 0x39, 0x3a, 0x3b, 0x3e, 0x42, 0x4c, 0x57,
+    0x58, 0x59, 0x5e, 0x5f, 0x65, 0x88, 0x8b,
+];
+
+#[test]
+fn signs_by_names(rt: HostRuntime) -> Result<(), NoMemory> {
+    for name in UNSIGNED {
+        assert!(rt; unsigned(name), "name {name}");
+    }
+    // deleted, data_bit_offset, const_value, bit_stride and one of a vendor
+    for name in [0x8a, 0x6b, 0x1c, 0x2e, 0x2107] {
+        assert!(rt; !unsigned(name), "name {name}");
+    }
+    // decl_line fixes the sign of each data form, and bit_stride of none; below the top bit the name tells nothing
+    let eight = &[1, 2, 3, 4, 5, 6, 7, 0x88];
+    let long = 0x8807_0605_0403_0201;
+    let whole = Value::Int(Whole::unsigned(long));
+    let rows = [
+        named(0x3b, 0x0b, &[0xff], int(255), 1),
+        named(0x3b, 0x05, &[0xff, 0x80], int(0x80ff), 2),
+        named(0x3b, 0x06, &[0, 0, 0, 0x80], int(0x8000_0000), 4),
+        named(0x3b, 0x07, eight, whole, 8),
+        named(0x3b, 0x0b, &[0x7f], int(127), 1),
+        named(0x3b, 0x0d, &[0x7f], int(-1), 1),
+        named(0x2e, 0x0b, &[0xff], Value::Fixed(1, 0xff), 1),
+        named(0x2e, 0x05, &[0xff, 0x80], Value::Fixed(2, 0x80ff), 2),
+        named(
+            0x2e,
+            0x06,
+            &[0, 0, 0, 0x80],
+            Value::Fixed(4, 0x8000_0000),
+            4,
+        ),
+        named(0x2e, 0x07, eight, Value::Fixed(8, long), 8),
+        named(0x2e, 0x0b, &[0x7f], int(127), 1),
+    ];
+    let mut out = Vec::new(rt.alloc());
+    for row in &rows {
+        assert!(rt; reads(row), "name {}, form {}", row.name, row.form);
+        assert!(rt;
+            writes(row, row.bytes, &mut out)?,
+            "name {}, form {}",
+            row.name,
+            row.form
+        );
+    }
+    // under each name data1 admits the constants that its bytes spell under that name, and 256 under none
+    assert!(rt; admits(0x3b, 0x0b, &int(255)) && !admits(0x2e, 0x0b, &int(255)));
+    assert!(rt;
+        admits(0x2e, 0x0b, &Value::Fixed(1, 0xff)) && !admits(0x3b, 0x0b, &Value::Fixed(1, 0xff))
+    );
+    assert!(rt; !admits(0x3b, 0x0b, &int(256)) && !admits(0x3b, 0x0b, &int(-1)));
+    Ok(())
 }

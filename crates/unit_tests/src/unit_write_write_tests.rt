@@ -36,8 +36,8 @@ fn is_sized(column: Spec, value: &Value) -> bool
         Value::SectionRef(_) => column.form == 0x10,
         Value::Offset(_) => column.form == 0x17,
         _ => {
-            let _size = spelled_size(column.form, value);
-            column.form != 0x21 && admits(column.form, value)
+            let _size = spelled_size(column.name, column.form, value);
+            column.form != 0x21 && admits(column.name, column.form, value)
         }
     }
 }

@@ -24,10 +24,13 @@ pub mod SlotsMade
 pub mod ListSlots
 pub mod SlotSizes
 pub mod SlotLens
+pub mod NumbersSet
+pub mod MarkSums
 pub mod SlotPlaces
 pub mod SlotWalks
 pub mod SlotCounts
 pub mod SlotRows
+pub mod SlotPlacing
 pub mod Lengths
 pub mod Needs
 pub mod SlotLayouts

@@ -160,14 +160,14 @@ shortest_len ZeroEnded m bytes small p least =
 written_len : (column : Spec) (m : Meaning) (bytes : List ℕ) → IsWritten column m bytes → length bytes ≤ own_len m + 10
 written_len column m bytes (s, shortest) =
     let t = shortest.spelled in
-    shortest_len (shape_of t.form shortest.constant) m bytes t.small t.spelled (λ others small p. shortest.shortest shortest.constant others (record { form = t.form; known = t.known; small = small; spelled = p }))
+    shortest_len (shape_of t.form column.name shortest.constant) m bytes t.small t.spelled (λ others small p. shortest.shortest shortest.constant others (record { form = t.form; known = t.known; small = small; spelled = p }))
 
 -- what is no expression has at most ten bytes more than any bytes that spell it
-other_most : (column : Spec) (m : Meaning) (size code : ℕ) (constant : ℤ) (old : List ℕ) → is_expr m ≡ false → HasOwnSize column m size → SpellsValue code constant m old → size ≤ length old + 10
-other_most column m size code constant old other h s =
+other_most : (column : Spec) (m : Meaning) (size name code : ℕ) (constant : ℤ) (old : List ℕ) → is_expr m ≡ false → HasOwnSize column m size → SpellsValue name code constant m old → size ≤ length old + 10
+other_most column m size name code constant old other h s =
     let new : length h.bytes ≤ own_len (renewed h.number [] m) + 10 = written_len column (renewed h.number [] m) h.bytes h.written in
     let same : own_len (renewed h.number [] m) ≡ own_len m = renewed_len h.number [] m other in
-    let held : own_len m ≤ length old = spelled_len (shape_of s.form constant) m old s.spelled in
+    let held : own_len m ≤ length old = spelled_len (shape_of s.form name constant) m old s.spelled in
     omega (arith, h.is)
 
 -- an expression gets at most three times its bytes and ten for its length, and a reference within the unit ten
@@ -175,33 +175,33 @@ abbrev IsFewOf : Value → ℕ → Type 0
 IsFewOf v len = ((span : Span) → v ≡ value.Expr span → len ≤ 3 * span.len + 10) × ((n : ℕ) → v ≡ value.LocalRef n → len ≤ 10)
 
 -- at most three times the bytes of a value that stands in a section, and ten more, where it is written itself
-own_most : (section : List ℕ) (column : Spec) (v : Value) (len size code : ℕ) (constant : ℤ) (from to : ℕ) → IsFewOf v len → HasSize column (meant_in section v) len size → SpellsBetween (SpellsValue code constant (meant_in section v)) section from to → IsPlaced v from to → size + 3 * from ≤ 3 * to + 10
-own_most section column (value.Expr span) len size code constant from to few h spelled placed =
+own_most : (section : List ℕ) (column : Spec) (v : Value) (len size name code : ℕ) (constant : ℤ) (from to : ℕ) → IsFewOf v len → HasSize column (meant_in section v) len size → SpellsBetween (SpellsValue name code constant (meant_in section v)) section from to → IsPlaced v from to → size + 3 * from ≤ 3 * to + 10
+own_most section column (value.Expr span) len size name code constant from to few h spelled placed =
     let most : len ≤ 3 * span.len + 10 = few.0 span refl in
     let same : size ≡ len = h.1 in
-    let held : length (bytes_in section span) ≤ length (bytes_between section from to) = spelled_len (shape_of spelled.spelled.form constant) (Expression (bytes_in section span)) (bytes_between section from to) spelled.spelled.spelled in
+    let held : length (bytes_in section span) ≤ length (bytes_between section from to) = spelled_len (shape_of spelled.spelled.form name constant) (Expression (bytes_in section span)) (bytes_between section from to) spelled.spelled.spelled in
     let old : length (bytes_between section from to) ≡ to - from = length_between section from to spelled.inside in
     let end : span.at + span.len ≡ to = placed in
     let inside : to ≤ length section = spelled.inside in
     let own : length (bytes_in section span) ≡ span.len = length_part span.at span.len section (omega arith) in
     let order : from ≤ to = spelled.order in
     omega arith
-own_most section column (value.LocalRef n) len size code constant from to few h spelled placed =
+own_most section column (value.LocalRef n) len size name code constant from to few h spelled placed =
     let most : len ≤ 10 = few.1 n refl in
     let same : size ≡ len = h.1 in
     let order : from ≤ to = spelled.order in
     omega arith
-own_most section column v len size code constant from to few h spelled placed =
-    let most : size ≤ length (bytes_between section from to) + 10 = other_most column (meant_in section v) size code constant (bytes_between section from to) refl h spelled.spelled in
+own_most section column v len size name code constant from to few h spelled placed =
+    let most : size ≤ length (bytes_between section from to) + 10 = other_most column (meant_in section v) size name code constant (bytes_between section from to) refl h spelled.spelled in
     let old : length (bytes_between section from to) ≡ to - from = length_between section from to spelled.inside in
     let order : from ≤ to = spelled.order in
     omega arith
 
 -- and where a reference within the unit is written in its place
-value_most : (section : List ℕ) (head : UnitHead) (column : Spec) (v w : Value) (len size code : ℕ) (constant : ℤ) (from to : ℕ) → StandsFor head v w → IsFewOf w len → HasSize column (meant_in section w) len size → SpellsBetween (SpellsValue code constant (meant_in section v)) section from to → IsPlaced v from to → size + 3 * from ≤ 3 * to + 10
-value_most section head column v w len size code constant from to stands few h spelled placed = elim (taken_or_same head v w stands) [
+value_most : (section : List ℕ) (head : UnitHead) (column : Spec) (v w : Value) (len size name code : ℕ) (constant : ℤ) (from to : ℕ) → StandsFor head v w → IsFewOf w len → HasSize column (meant_in section w) len size → SpellsBetween (SpellsValue name code constant (meant_in section v)) section from to → IsPlaced v from to → size + 3 * from ≤ 3 * to + 10
+value_most section head column v w len size name code constant from to stands few h spelled placed = elim (taken_or_same head v w stands) [
   | inl same ↦
-      own_most section column v len size code constant from to (subst (λ (z : Value). IsFewOf z len) same few) (subst (λ (z : Value). HasSize column (meant_in section z) len size) same h) spelled placed
+      own_most section column v len size name code constant from to (subst (λ (z : Value). IsFewOf z len) same few) (subst (λ (z : Value). HasSize column (meant_in section z) len size) same h) spelled placed
   | inr (n, m, old, new) ↦
       let most : len ≤ 10 = few.1 m new in
       let is : size ≡ len = (subst (λ (z : Value). HasSize column (meant_in section z) len size) new h).1 in
@@ -221,7 +221,7 @@ values_most section head (c ∷ cs) ds [] [] lens size from to zip few p q = abs
 values_most section head (c ∷ cs) [] (v ∷ vs) (w ∷ ws) lens size from to zip few p q = absurd q
 values_most section head (c ∷ cs) ds (v ∷ vs) (w ∷ ws) [] size from to zip few p q = absurd p
 values_most section head (c ∷ cs) (d ∷ ds) (v ∷ vs) (w ∷ ws) (n ∷ lens) size from to (stands, zip) few (first, rest, has, have, sum) (next, spelled, placed, more) =
-    let here : first + 3 * from ≤ 3 * next + 10 = value_most section head c v w n first d.form d.constant from next stands (few 0 (omega arith)) has spelled placed in
+    let here : first + 3 * from ≤ 3 * next + 10 = value_most section head c v w n first d.name d.form d.constant from next stands (few 0 (omega arith)) has spelled placed in
     let others : rest + 3 * next ≤ 3 * to + 10 * length vs = values_most section head cs ds vs ws lens rest next to zip (λ k lt. few (suc k) (omega arith)) have more in
     omega (arith, sum)
 

@@ -62,7 +62,7 @@ module _ (unit : HeadAndForest) (table : Listing) (columns : List Spec) (numbers
       HasWalked unit.forest.section (declarations_of table) (entries_at unit.head) (listed_to (with_values unit.forest values) place) entries ends done now chains rest
 
   -- so what is placed ends within what the unit has at most
-  most_of : (values : List Value) (place entries ends : ℕ) (done : List Item) (now : Listed) (chains : List ℕ) (rest : List Item) (end : ℕ) → AllZip (StandsFor unit.head) values unit.forest.values → HasCome values place entries ends done now chains rest → place ≤ end_of unit.head → IsAtMost unit start now end → end ≤ start + most_bytes unit
+  pub most_of : (values : List Value) (place entries ends : ℕ) (done : List Item) (now : Listed) (chains : List ℕ) (rest : List Item) (end : ℕ) → AllZip (StandsFor unit.head) values unit.forest.values → HasCome values place entries ends done now chains rest → place ≤ end_of unit.head → IsAtMost unit start now end → end ≤ start + most_bytes unit
   most_of values place entries ends done now chains rest end taken w inside most =
       let r = walks_rise unit.forest.section (declarations_of table) now chains rest (listed_to (with_values unit.forest values) place) [] w.onward in
       let many : length unit.forest.values ≡ length values = AllZip-long (StandsFor unit.head) values unit.forest.values taken in
@@ -75,10 +75,10 @@ module _ (unit : HeadAndForest) (table : Listing) (columns : List Spec) (numbers
   placing_most items places h = most_of h.values h.place items.entries items.ends h.done h.now h.chains h.rest places.end h.taken h.walked h.inside h.most
 
   -- the walk before its first step
-  none_come : (held : IsHeldFor unit table) → HasCome held.values held.held.0 0 0 [] (nothing_from (entries_at unit.head)) [] (whole_walk unit table held).items
+  pub none_come : (held : IsHeldFor unit table) → HasCome held.values held.held.0 0 0 [] (nothing_from (entries_at unit.head)) [] (whole_walk unit table held).items
   none_come held = record { walked = (refl, refl); onward = (whole_walk unit table held).walked; entries_are = refl; ends_are = refl }
 
-  none_most : (end : ℕ) → end ≡ start + header_size unit.head.kind → IsAtMost unit start (nothing_from (entries_at unit.head)) end
+  pub none_most : (end : ℕ) → end ≡ start + header_size unit.head.kind → IsAtMost unit start (nothing_from (entries_at unit.head)) end
   none_most end end_is = omega arith
 
   pub placing_none : (places : Places) → IsWritable unit table columns numbers lens → places.start ≡ start → places.entries.items ≡ [] → places.ends.items ≡ [] → places.end ≡ start + header_size unit.head.kind → IsPlacing unit table columns numbers lens start (record { entries = 0; ends = 0 }) places
@@ -111,7 +111,7 @@ module _ (unit : HeadAndForest) (table : Listing) (columns : List Spec) (numbers
       EndIsNext unit.forest.section (declarations_of table) (entries_at unit.head) (listed_to (with_values unit.forest values) place) entries ends done now chains rest
 
   -- an entry and a code 0 keep to what they take at most
-  entry_keeps : (values : List Value) (place entries ends : ℕ) (done : List Item) (now : Listed) (chains : List ℕ) (rest : List Item) (end size : ℕ) → AllZip (StandsFor unit.head) values unit.forest.values → (n : EntryNext values place entries ends done now chains rest) → IsWritable unit table columns numbers lens → AreLensFor unit.forest lens → All (λ (number : ℕ). number < 2 ^ 32) numbers → EntrySize table columns numbers unit.forest lens entries size → IsAtMost unit start now end → IsAtMost unit start n.mid (end + size)
+  pub entry_keeps : (values : List Value) (place entries ends : ℕ) (done : List Item) (now : Listed) (chains : List ℕ) (rest : List Item) (end size : ℕ) → AllZip (StandsFor unit.head) values unit.forest.values → (n : EntryNext values place entries ends done now chains rest) → IsWritable unit table columns numbers lens → AreLensFor unit.forest lens → All (λ (number : ℕ). number < 2 ^ 32) numbers → EntrySize table columns numbers unit.forest lens entries size → IsAtMost unit start now end → IsAtMost unit start n.mid (end + size)
   entry_keeps values place entries ends done now chains rest end size taken n writable few small sized most =
       let decl : ℕ = (entry_at unit.forest.entries entries).decl in
       let same : decl ≡ n.number = ap (λ (e : Entry). e.decl) n.here in
@@ -126,7 +126,7 @@ module _ (unit : HeadAndForest) (table : Listing) (columns : List Spec) (numbers
       let listed : length n.mid.values ≡ length now.values + length n.adds.values = ap length n.adds.listed ∙ length-append now.values n.adds.values in
       omega (arith, most)
 
-  end_keeps : (values : List Value) (place entries ends : ℕ) (done : List Item) (now : Listed) (chains : List ℕ) (rest : List Item) (end : ℕ) → (n : EndNext values place entries ends done now chains rest) → IsAtMost unit start now end → IsAtMost unit start n.mid (end + 1)
+  pub end_keeps : (values : List Value) (place entries ends : ℕ) (done : List Item) (now : Listed) (chains : List ℕ) (rest : List Item) (end : ℕ) → (n : EndNext values place entries ends done now chains rest) → IsAtMost unit start now end → IsAtMost unit start n.mid (end + 1)
   end_keeps values place entries ends done now chains rest end n most =
       let up : now.place < n.mid.place = code_rises unit.forest.section 0 now.place n.mid.place n.adds.coded in
       let entered : length n.mid.entries ≡ length now.entries = ap length n.adds.entered in

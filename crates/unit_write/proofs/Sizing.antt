@@ -121,7 +121,7 @@ valued_between section small [] [] from to p = λ k d lt. absurd (omega arith)
 valued_between section small [] (v ∷ values) from to p = absurd p
 valued_between section small (c ∷ columns) [] from to p = absurd p
 valued_between section small (c ∷ columns) (v ∷ values) from to p =
-    all_cons section v values (read_in c.form c.constant section from (length section) (record { value = v; end = p.0 }) (omega arith) small (record { starts = p.1.order; inside = p.1.inside; spelled = p.1.spelled; placed = p.2 })) (valued_between section small columns values p.0 to p.3)
+    all_cons section v values (read_in c.name c.form c.constant section from (length section) (record { value = v; end = p.0 }) (omega arith) small (record { starts = p.1.order; inside = p.1.inside; spelled = p.1.spelled; placed = p.2 })) (valued_between section small columns values p.0 to p.3)
 
 -- the place after an entry whose code and values are summed
 module _ (table : Listing) (columns : List Spec) (numbers : List ℕ) (f : Arena) (lens : List ℕ) (id at : ℕ) where

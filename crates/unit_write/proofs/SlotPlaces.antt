@@ -71,6 +71,43 @@ module _ (one : OneSize) (table : Listing) (columns : List Spec) (numbers : List
       let place : y ≡ base + d + weight_to n = omega arith in
       (r.0, one_shifted base _ (λ j. weight_to (get_or counts j 0)) d y ds ys place (λ j. refl) r.1)
 
+  -- shifted places without the first one
+  rest_shifted : (weights more : ℕ → ℕ) (x y : ℕ) (fixed places : List ℕ) → ((k : ℕ) → weights (suc k) ≡ more k) → AreShifted base weights (x ∷ fixed) (y ∷ places) → AreShifted base more fixed places
+  rest_shifted weights more x y fixed places later h = record {
+    many = let many : length (x ∷ fixed) ≡ length (y ∷ places) = h.many in omega arith;
+    each = λ k lt. h.each (suc k) (omega arith) ∙ ap (λ (z : ℕ). base + get_or fixed k 0 + z) (later k);
+  }
+
+  -- so places that are shifted are those under these sizes
+  pub placed_shifted : ((id : ℕ) → id < length f.entries → (size : ℕ) × EntrySize table columns numbers f lens id size) → (id at up : ℕ) (items : List Item) (counts es ds xs ys : List ℕ) (to too : ℕ) → EndsFollow id items counts → Bare id items at es ds to → Both id counts es ds xs ys → id + length es ≡ length f.entries → up ≡ base + at + weight_to id → too ≡ base + to + weight_to (length f.entries) → Full id items up xs ys too
+  placed_shifted sized id at up [] counts [] [] [] [] to too follow p both all here end =
+      let same : weight_to id ≡ weight_to (length f.entries) = ap weight_to (let e : id ≡ length f.entries = omega arith in e) in
+      omega (arith, p, same)
+  placed_shifted sized id at up [] counts (e ∷ es) ds xs ys to too follow p both all here end = absurd p
+  placed_shifted sized id at up [] counts [] (d ∷ ds) xs ys to too follow p both all here end = absurd p
+  placed_shifted sized id at up [] counts [] [] (x ∷ xs) ys to too follow p both all here end = absurd (let many : 0 ≡ suc (length xs) = both.0.many in omega arith)
+  placed_shifted sized id at up [] counts [] [] [] (y ∷ ys) to too follow p both all here end = absurd (let many : 0 ≡ suc (length ys) = both.1.many in omega arith)
+  placed_shifted sized id at up (AnEntry k ∷ items) counts [] ds xs ys to too follow p both all here end = absurd p
+  placed_shifted sized id at up (AnEntry k ∷ items) counts (e ∷ es) ds [] ys to too follow p both all here end = absurd (let many : suc (length es) ≡ 0 = both.0.many in omega arith)
+  placed_shifted sized id at up (AnEntry k ∷ items) counts (e ∷ es) ds (x ∷ xs) ys to too follow (pe, (ps, psized, pmore)) both all here end =
+      let inside : id < length f.entries = omega arith in
+      let (qs, qsized) = sized id inside in
+      let own : qs + weight_to id ≡ ps + weight_to (suc id) = entry_weights f valued ops bare sizes lens added one table columns numbers id ps qs inside psized qsized in
+      let next : up + qs ≡ base + (at + ps) + weight_to (suc id) = omega arith in
+      let same : weight_to (id + 0) ≡ weight_to id = ap weight_to (add-zero id) in
+      let first : x ≡ base + e + weight_to (id + 0) = both.0.each 0 (omega arith) in
+      let rest = rest_shifted (λ j. weight_to (id + j)) (λ j. weight_to (suc id + j)) e x es xs (λ j. ap weight_to (let same : id + suc j ≡ suc id + j = omega arith in same)) both.0 in
+      (omega (arith, pe), (qs, qsized, placed_shifted sized (suc id) (at + ps) (up + qs) items counts es ds xs ys to too follow pmore (rest, both.1) (omega arith) next end))
+  placed_shifted sized id at up (AnEnd ∷ items) [] es ds xs ys to too follow p both all here end = absurd follow
+  placed_shifted sized id at up (AnEnd ∷ items) (n ∷ counts) es [] xs ys to too follow p both all here end = absurd p
+  placed_shifted sized id at up (AnEnd ∷ items) (n ∷ counts) es (d ∷ ds) xs [] to too follow p both all here end = absurd (let many : suc (length ds) ≡ 0 = both.1.many in omega arith)
+  placed_shifted sized id at up (AnEnd ∷ items) (n ∷ counts) es (d ∷ ds) xs (y ∷ ys) to too (count, follow) (pe, pmore) both all here end =
+      let next : up + 1 ≡ base + (at + 1) + weight_to id = omega arith in
+      let same : weight_to n ≡ weight_to id = ap weight_to count in
+      let first : y ≡ base + d + weight_to n = both.1.each 0 (omega arith) in
+      let rest = rest_shifted (λ j. weight_to (get_or (n ∷ counts) j 0)) (λ j. weight_to (get_or counts j 0)) d y ds ys (λ j. refl) both.1 in
+      (omega (arith, pe), placed_shifted sized id (at + 1) (up + 1) items counts es ds xs ys to too follow pmore (both.0, rest) all next end)
+
 -- a code takes a byte
 pub entry_some : (table : Listing) (columns : List Spec) (numbers : List ℕ) (f : Arena) (lens : List ℕ) (id size : ℕ) → EntrySize table columns numbers f lens id size → 1 ≤ size
 entry_some table columns numbers f lens id size (rest, sized, is) =

@@ -130,13 +130,13 @@ module _ (unit : HeadAndForest) (table : Listing) (columns : List Spec) (numbers
   abbrev bare : IsPlacedAt unit table columns numbers marked.lens 0 es ds marks.places.end
   bare = marked.placed
 
-  follow : EndsFollow 0 bare.whole.items counts
+  pub follow : EndsFollow 0 bare.whole.items counts
   follow = marked.entries bare.values (declarations_of table) (entries_at unit.head) bare.place bare.whole
 
-  rises : Rises 0 (0 + (entries_at unit.head - unit.head.at)) counts es ds marks.places.end
+  pub rises : Rises 0 (0 + (entries_at unit.head - unit.head.at)) counts es ds marks.places.end
   rises = places_rise (EntrySize table columns numbers unit.forest marked.lens) (entry_some table columns numbers unit.forest marked.lens) 0 (0 + (entries_at unit.head - unit.head.at)) bare.whole.items counts es ds marks.places.end follow bare.placed
 
-  all_entries : length unit.forest.entries ≡ length es
+  pub all_entries : length unit.forest.entries ≡ length es
   all_entries =
       let e : length unit.forest.entries ≡ 0 + length es = (walk_many unit.forest.section (declarations_of table) (EntrySize table columns numbers unit.forest marked.lens) 0 (0 + (entries_at unit.head - unit.head.at)) bare.whole.items es ds marks.places.end (nothing_from (entries_at unit.head)) (listed_to (with_values unit.forest bare.values) bare.place) [] [] bare.whole.walked bare.placed).0 in
       omega arith

@@ -22,13 +22,13 @@ use Rattle.unit_write.specs.inside.Marks.{EndsFollow, AreEntriesCounted}
 same_numbers : (m n : ℕ) (xs ys : List Item) → AnEntry m ∷ xs ≡ AnEntry n ∷ ys → m ≡ n
 same_numbers m n xs ys e = cc
 
-same_tails : (x y : Item) (xs ys : List Item) → x ∷ xs ≡ y ∷ ys → xs ≡ ys
+pub same_tails : (x y : Item) (xs ys : List Item) → x ∷ xs ≡ y ∷ ys → xs ≡ ys
 same_tails x y xs ys e = cc
 
-other_items : (m : ℕ) (xs ys : List Item) → AnEntry m ∷ xs ≡ AnEnd ∷ ys → ⊥
+pub other_items : (m : ℕ) (xs ys : List Item) → AnEntry m ∷ xs ≡ AnEnd ∷ ys → ⊥
 other_items m xs ys e = cc
 
-some_items : (x : Item) (xs : List Item) → x ∷ xs ≡ [] → ⊥
+pub some_items : (x : Item) (xs : List Item) → x ∷ xs ≡ [] → ⊥
 some_items x xs e = cc
 
 module _ (f : Arena) (ds : List Declared) (start p q : ℕ) (vs ws : List Value) where

@@ -1,5 +1,5 @@
 -- A unit that is written anew.
-use Rattle.std.proofs.Common.{◌≡◌, ◌≢◌, ◌≤◌, ◌<◌, ◌+◌, ◌-◌, ◌^◌, ℕ, suc, List, [], ◌∷◌, ◌++◌, length, take, drop, ◌∙◌, sym, ap, refl, subst, arith}
+use Rattle.std.proofs.Common.{◌≡◌, ◌≢◌, ◌≤◌, ◌<◌, ◌+◌, ◌-◌, ◌^◌, ℕ, List, [], ◌∷◌, ◌++◌, length, take, drop, ◌∙◌, sym, ap, refl, subst, arith}
 use Rattle.std.specs.Prelude.{map, nat_eq, true}
 use Rattle.std.specs.List.{All, AllZip}
 use Rattle.std.proofs.lemmas.List.{append_assoc, length-append, drop_at, take_all}
@@ -12,8 +12,6 @@ use Rattle.entry_arena.specs.declared.entry.Entry.{Entry}
 use Rattle.entry_arena.specs.declared.entry.ChainEnd.{ChainEnd}
 use Rattle.entry_arena.specs.Arena.{Arena, entry_at, with_values}
 use Rattle.entry_arena.specs.Trees.{listed_to, nothing_from, bytes_between}
-use Rattle.entry_arena.specs.Walks.{Item}
-use Rattle.entry_arena.specs.Walks.Item.{AnEntry, AnEnd}
 use Rattle.entry_arena.specs.Onward.{HasWalked}
 use Rattle.entry_arena.proofs.TreeLaws.{trees_are_walks}
 use Rattle.entry_read.specs.declared.head.UnitHead.{UnitHead}
@@ -26,24 +24,11 @@ use Rattle.unit_write.specs.Moved.{NewValues, IsMovedEntry, IsWritable, IsPlaced
 use Rattle.unit_write.specs.inside.Puts.{AreNew, PutsEntry, PutsItems, header_bytes}
 use Rattle.unit_write.proofs.ValueLaws.{one_size}
 use Rattle.unit_write.proofs.Placed.{one_placing}
+pub use Rattle.unit_write.proofs.Placed.{placed_order}
 use Rattle.unit_write.proofs.Anew.{IsMoved, nothing_moved, stand_anew}
 use Rattle.unit_write.proofs.HeadLaws.{header_len, some_header, is_head}
 use Rattle.unit_write.proofs.Standing.{values_counted}
 use Rattle.unit_write.proofs.TakenUnits.{have_values}
-
--- items are placed one behind the other
-pub placed_order : (Size : ℕ → ℕ → Type 0) (id at : ℕ) (items : List Item) (entries ends : List ℕ) (to : ℕ) → ArePlaced Size id items at entries ends to → at ≤ to
-placed_order Size id at [] [] [] to p = omega (arith, p)
-placed_order Size id at [] [] (y ∷ ends) to p = absurd p
-placed_order Size id at [] (x ∷ entries) ends to p = absurd p
-placed_order Size id at (AnEntry k ∷ items) [] ends to p = absurd p
-placed_order Size id at (AnEntry k ∷ items) (x ∷ entries) ends to p =
-    let more : at + p.1.0 ≤ to = placed_order Size (suc id) (at + p.1.0) items entries ends to p.1.2 in
-    omega arith
-placed_order Size id at (AnEnd ∷ items) entries [] to p = absurd p
-placed_order Size id at (AnEnd ∷ items) entries (y ∷ ends) to p =
-    let more : at + 1 ≤ to = placed_order Size id (at + 1) items entries ends to p.1 in
-    omega arith
 
 bytes_behind : (section front rest : List ℕ) → section ≡ front ++ rest → bytes_between section (length front) (length section) ≡ rest
 bytes_behind section front rest whole =

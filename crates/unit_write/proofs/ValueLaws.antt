@@ -22,6 +22,7 @@ use Rattle.form_codec.specs.Forms.{Meaning, SpellsShape, SpellsValue, SpellsShor
 use Rattle.form_codec.specs.Forms.Meaning.{Expression, InUnit, InSection, SectionPlace, Bits, Whole}
 use Rattle.form_codec.specs.declared.value.Value.{Value}
 use Rattle.form_codec.specs.declared.value.Value.TheVariants as value
+use Rattle.form_codec.specs.Signs.{is_unsigned, constant_role}
 use Rattle.form_codec.specs.Values.{meant_in}
 use Rattle.form_codec.specs.Written.{low_bytes}
 use Rattle.dw_base.specs.declared.fault.Span.{Span}
@@ -128,24 +129,32 @@ expr_has : (column : Spec) (meaning : Meaning) (len size : ℕ) → is_expr mean
 expr_has column (Expression bytes) len size expr h = h.0
 expr_has column m len size expr h = absurd (cc (expr))
 
+-- constants of fixed size don't move, whatever their sign
+pub constant_stays : (name : ℕ) → role_moves (constant_role name) ≡ false
+constant_stays name = elim (is_unsigned name) as (λ b. role_moves (if b then role.Unsigned else role.Data) ≡ false) [ true ↦ refl | false ↦ refl ]
+
 -- a reference into the section and a section offset are numbers of four bytes
-four_number : (f : Form) (c : ℤ) (m : Meaning) (bytes : List ℕ) → is_moving m ≡ true → is_local m ≡ false → SpellsShape (shape_of f c) m bytes → (r : Role) × (shape_of f c ≡ Number Four r) × (role_moves r ≡ true)
-four_number form.Ref1 c m bytes moves other p = absurd (let e : is_local m ≡ true = ap is_local p.1 in cc (e, other))
-four_number form.Ref2 c m bytes moves other p = absurd (let e : is_local m ≡ true = ap is_local p.1 in cc (e, other))
-four_number form.Ref4 c m bytes moves other p = absurd (let e : is_local m ≡ true = ap is_local p.1 in cc (e, other))
-four_number form.Ref8 c m bytes moves other p = absurd (let e : is_local m ≡ true = ap is_local p.1 in cc (e, other))
-four_number form.RefUdata c m bytes moves other p = absurd (let e : is_local m ≡ true = ap is_local p.2 in cc (e, other))
-four_number form.RefAddr c m bytes moves other p = (role.SectionRef, refl, refl)
-four_number form.SecOffset c m bytes moves other p = (role.Offset, refl, refl)
-four_number f c m bytes moves other p = absurd (let e : is_moving m ≡ false = shape_is (shape_of f c) m bytes p in cc (e, moves))
+four_number : (name : ℕ) (f : Form) (c : ℤ) (m : Meaning) (bytes : List ℕ) → is_moving m ≡ true → is_local m ≡ false → SpellsShape (shape_of f name c) m bytes → (r : Role) × (shape_of f name c ≡ Number Four r) × (role_moves r ≡ true)
+four_number name form.Ref1 c m bytes moves other p = absurd (let e : is_local m ≡ true = ap is_local p.1 in cc (e, other))
+four_number name form.Ref2 c m bytes moves other p = absurd (let e : is_local m ≡ true = ap is_local p.1 in cc (e, other))
+four_number name form.Ref4 c m bytes moves other p = absurd (let e : is_local m ≡ true = ap is_local p.1 in cc (e, other))
+four_number name form.Ref8 c m bytes moves other p = absurd (let e : is_local m ≡ true = ap is_local p.1 in cc (e, other))
+four_number name form.RefUdata c m bytes moves other p = absurd (let e : is_local m ≡ true = ap is_local p.2 in cc (e, other))
+four_number name form.RefAddr c m bytes moves other p = (role.SectionRef, refl, refl)
+four_number name form.SecOffset c m bytes moves other p = (role.Offset, refl, refl)
+four_number name form.Data1 c m bytes moves other p = absurd (let e : is_moving m ≡ false = shape_is (shape_of form.Data1 name c) m bytes p ∙ constant_stays name in cc (e, moves))
+four_number name form.Data2 c m bytes moves other p = absurd (let e : is_moving m ≡ false = shape_is (shape_of form.Data2 name c) m bytes p ∙ constant_stays name in cc (e, moves))
+four_number name form.Data4 c m bytes moves other p = absurd (let e : is_moving m ≡ false = shape_is (shape_of form.Data4 name c) m bytes p ∙ constant_stays name in cc (e, moves))
+four_number name form.Data8 c m bytes moves other p = absurd (let e : is_moving m ≡ false = shape_is (shape_of form.Data8 name c) m bytes p ∙ constant_stays name in cc (e, moves))
+four_number name f c m bytes moves other p = absurd (let e : is_moving m ≡ false = shape_is (shape_of f name c) m bytes p in cc (e, moves))
 
 -- a form of a value that doesn't move can be written
-form_written : (f : Form) (c : ℤ) → shape_moves (shape_of f c) ≡ false → is_written f ≡ true
-form_written form.Ref1 c e = absurd (cc (e))
-form_written form.Ref2 c e = absurd (cc (e))
-form_written form.Ref4 c e = absurd (cc (e))
-form_written form.Ref8 c e = absurd (cc (e))
-form_written f c e = refl
+form_written : (name : ℕ) (f : Form) (c : ℤ) → shape_moves (shape_of f name c) ≡ false → is_written f ≡ true
+form_written name form.Ref1 c e = absurd (cc (e))
+form_written name form.Ref2 c e = absurd (cc (e))
+form_written name form.Ref4 c e = absurd (cc (e))
+form_written name form.Ref8 c e = absurd (cc (e))
+form_written name f c e = refl
 
 -- the number of a value in its role is replaced
 renumbered : (r : Role) (w v : Width) (n k new : ℕ) (old made : List ℕ) (m : Meaning) → role_moves r ≡ true → renewed k old m ≡ in_role r w n → renewed new made m ≡ in_role r v new
@@ -157,40 +166,40 @@ renumbered role.Offset w v n k new old made (SectionPlace j) moves e = refl
 renumbered role.Offset w v n k new old made m moves e = absurd (cc (e))
 renumbered r w v n k new old made m moves e = absurd (cc (moves))
 
-pub admits_kept : (column : Spec) (meaning : Meaning) (len size : ℕ) → is_moving meaning ≡ false → is_expr meaning ≡ false → HasSize column meaning len size → Admits column.form meaning
+pub admits_kept : (column : Spec) (meaning : Meaning) (len size : ℕ) → is_moving meaning ≡ false → is_expr meaning ≡ false → HasSize column meaning len size → Admits column.name column.form meaning
 admits_kept column meaning len size stays other has =
     let h = own_size column meaning len size (no_local meaning stays) other has in
     let same : renewed h.number [] meaning ≡ meaning = kept h.number [] meaning stays other in
     let bytes : List ℕ = h.bytes in
-    let s : SpellsValue column.form column.constant meaning bytes = subst (λ (z : Meaning). SpellsValue column.form column.constant z bytes) same h.written.0 in
+    let s : SpellsValue column.name column.form column.constant meaning bytes = subst (λ (z : Meaning). SpellsValue column.name column.form column.constant z bytes) same h.written.0 in
     record {
       form = s.form;
       known = s.known;
-      written = form_written s.form column.constant (sym (shape_is (shape_of s.form column.constant) meaning bytes s.spelled) ∙ stays);
+      written = form_written column.name s.form column.constant (sym (shape_is (shape_of s.form column.name column.constant) meaning bytes s.spelled) ∙ stays);
       constant = column.constant;
       bytes = bytes;
       spelled = s;
     }
 
 -- the constant is that of the column where nothing else spells the value
-with_constant : (f : Form) (c d : ℤ) (m : Meaning) (bytes others : List ℕ) → SpellsShape (shape_of f c) m bytes → SpellsShape (shape_of f d) m others → SpellsShape (shape_of f d) m bytes
-with_constant form.ImplicitConst c d m bytes others p q = (p.0, q.1, q.2)
-with_constant f c d m bytes others p q = p
+with_constant : (name : ℕ) (f : Form) (c d : ℤ) (m : Meaning) (bytes others : List ℕ) → SpellsShape (shape_of f name c) m bytes → SpellsShape (shape_of f name d) m others → SpellsShape (shape_of f name d) m bytes
+with_constant name form.ImplicitConst c d m bytes others p q = (p.0, q.1, q.2)
+with_constant name f c d m bytes others p q = p
 
 -- a value is written by its shortest bytes
-written_least : (column : Spec) (meaning : Meaning) (bytes others : List ℕ) → SpellsValue column.form column.constant meaning others → SpellsShortest column.form meaning bytes → IsWritten column meaning bytes
+written_least : (column : Spec) (meaning : Meaning) (bytes others : List ℕ) → SpellsValue column.name column.form column.constant meaning others → SpellsShortest column.name column.form meaning bytes → IsWritten column meaning bytes
 written_least column meaning bytes others s shortest =
-    let shape = with_constant shortest.spelled.form shortest.constant column.constant meaning bytes others shortest.spelled.spelled (in_form column.form shortest.spelled.form column.constant meaning others shortest.spelled.known s) in
+    let shape = with_constant column.name shortest.spelled.form shortest.constant column.constant meaning bytes others shortest.spelled.spelled (in_form column.name column.form shortest.spelled.form column.constant meaning others shortest.spelled.known s) in
     (record { form = shortest.spelled.form; known = shortest.spelled.known; small = shortest.spelled.small; spelled = shape }, shortest)
 
-pub written_shortest : (column : Spec) (meaning : Meaning) (n : ℕ) (made bytes others : List ℕ) → is_moving meaning ≡ false → is_expr meaning ≡ false → SpellsValue column.form column.constant meaning others → SpellsShortest column.form meaning bytes → IsWritten column (renewed n made meaning) bytes
+pub written_shortest : (column : Spec) (meaning : Meaning) (n : ℕ) (made bytes others : List ℕ) → is_moving meaning ≡ false → is_expr meaning ≡ false → SpellsValue column.name column.form column.constant meaning others → SpellsShortest column.name column.form meaning bytes → IsWritten column (renewed n made meaning) bytes
 written_shortest column meaning n made bytes others stays other s shortest =
     subst (λ (z : Meaning). IsWritten column z bytes) (sym (kept n made meaning stays other)) (written_least column meaning bytes others s shortest)
 
-pub written_kept : (column : Spec) (meaning : Meaning) (len size n : ℕ) (made bytes : List ℕ) → is_moving meaning ≡ false → is_expr meaning ≡ false → HasSize column meaning len size → SpellsShortest column.form meaning bytes → IsWritten column (renewed n made meaning) bytes
+pub written_kept : (column : Spec) (meaning : Meaning) (len size n : ℕ) (made bytes : List ℕ) → is_moving meaning ≡ false → is_expr meaning ≡ false → HasSize column meaning len size → SpellsShortest column.name column.form meaning bytes → IsWritten column (renewed n made meaning) bytes
 written_kept column meaning len size n made bytes stays other has shortest =
     let h = own_size column meaning len size (no_local meaning stays) other has in
-    written_shortest column meaning n made bytes h.bytes stays other (subst (λ (z : Meaning). SpellsValue column.form column.constant z h.bytes) (kept h.number [] meaning stays other) h.written.0) shortest
+    written_shortest column meaning n made bytes h.bytes stays other (subst (λ (z : Meaning). SpellsValue column.name column.form column.constant z h.bytes) (kept h.number [] meaning stays other) h.written.0) shortest
 
 not_expr : (m : Meaning) → (¬ IsExpr m) → is_expr m ≡ false
 not_expr (Expression bytes) none = absurd (none tt)
@@ -208,13 +217,13 @@ shortest_have_sizes column meaning len bytes others stays none s shortest =
     })
 
 -- what is written is as long as the shortest bytes
-least_len : (column : Spec) (meaning : Meaning) (bytes others : List ℕ) → IsWritten column meaning others → SpellsShortest column.form meaning bytes → length bytes ≡ length others
+least_len : (column : Spec) (meaning : Meaning) (bytes others : List ℕ) → IsWritten column meaning others → SpellsShortest column.name column.form meaning bytes → length bytes ≡ length others
 least_len column meaning bytes others (spelled, least) shortest =
     let up : length bytes ≤ length others = shortest.shortest least.constant others least.spelled in
     let down : length others ≤ length bytes = least.shortest shortest.constant bytes shortest.spelled in
     omega arith
 
-pub size_kept : (column : Spec) (meaning : Meaning) (len size : ℕ) (bytes : List ℕ) → is_moving meaning ≡ false → is_expr meaning ≡ false → HasSize column meaning len size → SpellsShortest column.form meaning bytes → length bytes ≡ size
+pub size_kept : (column : Spec) (meaning : Meaning) (len size : ℕ) (bytes : List ℕ) → is_moving meaning ≡ false → is_expr meaning ≡ false → HasSize column meaning len size → SpellsShortest column.name column.form meaning bytes → length bytes ≡ size
 size_kept column meaning len size bytes stays other has shortest =
     let h = own_size column meaning len size (no_local meaning stays) other has in
     let same : renewed h.number [] meaning ≡ meaning = kept h.number [] meaning stays other in
@@ -223,19 +232,19 @@ size_kept column meaning len size bytes stays other has shortest =
 
 -- EXPRESSIONS
 
-form_expr : (f : Form) (c : ℤ) → shape_expr (shape_of f c) ≡ true → code_of f ≡ code_of form.Exprloc
-form_expr form.Exprloc c e = refl
-form_expr f c e = absurd (cc (e))
+form_expr : (name : ℕ) (f : Form) (c : ℤ) → shape_expr (shape_of f name c) ≡ true → code_of f ≡ code_of form.Exprloc
+form_expr name form.Exprloc c e = refl
+form_expr name f c e = absurd (cc (e))
 
 -- only DW_FORM_exprloc spells them
-pub expr_form : (code : ℕ) (c : ℤ) (made bytes : List ℕ) → SpellsValue code c (Expression made) bytes → code ≡ code_of form.Exprloc
-expr_form code c made bytes s = sym s.known ∙ form_expr s.form c (sym (expr_is (shape_of s.form c) (Expression made) bytes s.spelled))
+pub expr_form : (name code : ℕ) (c : ℤ) (made bytes : List ℕ) → SpellsValue name code c (Expression made) bytes → code ≡ code_of form.Exprloc
+expr_form name code c made bytes s = sym s.known ∙ form_expr name s.form c (sym (expr_is (shape_of s.form name c) (Expression made) bytes s.spelled))
 
 abbrev ExprShape : List ℕ → List ℕ → Type 0
 ExprShape made bytes = SpellsShape (UlebCounted content.Expression) (Expression made) bytes
 
-expr_shape : (code : ℕ) (c : ℤ) (made bytes : List ℕ) → code ≡ code_of form.Exprloc → SpellsValue code c (Expression made) bytes → ExprShape made bytes
-expr_shape code c made bytes is s = in_form code form.Exprloc c (Expression made) bytes (sym is) s
+expr_shape : (name code : ℕ) (c : ℤ) (made bytes : List ℕ) → code ≡ code_of form.Exprloc → SpellsValue name code c (Expression made) bytes → ExprShape made bytes
+expr_shape name code c made bytes is s = in_form name code form.Exprloc c (Expression made) bytes (sym is) s
 
 same_made : (a b : List ℕ) → Expression a ≡ Expression b → a ≡ b
 same_made a b e = cc
@@ -250,17 +259,17 @@ expr_least made bytes p =
     omega arith
 
 module _ (column : Spec) (made head : List ℕ) (is : column.form ≡ code_of form.Exprloc) (small : AreBytes made) (few : length made < 2 ^ 64) (short : ShortestUnsigned (length made) head) where
-  expr_spelled : SpellsValue column.form column.constant (Expression made) (head ++ made)
+  expr_spelled : SpellsValue column.name column.form column.constant (Expression made) (head ++ made)
   expr_spelled =
       let shape : ExprShape made (head ++ made) = record { head = head; body = made; count = (short.0, few); whole = refl; holds = refl } in
       record { form = form.Exprloc; known = sym is; small = bytes_append head made short.0.0.byte small; spelled = shape }
 
-  expr_shortest : SpellsShortest column.form (Expression made) (head ++ made)
+  expr_shortest : SpellsShortest column.name column.form (Expression made) (head ++ made)
   expr_shortest = record {
     constant = column.constant;
     spelled = expr_spelled;
     shortest = λ constant others s.
-        let least : least_unsigned_len (length made) + length made ≤ length others = expr_least made others (expr_shape column.form constant made others is s) in
+        let least : least_unsigned_len (length made) + length made ≤ length others = expr_least made others (expr_shape column.name column.form constant made others is s) in
         let whole : length (head ++ made) ≡ length head + length made = length-append head made in
         omega (arith, short.1);
     flag = λ flag. absurd (let no : code_of form.Exprloc ≡ code_of form.Flag = sym is ∙ flag in omega arith);
@@ -275,8 +284,8 @@ some_head n = let b = unsigned_spellings.each_len n (least_unsigned_len n) (omeg
 -- the bytes of an expression that are written have these sizes
 expr_size : (column : Spec) (made bytes : List ℕ) → IsWritten column (Expression made) bytes → length bytes ≡ least_unsigned_len (length made) + length made
 expr_size column made bytes w =
-    let is : column.form ≡ code_of form.Exprloc = expr_form column.form column.constant made bytes w.0 in
-    let shape = expr_shape column.form column.constant made bytes is w.0 in
+    let is : column.form ≡ code_of form.Exprloc = expr_form column.name column.form column.constant made bytes w.0 in
+    let shape = expr_shape column.name column.form column.constant made bytes is w.0 in
     let body : made ≡ shape.body = same_made made shape.body shape.holds in
     let few : length made < 2 ^ 64 = subst (λ (z : List ℕ). length z < 2 ^ 64) (sym body) shape.count.1 in
     let after : AreBytes shape.body = bytes_after shape.head shape.body (subst (λ (z : List ℕ). AreBytes z) shape.whole w.0.small) in
@@ -298,7 +307,7 @@ expressions_have_sizes column bytes len is = (len, (is, refl))
 -- a value that moves, and is no reference within the unit, has four bytes
 four_bytes : (column : Spec) (meaning : Meaning) (bytes : List ℕ) → is_moving meaning ≡ true → is_local meaning ≡ false → IsWritten column meaning bytes → length bytes ≡ 4
 four_bytes column meaning bytes moves other (s, least) =
-    let four = four_number s.form column.constant meaning bytes moves other s.spelled in
+    let four = four_number column.name s.form column.constant meaning bytes moves other s.spelled in
     (subst (λ (z : Shape). SpellsShape z meaning bytes) four.1 s.spelled).0
 
 pub moving_size : (column : Spec) (meaning : Meaning) (len size : ℕ) → is_moving meaning ≡ true → is_local meaning ≡ false → HasSize column meaning len size → size ≡ 4
@@ -327,8 +336,8 @@ one_size column meaning len m n h g =
 abbrev LocalShape : ℕ → List ℕ → Type 0
 LocalShape n bytes = SpellsShape (ByUleb role.LocalRef) (InUnit n) bytes
 
-local_shape : (code : ℕ) (c : ℤ) (n : ℕ) (bytes : List ℕ) → code ≡ code_of form.RefUdata → SpellsValue code c (InUnit n) bytes → LocalShape n bytes
-local_shape code c n bytes is s = in_form code form.RefUdata c (InUnit n) bytes (sym is) s
+local_shape : (name code : ℕ) (c : ℤ) (n : ℕ) (bytes : List ℕ) → code ≡ code_of form.RefUdata → SpellsValue name code c (InUnit n) bytes → LocalShape n bytes
+local_shape name code c n bytes is s = in_form name code form.RefUdata c (InUnit n) bytes (sym is) s
 
 same_local : (m n : ℕ) → InUnit m ≡ InUnit n → m ≡ n
 same_local m n e = cc
@@ -344,13 +353,13 @@ local_least n bytes p =
 pub written_local : (column : Spec) (n : ℕ) (bytes : List ℕ) → column.form ≡ code_of form.RefUdata → n < 2 ^ 64 → ShortestUnsigned n bytes → IsWritten column (InUnit n) bytes
 written_local column n bytes is few short =
     let shape : LocalShape n bytes = (n, (short.0, few), refl) in
-    let spelled : SpellsValue column.form column.constant (InUnit n) bytes = record { form = form.RefUdata; known = sym is; small = short.0.0.byte; spelled = shape } in (
+    let spelled : SpellsValue column.name column.form column.constant (InUnit n) bytes = record { form = form.RefUdata; known = sym is; small = short.0.0.byte; spelled = shape } in (
       spelled,
       record {
         constant = column.constant;
         spelled = spelled;
         shortest = λ constant others s.
-            let least : least_unsigned_len n ≤ length others = local_least n others (local_shape column.form constant n others is s) in
+            let least : least_unsigned_len n ≤ length others = local_least n others (local_shape column.name column.form constant n others is s) in
             omega (arith, short.1);
         flag = λ flag. absurd (let no : code_of form.RefUdata ≡ code_of form.Flag = sym is ∙ flag in omega arith);
       },
@@ -359,7 +368,7 @@ written_local column n bytes is few short =
 -- which are all that can be written in that form
 local_len : (column : Spec) (n : ℕ) (bytes : List ℕ) → column.form ≡ code_of form.RefUdata → IsWritten column (InUnit n) bytes → length bytes ≡ least_unsigned_len n
 local_len column n bytes is w =
-    let shape = local_shape column.form column.constant n bytes is w.0 in
+    let shape = local_shape column.name column.form column.constant n bytes is w.0 in
     let same : n ≡ shape.0 = same_local n shape.0 shape.2 in
     let few : shape.0 < 2 ^ 64 = shape.1.1 in
     let head = some_head n in
@@ -374,19 +383,19 @@ size_written column m n len size made bytes h long w = record { number = n; byte
 
 -- NUMBERS OF FOUR BYTES
 
-number_any : (f : Form) (c d : ℤ) (w : Width) (r : Role) → shape_of f c ≡ Number w r → shape_of f d ≡ Number w r
-number_any form.ImplicitConst c d w r e = absurd (cc (e))
-number_any f c d w r e = e
+number_any : (name : ℕ) (f : Form) (c d : ℤ) (w : Width) (r : Role) → shape_of f name c ≡ Number w r → shape_of f name d ≡ Number w r
+number_any name form.ImplicitConst c d w r e = absurd (cc (e))
+number_any name f c d w r e = e
 
 -- each spelling in a form of fixed size has this size
-fixed_len : (code : ℕ) (f : Form) (c d : ℤ) (w : Width) (r : Role) (m : Meaning) (bytes : List ℕ) → code_of f ≡ code → shape_of f c ≡ Number w r → SpellsValue code d m bytes → length bytes ≡ size_of w
-fixed_len code f c d w r m bytes known fixed s =
-    let p = subst (λ (z : Shape). SpellsShape z m bytes) (number_any f c d w r fixed) (in_form code f d m bytes known s) in
+fixed_len : (name code : ℕ) (f : Form) (c d : ℤ) (w : Width) (r : Role) (m : Meaning) (bytes : List ℕ) → code_of f ≡ code → shape_of f name c ≡ Number w r → SpellsValue name code d m bytes → length bytes ≡ size_of w
+fixed_len name code f c d w r m bytes known fixed s =
+    let p = subst (λ (z : Shape). SpellsShape z m bytes) (number_any name f c d w r fixed) (in_form name code f d m bytes known s) in
     p.0
 
-module _ (column : Spec) (meaning : Meaning) (n : ℕ) (f : Form) (r : Role) (known : code_of f ≡ column.form) (fixed : shape_of f column.constant ≡ Number Four r) (means : meaning ≡ in_role r Four n) (few : n < 2 ^ 32) where
+module _ (column : Spec) (meaning : Meaning) (n : ℕ) (f : Form) (r : Role) (known : code_of f ≡ column.form) (fixed : shape_of f column.name column.constant ≡ Number Four r) (means : meaning ≡ in_role r Four n) (few : n < 2 ^ 32) where
   -- a number of four bytes spells the value
-  number_spelled : SpellsValue column.form column.constant meaning (low_bytes Four n)
+  number_spelled : SpellsValue column.name column.form column.constant meaning (low_bytes Four n)
   number_spelled =
       let back : number 4 (low_bytes Four n) ≡ n = number_low Four n (omega arith) in
       let shape : SpellsShape (Number Four r) meaning (low_bytes Four n) = (low_len Four n, means ∙ ap (in_role r Four) (sym back)) in
@@ -401,7 +410,7 @@ module _ (column : Spec) (meaning : Meaning) (n : ℕ) (f : Form) (r : Role) (kn
   no_flag : role_moves r ≡ true → column.form ≢ code_of form.Flag
   no_flag moves is =
       let same : f ≡ form.Flag = code_once f form.Flag (known ∙ is) in
-      let flag : Number One role.Truth ≡ Number Four r = sym (ap (λ (z : Form). shape_of z column.constant) same) ∙ fixed in
+      let flag : Number One role.Truth ≡ Number Four r = sym (ap (λ (z : Form). shape_of z column.name column.constant) same) ∙ fixed in
       let truth : shape_moves (Number Four r) ≡ false = sym (ap shape_moves flag) in
       absurd (cc (truth, moves))
 
@@ -411,7 +420,7 @@ module _ (column : Spec) (meaning : Meaning) (n : ℕ) (f : Form) (r : Role) (kn
     record {
       constant = column.constant;
       spelled = number_spelled;
-      shortest = λ constant more t. omega (arith, fixed_len column.form f column.constant constant Four r meaning more known fixed t, low_len Four n);
+      shortest = λ constant more t. omega (arith, fixed_len column.name column.form f column.constant constant Four r meaning more known fixed t, low_len Four n);
       flag = λ is. absurd (no_flag moves is);
     },
   )
@@ -421,7 +430,7 @@ pub written_moved : (column : Spec) (meaning : Meaning) (len size n : ℕ) (made
 written_moved column meaning len size n made moves other has few =
     let h = own_size column meaning len size other (no_moving_expr meaning moves) has in
     let s = h.written.0 in
-    let four = four_number s.form column.constant (renewed h.number [] meaning) h.bytes (moving_still h.number [] meaning ∙ moves) (local_still h.number [] meaning ∙ other) s.spelled in
+    let four = four_number column.name s.form column.constant (renewed h.number [] meaning) h.bytes (moving_still h.number [] meaning ∙ moves) (local_still h.number [] meaning ∙ other) s.spelled in
     let before = subst (λ (z : Shape). SpellsShape z (renewed h.number [] meaning) h.bytes) four.1 s.spelled in
     let means : renewed n made meaning ≡ in_role four.0 Four n = renumbered four.0 Four Four (number 4 h.bytes) h.number n [] made meaning four.2 before.1 in
     written_number column (renewed n made meaning) n s.form four.0 s.known four.1 means few four.2
@@ -430,7 +439,7 @@ pub five_bytes : (n : ℕ) → n < 2 ^ 32 → least_unsigned_len n ≤ 5
 five_bytes n few = (unsigned_lens.enough n 5).0 (record { some = omega arith; below = omega arith })
 
 -- a number of four bytes that moves has the size of its form
-four_has_size : (column : Spec) (meaning : Meaning) (f : Form) (r : Role) → column.form ≡ code_of f → shape_of f column.constant ≡ Number Four r → role_moves r ≡ true → renewed 0 [] meaning ≡ in_role r Four 0 → HasOwnSize column meaning 4
+four_has_size : (column : Spec) (meaning : Meaning) (f : Form) (r : Role) → column.form ≡ code_of f → shape_of f column.name column.constant ≡ Number Four r → role_moves r ≡ true → renewed 0 [] meaning ≡ in_role r Four 0 → HasOwnSize column meaning 4
 four_has_size column meaning f r known fixed moves means = record {
   number = 0;
   bytes = low_bytes Four 0;

@@ -28,4 +28,4 @@ ExpressionsHaveSizes = (column : Spec) (bytes : List ℕ) (len : ℕ) → column
 -- a law: another value that the column's form and constant spell has the size of its shortest bytes
 abbrev pub ShortestHaveSizes : Type 0
 ShortestHaveSizes =
-    (column : Spec) (meaning : Meaning) (len : ℕ) (bytes others : List ℕ) → is_moving meaning ≡ false → (¬ IsExpr meaning) → SpellsValue column.form column.constant meaning others → SpellsShortest column.form meaning bytes → HasSize column meaning len (length bytes)
+    (column : Spec) (meaning : Meaning) (len : ℕ) (bytes others : List ℕ) → is_moving meaning ≡ false → (¬ IsExpr meaning) → SpellsValue column.name column.form column.constant meaning others → SpellsShortest column.name column.form meaning bytes → HasSize column meaning len (length bytes)

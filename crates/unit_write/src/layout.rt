@@ -8,12 +8,13 @@ ghost use Rattle.slot_layout.specs.Rows.{most_slots};
 ghost use Rattle.entry_read.specs.Slots.{operations_in};
 ghost use Rattle.unit_write.specs.Lens.{AreLensFor};
 ghost use Rattle.unit_write.specs.Most.{most_bytes};
-ghost use Rattle.unit_write.specs.Moved.{IsWritable};
+ghost use Rattle.unit_write.specs.Moved.{IsWritable, IsPlacedAt};
 ghost use Rattle.unit_write.specs.Slots.{AreSpotsOf, AreListSlots, IsLaidOut, all_spots};
 ghost use Rattle.unit_write.specs.inside.Marks.{AreLensWith};
 
 use crate::measure::{Measured, measure};
-use crate::slots::{ListSlot, Spot, measured_slots};
+use crate::places::Places;
+use crate::slots::{ListSlot, MarkedSlots, Spot, measured_slots};
 use abbrev_tables::{Spec, Table};
 use dw_base::NoMemory;
 use entry_arena::Operations;
@@ -23,7 +24,7 @@ use slot_layout::solve;
 use std::alloc::Global;
 
 // The sum of some sizes.
-fn sum_of(sizes: &[u8]) -> u32
+pub(crate) fn total_of(sizes: &[u8]) -> u32
     requires small { All (λ size. size ≤ 5) sizes.now }
     requires few { length sizes.now ≤ most_slots }
     ensures { result ≡ sum sizes.now }
@@ -47,7 +48,7 @@ fn add_sizes(lens: &mut Vec<u32>, slots: &[u32], sizes: &[u8])
     let mut slot = 0;
     for number in 0..lens.len() {
         let next = slot + slots[number] as usize;
-        lens[number] += sum_of(&sizes[slot..next]);
+        lens[number] += total_of(&sizes[slot..next]);
         slot = next;
     }
 }
@@ -55,6 +56,8 @@ fn add_sizes(lens: &mut Vec<u32>, slots: &[u32], sizes: &[u8])
 /// How the slots of a unit are laid out.
 #[derive(Drop)]
 pub struct LaidOut {
+    /// Where its entries and codes 0 stand, counted from its first byte.
+    pub places: Places,
     /// How many bytes each value gets that is an expression, with its length, or a reference within the unit; none for another value.
     pub lens: Vec<u32>,
     /// Why no slot can be smaller: the ranks of all steps, in the order of the slots, as `slot_layout` says.
@@ -86,11 +89,13 @@ pub fn lay_out(
     requires lists { (more : List Aim) × AreListSlots unit.now more lists.now }
     ensures laid_out { IfOk result (λ laid. (more : List Aim) → AreListSlots unit.now more lists.now → IsLaidOut unit.now decls.now specs.now.items numbers.now.items (operations_in unit.now.forest operations.now) more (all_spots spots.now.items lists.now) laid.lens.items laid.ranks.items) }
     ensures lens { IfOk result (λ laid. AreLensFor unit.now.forest laid.lens.items) }
+    ensures placed { IfOk result (λ laid. IsPlacedAt unit.now decls.now specs.now.items numbers.now.items laid.lens.items 0 laid.places.entries.items laid.places.ends.items laid.places.end) }
+    ensures most { IfOk result (λ laid. laid.places.end ≤ most_bytes unit.now) }
 {
     // Laws, which cost nothing: with five bytes for each slot an expression gets at most three times its bytes.
     slots_are_few();
     let measured = measure(alloc, unit, operations)?;
-    let slots = measured_slots(
+    let MarkedSlots { marks, slots } = measured_slots(
         alloc, unit, operations, decls, specs, numbers, &measured, spots, lists,
     )?;
     let layout = solve(alloc, &slots)?;
@@ -100,6 +105,7 @@ pub fn lay_out(
     } = measured;
     add_sizes(&mut lens, &counts, &layout.sizes);
     Ok(LaidOut {
+        places: marks.with_sizes(&layout.sizes),
         lens,
         ranks: layout.ranks,
     })

@@ -1,14 +1,16 @@
 // What is counted of a unit for its slots.
 ghost use Rattle.std.specs.Prelude.{◌≡◌, ◌≤◌, ◌<◌, ◌+◌, ◌^◌, ℕ, List, length, sum, IfOk};
-ghost use Rattle.slot_layout.specs.Rows.{form_of};
+ghost use Rattle.std.specs.List.{All};
+ghost use Rattle.slot_layout.specs.Rows.{form_of, most_slots};
 ghost use Rattle.expr_ops.specs.Expressions.{Operation};
 ghost use Rattle.expr_ops.specs.Slots.Aim.{Place};
 ghost use Rattle.unit_write.specs.Lens.{AreLensFor};
 ghost use Rattle.unit_write.specs.Most.{most_bytes};
 ghost use Rattle.unit_write.specs.Moved.{IsWritable};
-ghost use Rattle.unit_write.specs.inside.Marks.{slot_for, AreMeasured, AreSlotNumbers, AreSlotsCounted, AreEntriesCounted, AreMarks, HasSpot};
+ghost use Rattle.unit_write.specs.inside.Marks.{slot_for, AreMeasured, AreSlotNumbers, AreSlotsCounted, AreEntriesCounted, AreMarks, HasSpot, CountSizes, sizes_before, TakesSizes, ArePlacesWith};
 
 use crate::items::{Items, Next};
+use crate::layout::total_of;
 use crate::measure::Measured;
 use crate::parts::part;
 use crate::places::{Places, place_unit};
@@ -75,6 +77,23 @@ fn entries_before_ends(alloc: Global, forest: &Forest<'_>) -> Result<Vec<u32>, N
     Ok(counts)
 }
 
+// In place of each count of slots the sum of the sizes of so many.
+fn sum_sizes(counts: &mut Vec<u32>, sizes: &[u8])
+    requires counts { CountSizes counts.old.items sizes.now }
+    requires small { All (λ size. size ≤ 5) sizes.now }
+    requires few { length sizes.now ≤ most_slots }
+    ensures { counts.new.items ≡ sizes_before sizes.now counts.old.items }
+{
+    let mut slot = 0;
+    let mut sum = 0;
+    for number in 0..counts.len() {
+        let next = counts[number] as usize;
+        sum += total_of(&sizes[slot..next]);
+        slot = next;
+        counts[number] = sum;
+    }
+}
+
 impl Marks {
     /// Counts what is needed for the slots of a unit that is written anew with the new columns `specs` and codes `numbers` of its table.
     pub(crate) fn of(
@@ -98,6 +117,29 @@ impl Marks {
             slots_before: slots_before_entries(alloc, forest, &measured.slots)?,
             entries_before: entries_before_ends(alloc, forest)?,
         })
+    }
+
+    /// The places that all have with these sizes of the slots.
+    pub(crate) fn with_sizes(self, sizes: &[u8]) -> Places
+        requires sizes { TakesSizes self sizes.now }
+        requires small { All (λ size. size ≤ 5) sizes.now }
+        requires few { length sizes.now ≤ most_slots }
+        ensures { ArePlacesWith self sizes.now result }
+    {
+        let Marks {
+            mut places,
+            slots_before: mut before,
+            entries_before,
+        } = self;
+        sum_sizes(&mut before, sizes);
+        for id in 0..places.entries.len() {
+            places.entries[id] += before[id];
+        }
+        for number in 0..places.ends.len() {
+            places.ends[number] += before[entries_before[number] as usize];
+        }
+        places.end += u64::from(before[places.entries.len()]);
+        places
     }
 
     /// The slot, which is the one with this number, of a reference to a spot.

@@ -3,7 +3,9 @@ ghost use Rattle.std.specs.Prelude.{◌≡◌, ◌≤◌, ◌<◌, ◌+◌, ◌^
 ghost use Rattle.std.specs.List.{All};
 ghost use Rattle.leb_codec.specs.Leb.{least_unsigned_len};
 ghost use Rattle.form_codec.specs.Values.{IsValueIn};
+ghost use Rattle.abbrev_tables.specs.Listings.{Listing};
 ghost use Rattle.entry_arena.specs.Arena.{entry_at};
+ghost use Rattle.entry_read.specs.Units.{HeadAndForest};
 ghost use Rattle.fixed_width.specs.InitialLengths.{least_reserved};
 ghost use Rattle.unit_write.specs.Lens.{AreLensFor};
 ghost use Rattle.unit_write.specs.Values.{HaveSize};
@@ -36,6 +38,39 @@ pub struct Places {
     pub ends: Vec<u32>,
     /// The place after the unit's last byte.
     pub end: u64,
+}
+
+impl Places {
+    /// The places of the same unit where it begins at `start`; these are counted from its first byte. It has to end below 0xffff_fff0,
+    /// as a section of the 32-bit format does (DWARF 5 section 7.4).
+    pub fn moved_to(self, start: u64) -> Places
+        requires placed { (unit : HeadAndForest) × (table : Listing) × (columns : List Spec) × (numbers : List ℕ) × (lens : List ℕ) × IsPlacedAt unit table columns numbers lens 0 self.entries.items self.ends.items self.end }
+        requires room { start + self.end < least_reserved }
+        ensures start { result.start ≡ start }
+        ensures end { result.end ≡ start + self.end }
+        ensures placed { (unit : HeadAndForest) (table : Listing) (columns : List Spec) (numbers lens : List ℕ) → IsPlacedAt unit table columns numbers lens 0 self.entries.items self.ends.items self.end → IsPlacedAt unit table columns numbers lens start result.entries.items result.ends.items result.end }
+    {
+        let Places {
+            mut entries,
+            mut ends,
+            end,
+            ..
+        } = self;
+        // Each stands before the end, so that 32 bits hold it.
+        let shift = start as u32;
+        for id in 0..entries.len() {
+            entries[id] += shift;
+        }
+        for number in 0..ends.len() {
+            ends[number] += shift;
+        }
+        Places {
+            start,
+            entries,
+            ends,
+            end: start + end,
+        }
+    }
 }
 
 // Contracts see new codes, and how many bytes values take, as lists of numbers. Each is below 2^32.

@@ -14,7 +14,7 @@ ghost use Rattle.unit_write.specs.Lens.{AreLensFor};
 ghost use Rattle.unit_write.specs.Most.{most_bytes};
 ghost use Rattle.unit_write.specs.Moved.{IsWritable};
 ghost use Rattle.unit_write.specs.Slots.{AreSpotsOf, AreListSlots, AreSlots, list_spot, all_spots};
-ghost use Rattle.unit_write.specs.inside.Marks.{slot_for, HasSpotFor, HaveSpots, AreSlotsMade, AreMeasured, list_aim, list_count, HasListSpot};
+ghost use Rattle.unit_write.specs.inside.Marks.{slot_for, HasSpotFor, HaveSpots, AreSlotsMade, AreMeasured, AreMarks, list_aim, list_count, HasListSpot};
 
 use crate::laws::one_size;
 use crate::marks::Marks;
@@ -174,6 +174,13 @@ fn push_list_slots(slots: &mut Vec<Slot>, marks: &Marks, lists: &[ListSlot]) -> 
     Ok(())
 }
 
+/// The slots of a unit, and what was counted for them.
+#[derive(Drop)]
+pub(crate) struct MarkedSlots {
+    pub marks: Marks,
+    pub slots: Vec<Slot>,
+}
+
 // The slots of a unit whose values were measured, and behind them those of lists.
 pub(crate) fn measured_slots(
     alloc: Global,
@@ -185,7 +192,7 @@ pub(crate) fn measured_slots(
     measured: &Measured,
     spots: &Vec<Spot>,
     lists: &[ListSlot],
-) -> Result<Vec<Slot>, NoMemory>
+) -> Result<MarkedSlots, NoMemory>
     requires operations { (reach : Reach) × HasOperations reach unit.now.forest operations.now }
     requires writable { (lens : List ℕ) → AreLensFor unit.now.forest lens → IsWritable unit.now decls.now specs.now.items numbers.now.items lens }
     requires room { most_bytes unit.now < 2 ^ 31 }
@@ -193,9 +200,10 @@ pub(crate) fn measured_slots(
     requires few { length spots.now.items + length lists.now ≤ most_slots }
     requires spots { AreSpotsOf unit.now (operations_in unit.now.forest operations.now) spots.now.items }
     requires lists { (more : List Aim) × AreListSlots unit.now more lists.now }
-    ensures slots { IfOk result (λ slots. (more : List Aim) → AreListSlots unit.now more lists.now → AreSlots unit.now decls.now specs.now.items numbers.now.items (operations_in unit.now.forest operations.now) more (all_spots spots.now.items lists.now) (rows_of slots.items)) }
-    ensures inside { IfOk result (λ slots. HasRangesInside (rows_of slots.items)) }
-    ensures small { IfOk result (λ slots. HasSmallFixed (rows_of slots.items)) }
+    ensures marks { IfOk result (λ made. AreMarks unit.now decls.now specs.now.items numbers.now.items (operations_in unit.now.forest operations.now) made.marks) }
+    ensures slots { IfOk result (λ made. (more : List Aim) → AreListSlots unit.now more lists.now → AreSlots unit.now decls.now specs.now.items numbers.now.items (operations_in unit.now.forest operations.now) more (all_spots spots.now.items lists.now) (rows_of made.slots.items)) }
+    ensures inside { IfOk result (λ made. HasRangesInside (rows_of made.slots.items)) }
+    ensures small { IfOk result (λ made. HasSmallFixed (rows_of made.slots.items)) }
 {
     // Laws, which cost nothing: a value has one size, and an expression few bytes that are no slot's.
     one_size();
@@ -206,7 +214,7 @@ pub(crate) fn measured_slots(
         push_value_slots(&mut slots, unit, operations, &marks, spots, number)?;
     }
     push_list_slots(&mut slots, &marks, lists)?;
-    Ok(slots)
+    Ok(MarkedSlots { marks, slots })
 }
 
 /// The slots of a unit that is written anew with the new columns `specs` and codes `numbers` of its table `decls`: its numbers that count
@@ -240,7 +248,8 @@ pub fn slots_of(
         return Err(NoMemory);
     }
     let measured = measure(alloc, unit, operations)?;
-    measured_slots(
+    let made = measured_slots(
         alloc, unit, operations, decls, specs, numbers, &measured, spots, lists,
-    )
+    )?;
+    Ok(made.slots)
 }

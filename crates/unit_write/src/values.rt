@@ -26,7 +26,7 @@ pub(crate) fn written_size(column: Spec, value: &Value, len: u32) -> u64
         Value::LocalRef(_) => u64::from(len),
         Value::SectionRef(_) => OFFSET_SIZE,
         Value::Offset(_) => OFFSET_SIZE,
-        _ => spelled_size(column.form, value),
+        _ => spelled_size(column.name, column.form, value),
     }
 }
 
@@ -63,6 +63,6 @@ pub(crate) fn put_value(
         Value::LocalRef(_) => put_u(out, number),
         Value::SectionRef(_) => put_low(out, Width::Four, number),
         Value::Offset(_) => put_low(out, Width::Four, number),
-        _ => write_value(out, column.form, value, section),
+        _ => write_value(out, column.name, column.form, value, section),
     }
 }

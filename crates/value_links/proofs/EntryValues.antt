@@ -17,7 +17,8 @@ use Rattle.value_links.specs.Reading.{UnitRead, declarations, IsUnitRead}
 use Rattle.value_links.specs.Values.{entry_of, declaration_of, values_of, HasValueAt}
 use Rattle.value_links.proofs.Causes.{own_value, own_count}
 
-abbrev no_spec : Spec
+-- the empty column that stands for one past the end of a list
+abbrev pub no_spec : Spec
 no_spec = record { name = 0; form = 0; constant = pos 0 }
 
 module _ (unit : UnitRead) (owned : HaveOwners (declarations unit) unit.forest) (id : ℕ) (known : id < length unit.forest.entries) where

@@ -82,7 +82,7 @@ shape_small Sixteen meaning bytes small s = no_bytes (expression_bytes meaning) 
 shape_small ZeroEnded meaning bytes small s = no_bytes (expression_bytes meaning) (ap expression_bytes s.holds)
 
 -- the value of a column is spelled between two places
-column_spelled : (section : List ℕ) (cs : List Spec) (c : Spec) (ds : List Spec) (vs : List Value) (v : Value) (ws : List Value) (from to : ℕ) → length vs ≡ length cs → ValuesBetween section (cs ++ c ∷ ds) (vs ++ v ∷ ws) from to → (at : ℕ) × (next : ℕ) × SpellsBetween (SpellsValue c.form c.constant (meant_in section v)) section at next
+column_spelled : (section : List ℕ) (cs : List Spec) (c : Spec) (ds : List Spec) (vs : List Value) (v : Value) (ws : List Value) (from to : ℕ) → length vs ≡ length cs → ValuesBetween section (cs ++ c ∷ ds) (vs ++ v ∷ ws) from to → (at : ℕ) × (next : ℕ) × SpellsBetween (SpellsValue c.name c.form c.constant (meant_in section v)) section at next
 column_spelled section [] c ds [] v ws from to same (next, spelled, placed, more) = (from, next, spelled)
 column_spelled section [] c ds (x ∷ vs) v ws from to same valued = absurd (omega arith)
 column_spelled section (k ∷ cs) c ds [] v ws from to same valued = absurd (omega arith)
@@ -98,8 +98,8 @@ unit_small info abbrevs unit is id number name meaning place h =
     let by_columns : ValuesBetween section (h.earlier_columns ++ h.column ∷ h.later_columns) (values_of unit id) stands.values_at end = subst (λ (z : List Spec). ValuesBetween section z (values_of unit id) stands.values_at end) h.columns stands.valued in
     let by_values : ValuesBetween section (h.earlier_columns ++ h.column ∷ h.later_columns) (h.earlier ++ h.value ∷ h.later) stands.values_at end = subst (λ (z : List Value). ValuesBetween section (h.earlier_columns ++ h.column ∷ h.later_columns) z stands.values_at end) h.values by_columns in
     let (at, next, between) = column_spelled section h.earlier_columns h.column h.later_columns h.earlier h.value h.later stands.values_at end same by_values in
-    let spelled : SpellsValue h.column.form h.column.constant (meant_in section h.value) (bytes_between section at next) = between.spelled in
-    subst (λ (m : Meaning). AreBytes (expression_bytes m)) (sym h.meant) (shape_small (shape_of spelled.form h.column.constant) (meant_in section h.value) (bytes_between section at next) spelled.small spelled.spelled)
+    let spelled : SpellsValue h.column.name h.column.form h.column.constant (meant_in section h.value) (bytes_between section at next) = between.spelled in
+    subst (λ (m : Meaning). AreBytes (expression_bytes m)) (sym h.meant) (shape_small (shape_of spelled.form h.column.name h.column.constant) (meant_in section h.value) (bytes_between section at next) spelled.small spelled.spelled)
 
 -- VALUES
 

@@ -1,5 +1,5 @@
 -- Places of lists of a kind that slots and values name.
-use Rattle.std.proofs.Common.{◌≡◌, ◌≢◌, ◌≤◌, ◌<◌, ◌+◌, ◌^◌, ◌++◌, ◌∙◌, ℕ, List, [], ◌∷◌, length, get_or, sym, ap, subst, refl, arith}
+use Rattle.std.proofs.Common.{◌≡◌, ◌≢◌, ◌≤◌, ◌<◌, ◌+◌, ◌^◌, ◌++◌, ◌∙◌, inl, inr, ℕ, List, [], ◌∷◌, length, get_or, sym, ap, subst, refl, arith}
 use Rattle.std.specs.Prelude.{Option, Some, None, IfSome, MatchOption}
 use Rattle.std.proofs.lemmas.List.{get_or_default}
 use Rattle.dw_base.specs.declared.fault.Kind.TheVariants.{Pointer}
@@ -21,7 +21,7 @@ use Rattle.value_links.specs.ListPlaces.{IsListPlace, IsOffsetsAt, SlotNames, ba
 use Rattle.value_links.specs.Linked.{Linked, Links, IndexLinks, OffsetLinks, IsListAt}
 use Rattle.value_links.specs.Linked.Linked.{ListAt, SlotAt}
 use Rattle.value_links.specs.Lists.{LinkNames}
-use Rattle.value_links.specs.inside.Namings.{slot_number, AreJoined, FaultSlots, class_of, index_meaning, IsIndexIn, IsPlaceNamed}
+use Rattle.value_links.specs.inside.Namings.{slot_number, AreJoined, FaultSlots, class_of, index_meaning, IsIndexIn, CanName, IsPlaceNamed}
 use Rattle.value_links.specs.declared.list_places.Contributions.{Contributions}
 use Rattle.value_links.specs.declared.parts.Parts.{Parts}
 use Rattle.value_links.specs.Parts.{HoldsLists, lists_in, bases_in}
@@ -141,6 +141,10 @@ module _ (r : Linkable) (kind : ListKind) (u id name : ℕ) (section : List ℕ)
   other_nothing (value.LocIndex i) plain none other names = index_other Locations i (none section) other names
   other_nothing (value.RangeIndex i) plain none other names = index_other Ranges i (none section) other names
   other_nothing held plain none other (linked, e, named) = absurd (subst (λ (z : Linked). LinkNames r z kind other) e named)
+
+  -- so a value that can name no list of the kind names none
+  pub cannot_name : (held : Value) → ((bytes : List ℕ) → ¬ CanName kind (meant_in bytes held)) → NamesNothing held
+  cannot_name held none = other_nothing held (λ place e. none section (inl (place, ap (meant_in section) e))) (λ bytes i e. none bytes (inr (i, e)))
 
 -- WHAT IS HELD
 

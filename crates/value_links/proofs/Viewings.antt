@@ -5,9 +5,10 @@ use Rattle.std.specs.Cmp.{IsEquivalence, IsTotalOrder, unsigned_ties, tied_then}
 use Rattle.std.specs.Ordering.{nat_cmp, is_eq, ordering_then, eq_by_cmp}
 use Rattle.std.specs.List.{AllPairs, Contains, dedup}
 use Rattle.std.specs.List.Sorted.{IsPermutation, IsSorted, IsStrictlySortedBy}
-use Rattle.std.proofs.lemmas.Bool.{cases_lt, eqb-true, eq-eqb}
+use Rattle.std.proofs.lemmas.Bool.{cases_eq, cases_lt, eqb-true, eq-eqb}
 use Rattle.std.proofs.lemmas.Bool.Decides.{nat_tests}
 use Rattle.std.proofs.lemmas.Cmp.{nat_cmp_total, then_total, on_total}
+use Rattle.std.proofs.lemmas.List.Elements.{Contains-get_or}
 use Rattle.std.proofs.lemmas.List.Kept.{Contains-dedup, Contains-from_dedup, IsStrictlySortedBy-dedup}
 use Rattle.std.proofs.lemmas.List.Sorted.{Contains-permutation, IsPermutation-sym}
 use Rattle.std.proofs.lemmas.Map.Keys.{Less-from_sorted}
@@ -16,8 +17,10 @@ use Rattle.form_codec.specs.declared.value.Value.{Value}
 use Rattle.form_codec.specs.Forms.{Meaning}
 use Rattle.form_codec.specs.Forms.Meaning.{Expression, InUnit, InSection, SectionPlace, LocationList, RangeList}
 use Rattle.form_codec.specs.Values.{meant_in}
+use Rattle.abbrev_tables.specs.declared.decl.Spec.{Spec}
 use Rattle.abbrev_tables.specs.Listings.{Listing, spec_at}
 use Rattle.entry_arena.specs.Arena.{entry_at, value_at}
+use Rattle.entry_arena.specs.Trees.{declared_at}
 use Rattle.entry_read.specs.Units.{HeadAndForest, declarations_of}
 use Rattle.entry_read.specs.Places.{HaveOwners}
 use Rattle.value_links.specs.declared.parts.Parts.{Parts}
@@ -35,10 +38,10 @@ use Rattle.value_links.specs.Links.{held_at}
 use Rattle.value_links.specs.Parts.{HoldsParts}
 use Rattle.value_links.specs.inside.Checks.{table_held, name_at}
 use Rattle.value_links.specs.inside.Namings.{AreJoined}
-use Rattle.value_links.specs.inside.Views.{IsViewing, IsViewingFound, IsColumnViewing, IsSomeViewing, IsBefore, AreViewings}
+use Rattle.value_links.specs.inside.Views.{IsViewing, IsViewingFound, HaveViews, IsColumnViewing, IsEntryViewing, IsSomeViewing, IsBefore, AreViewings}
 use Rattle.value_links.proofs.HeldUnits.{unit_is, unit_owners, held_is, held_count}
 use Rattle.value_links.proofs.TabledUnits.{table_is}
-use Rattle.value_links.proofs.EntryValues.{column_of, column_stands}
+use Rattle.value_links.proofs.EntryValues.{no_spec, column_of, column_stands}
 use Rattle.value_links.proofs.LinkedOnce.{linked_once}
 use Rattle.value_links.proofs.NamingLists.{pair_is, joined_none, joined_push}
 
@@ -56,8 +59,16 @@ abbrev place_in : Linked → ℕ
 place_in (ViewsAt list n) = n
 place_in linked = 0
 
+-- of the names, that of view pairs alone has their class
+class_named : (name : ℕ) → offset_class name ≡ Views → name ≡ gnu_locviews
+class_named name e = elim (cases_eq name gnu_locviews) [
+  | inl same ↦ same
+  | inr other ↦ grind (arith, nat_tests)
+]
+
 -- view pairs that are named are all that a value of their name tells
 pub record IsToldBy (r : Linkable) (u id name : ℕ) (meaning : Meaning) (list n : ℕ) : Type 0 where
+  pub named : name ≡ gnu_locviews
   pub place : meaning ≡ SectionPlace n
   pub first : IsFirstLocated r u id list
   pub together : AreTogether r.locations list n
@@ -82,6 +93,7 @@ module _ (r : Linkable) (u id list n : ℕ) where
       let list_is : other ≡ list = sym (ap list_in e) in
       let place_is : m ≡ n = sym (ap place_in e) in
       record {
+        named = class_named name class;
         place = ap SectionPlace place_is;
         first = subst (IsFirstLocated r u id) list_is first;
         together = subst (λ (z : ℕ). AreTogether r.locations z n) list_is (subst (AreTogether r.locations other) place_is together);
@@ -148,6 +160,18 @@ module _ (file : List ℕ) (r : Linkable) (parts : Parts) (holds : HoldsParts fi
       let valued : held ≡ value_at (unit_at r u).forest.values ((entry_of (unit_at r u) id).first + k) = v ∙ ap (λ (z : HeadAndForest). value_at z.forest.values ((entry_at z.forest.entries id).first + k)) unit_same in
       subst (λ (z : ℕ). AreJoined xs ys (IsViewing r u id z (meant_in (unit_at r u).forest.section (value_at (unit_at r u).forest.values ((entry_of (unit_at r u) id).first + k))))) named
       (subst (λ (z : Value). AreJoined xs ys (IsViewing r u id name (meant_in (unit_at r u).forest.section z))) valued joined)
+
+  -- an entry names none where no column of its declaration is that of view pairs
+  pub entry_none : (id : ℕ) → id < length unit.forest.entries → (columns : List Spec) → columns ≡ (declared_at (declarations_of table) (entry_at unit.forest.entries id).decl).columns → ¬ HaveViews columns → (xs : List (ℕ × ℕ)) → AreJoined xs xs (IsEntryViewing r u id (entry_of (unit_at r u) id).count)
+  entry_none id there columns e none xs = joined_none xs (IsEntryViewing r u id (entry_of (unit_at r u) id).count) (λ y (k, below, links).
+      let own = unit_at r u in
+      let same_columns : columns ≡ (declaration_of own id).columns = e ∙ ap (λ (z : Listing). (declared_at (declarations_of z) (entry_at unit.forest.entries id).decl).columns) table_same ∙ ap (λ (z : HeadAndForest). (declared_at (declarations own) (entry_at z.forest.entries id).decl).columns) unit_same in
+      let owners : HaveOwners (declarations own) own.forest = unit_owners (debug_info file) (debug_abbrev file) r.units holds.read.units u known in
+      let counted : (entry_of own id).count ≡ length (declaration_of own id).columns = owners.counted id (subst (λ (z : HeadAndForest). id < length z.forest.entries) unit_same there) in
+      let inside : k < length (declaration_of own id).columns = subst (λ (z : ℕ). k < z) counted below in
+      let column : Spec = spec_at (declaration_of own id).columns k in
+      let told = views_told r u id y.1 y.0 column.name (meant_in own.forest.section (value_at own.forest.values ((entry_of own id).first + k))) links in
+      none (column, subst (λ (z : List Spec). Contains z column) (sym same_columns) (Contains-get_or (declaration_of own id).columns k no_spec inside), told.named))
 
 -- ALL OF THEM
 

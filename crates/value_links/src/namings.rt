@@ -1,5 +1,5 @@
 // What names lists of a kind: values of entries, and slots of contributions (DWARF 5 sections 7.5.5, 7.28 and 7.29).
-ghost use Rattle.std.specs.Prelude.{◌≡◌, ◌<◌, ◌+◌, ◌++◌, ◌∷◌, ◌^◌, ◌↔◌, ℕ, [], length, IfOk, IfErr, OnOk, IfSome, MatchOption, IsTrue};
+ghost use Rattle.std.specs.Prelude.{◌≡◌, ◌<◌, ◌+◌, ◌++◌, ◌∷◌, ◌^◌, ◌↔◌, ℕ, List, [], length, IfOk, IfErr, OnOk, IfSome, MatchOption, IsTrue};
 ghost use Rattle.std.specs.List.{All};
 ghost use Rattle.dw_base.specs.Refusals.{IsFaultOf, IsRefusedFor};
 ghost use Rattle.form_codec.specs.Forms.Meaning.{SectionPlace};
@@ -12,7 +12,7 @@ ghost use Rattle.value_links.specs.Attributes.{offset_class};
 ghost use Rattle.value_links.specs.Parts.{HoldsLists, section_held, lists_in};
 ghost use Rattle.value_links.specs.inside.Checks.{AreSomeUnits, InEach};
 ghost use Rattle.value_links.specs.inside.ListPlaces.{AreContributions};
-ghost use Rattle.value_links.specs.inside.Namings.{AreJoined, IsSlotNaming, IsPartNaming, AreSlotsFollowed, ArePartsFollowed, FaultSlots, class_of, index_meaning, IsIndexIn, ValueNames, IsPlaceNamed, IsColumnNaming, IsEntryNaming, IsUnitNaming, IsSomeNaming, AreNamings, AreInOrder};
+ghost use Rattle.value_links.specs.inside.Namings.{AreJoined, IsSlotNaming, IsPartNaming, AreSlotsFollowed, ArePartsFollowed, FaultSlots, class_of, index_meaning, IsIndexIn, CanName, ValueNames, IsPlaceNamed, IsColumnNaming, IsEntryNaming, IsUnitNaming, IsSomeNaming, AreNamings, AreInOrder};
 
 use crate::check::{column_name, table_of};
 use crate::link::{is_of_locations, is_of_ranges, slot_of, unit_of};
@@ -173,6 +173,18 @@ fn push_value(
     Ok(())
 }
 
+// Whether a value can name a list of a kind, as that of some attribute.
+fn can_name(kind: ListKind, value: &Value) -> bool
+    ensures { (section : List ℕ) → IsTrue result ↔ CanName kind (meant_in section value.now) }
+{
+    match (kind, *value) {
+        (_, Value::Offset(_)) => true,
+        (ListKind::Ranges, Value::RangeIndex(_)) => true,
+        (ListKind::Locations, Value::LocIndex(_)) => true,
+        _ => false,
+    }
+}
+
 // Appends what the values of an entry name.
 fn push_entry(
     namings: &mut Vec<Naming>,
@@ -194,8 +206,11 @@ fn push_entry(
     // Numbers of 32 bits name the values.
     let _count = forest.value_count();
     for column in 0..entry.count {
-        let name = column_name(table, entry.decl, column);
         let value = forest.value(entry.first + column);
+        if !can_name(kind, &value) {
+            continue;
+        }
+        let name = column_name(table, entry.decl, column);
         push_value(namings, parts, kind, unit, name, &value)?;
     }
     Ok(())

@@ -1,5 +1,5 @@
 // The view pairs that go with location lists, which are an extension of GNU's.
-ghost use Rattle.std.specs.Prelude.{◌≡◌, ◌≤◌, ◌<◌, ◌+◌, ◌++◌, ◌∷◌, ◌^◌, ℕ, List, [], length, map, slice_index_or, IfOk, IfErr, OnOk};
+ghost use Rattle.std.specs.Prelude.{◌≡◌, ◌≤◌, ◌<◌, ◌+◌, ◌++◌, ◌∷◌, ◌^◌, ◌↔◌, ℕ, List, [], length, map, slice_index_or, IfOk, IfErr, OnOk, IsTrue};
 ghost use Rattle.std.specs.List.{All, AllPairs};
 ghost use Rattle.dw_base.specs.Refusals.{IsFaultOf, IsRefusedFor};
 ghost use Rattle.form_codec.specs.Values.{meant_in};
@@ -17,13 +17,14 @@ ghost use Rattle.value_links.specs.World.{HoldLists, HoldViews};
 ghost use Rattle.value_links.specs.inside.Checks.{AreSomeUnits, InEach};
 ghost use Rattle.value_links.specs.inside.ListPlaces.{AreContributions};
 ghost use Rattle.value_links.specs.inside.Namings.{AreJoined};
-ghost use Rattle.value_links.specs.inside.Views.{IsViewing, IsViewingFound, IsEntryViewing, IsUnitViewing, IsSomeViewing, IsBefore, AreViewings, AreLocationsHeld, IsListFrom, HasListFrom, HaveLists, is_bounded_code, raw_pairs, pairs_from, total_for, PassesWith, turn, AreTurned, IsRunRead, IsWanted, FaultWanted, AreRunsRead};
+ghost use Rattle.value_links.specs.inside.Views.{IsViewing, IsViewingFound, HaveViews, IsEntryViewing, IsUnitViewing, IsSomeViewing, IsBefore, AreViewings, AreLocationsHeld, IsListFrom, HasListFrom, HaveLists, is_bounded_code, raw_pairs, pairs_from, total_for, PassesWith, turn, AreTurned, IsRunRead, IsWanted, FaultWanted, AreRunsRead};
 
 use crate::check::{attribute_of, table_of};
 use crate::link::unit_of;
 use crate::list_places::Contributions;
 use crate::located::viewed_list;
 use crate::parts::Parts;
+use abbrev_tables::Spec;
 use dw_base::constants::{
     DW_AT_GNU_LOCVIEWS, DW_LLE_OFFSET_PAIR, DW_LLE_START_END, DW_LLE_START_LENGTH,
     DW_LLE_STARTX_ENDX, DW_LLE_STARTX_LENGTH,
@@ -88,6 +89,15 @@ fn push_value(
     Ok(())
 }
 
+// Whether one of the columns of a declaration is that of view pairs.
+fn have_views(columns: &[Spec]) -> bool
+    ensures { IsTrue result ↔ HaveViews columns.now }
+{
+    columns
+        .iter()
+        .any(|column| column.name == DW_AT_GNU_LOCVIEWS)
+}
+
 // Appends the view pairs that the values of an entry name.
 fn push_entry(
     viewings: &mut Vec<Viewing>,
@@ -103,7 +113,12 @@ fn push_entry(
 {
     let own = unit_of(&parts.units, unit);
     let table = table_of(&parts.units, unit);
-    for column in 0..own.forest().entry(id).count {
+    let entry = own.forest().entry(id);
+    // Few declarations have such a column.
+    if !have_views(table.columns(entry.decl)) {
+        return Ok(());
+    }
+    for column in 0..entry.count {
         let (name, value) = attribute_of(own, table, id, column);
         push_value(viewings, parts, unit, id, name, &value)?;
     }

@@ -7,6 +7,7 @@ use Rattle.std.proofs.lemmas.List.Sums.{sum_by-le}
 use Rattle.std.proofs.lemmas.List.Elements.{All-from_get_or}
 use Rattle.std.proofs.lemmas.Bool.{cases_lt}
 use Rattle.std.proofs.lemmas.Bool.Decides.{nat_tests}
+use Rattle.dw_base.specs.declared.classes.Classes.{Classes}
 use Rattle.dw_base.specs.declared.fault.Reach.TheVariants.{Wide}
 use Rattle.spelled.specs.Spelled.{AreBytes}
 use Rattle.leb_codec.proofs.Lens.{unsigned_lens}
@@ -49,7 +50,7 @@ use Rattle.value_links.proofs.EntryValues.{column_of, column_numbered}
 use Rattle.same_meaning.proofs.FewPrograms.{body_short, file_short}
 use Rattle.same_meaning.proofs.ReadUnits.{unit_read, owners}
 use Rattle.unit_slots.specs.Standing.{AreValueSizes, HasStandingSlots, HasLeastStandingLayout, HaveLeastStandingLayouts}
-use Rattle.check_records.specs.Parts.{Part, AProgram, AList, AUnit, AreParts, numbers_below}
+use Rattle.check_records.specs.Parts.{Part, AProgram, AList, AUnit, AreParts, numbers_below, program_count}
 use Rattle.check_records.specs.Accepted.{SaysOf, accepting, IsAccepted, AreStandingRanks}
 use Rattle.verdict.proofs.AmongParts.{StandsAmong, among_more, among_behind, said_of}
 use Rattle.verdict.proofs.AimNumbers.{IsFitting, AreFitting, fitting_append, expression_fits, AreShort, short_flat, part_short, expressions_fit}
@@ -133,8 +134,8 @@ module _ (written : List ℕ) (valid : IsValid written Wide) (s : Reading) (read
       let numbered = column_numbered unit own are.id stands.known k are.name are.meaning are.from stands in
       let means : are.meaning ≡ meaning_at unit.forest k = column.3 ∙ ap (λ (z : ℕ). meant_in unit.forest.section (value_at unit.forest.values z)) (sym numbered) in
       let bytes : List ℕ = bytes_between unit.forest.section are.from are.to in
-      let spelled : SpellsValue stands.column.form stands.column.constant (InUnit n) bytes = subst (λ (z : Meaning). SpellsValue stands.column.form stands.column.constant z bytes) (means ∙ is) are.ends.spelled in
-      shape_narrow (shape_of spelled.form stands.column.constant) n bytes spelled.small spelled.spelled
+      let spelled : SpellsValue stands.column.name stands.column.form stands.column.constant (InUnit n) bytes = subst (λ (z : Meaning). SpellsValue stands.column.name stands.column.form stands.column.constant z bytes) (means ∙ is) are.ends.spelled in
+      shape_narrow (shape_of spelled.form stands.column.name stands.column.constant) n bytes spelled.small spelled.spelled
 
   held_fits : (k : ℕ) → k < length unit.forest.values → (bytes : List ℕ) → meaning_at unit.forest k ≡ Expression bytes → AreFitting (expression_aims (stand.slots.ops k))
   held_fits k inside bytes is =
@@ -232,23 +233,23 @@ ranks_of lines s u (OfLines runs) says = absurd says
 ranks_of lines s u (OfList potentials) says = absurd says
 ranks_of lines s u (OfLayout ranks) says = (ranks, says)
 
-ranks_for : (written certificate : List ℕ) (is : IsAccepted written certificate) (u : ℕ) → u < length is.s.links.units → (ranks : List ℕ) × AreStandingRanks AcceptsLayout is.s u ranks
-ranks_for written certificate is u known =
-    let parts : AreParts is.s is.parts = is.judged.of_file in
+ranks_for : (classes : Classes) (written certificate : List ℕ) (is : IsAccepted classes written certificate) (u : ℕ) → u < length is.s.links.units → (ranks : List ℕ) × AreStandingRanks AcceptsLayout is.s u ranks
+ranks_for classes written certificate is u known =
+    let parts : AreParts classes is.s is.parts = is.judged.of_file in
     let units : List Part = map AUnit (numbers_below (length is.s.links.units)) in
     let located : StandsAmong (AUnit u) (map (AList Locations) parts.locations ++ units) = among_behind (AUnit u) (map (AList Locations) parts.locations) units (numbered (length is.s.links.units) u known) in
     let ranged : StandsAmong (AUnit u) (map (AList Ranges) parts.ranges ++ (map (AList Locations) parts.locations ++ units)) = among_behind (AUnit u) (map (AList Ranges) parts.ranges) (map (AList Locations) parts.locations ++ units) located in
-    let all = among_behind (AUnit u) (map AProgram (numbers_below (length is.s.links.programs))) (map (AList Ranges) parts.ranges ++ (map (AList Locations) parts.locations ++ units)) ranged in
+    let all = among_behind (AUnit u) (map AProgram (numbers_below (program_count classes is.s))) (map (AList Ranges) parts.ranges ++ (map (AList Locations) parts.locations ++ units)) ranged in
     let (before, behind, split) = subst (StandsAmong (AUnit u)) (sym parts.whole) all in
     let (one, says) = said_of (SaysOf accepting (debug_line written) is.s) before behind (AUnit u) is.records (subst (λ (z : List Part). AllZip (SaysOf accepting (debug_line written) is.s) z is.records) split is.each) in
     ranks_of (debug_line written) is.s u one says
 
 -- ALL UNITS
 
-pub least_layouts : (written certificate : List ℕ) → IsValid written Wide → IsAccepted written certificate → HaveLeastStandingLayouts written
-least_layouts written certificate valid is =
+pub least_layouts : (classes : Classes) (written certificate : List ℕ) → IsValid written Wide → IsAccepted classes written certificate → HaveLeastStandingLayouts written
+least_layouts classes written certificate valid is =
     let each : (u : ℕ) → u < length is.s.links.units → HasLeastStandingLayout is.s u = λ u known.
-    let (ranks, standing) = ranks_for written certificate is u known in
+    let (ranks, standing) = ranks_for classes written certificate is u known in
     standing_least written valid is.s is.judged.read u known standing.0 standing.1 standing.2 ranks standing.3
     in
     (is.s, is.judged.read, each)

@@ -1,12 +1,13 @@
 -- No line number program of an accepted file has a shorter one in its class.
 use Rattle.std.proofs.Common.{◌≡◌, ◌≢◌, ◌≤◌, ◌<◌, ◌+◌, ◌-◌, ◌++◌, ℕ, zero, suc, List, [], ◌∷◌, length, get_or, sym, ap, refl, subst, arith, inl, inr}
-use Rattle.std.specs.Prelude.{pos, negsuc, neg_ℤ, ◌≤ℤ◌, map}
+use Rattle.std.specs.Prelude.{pos, negsuc, neg_ℤ, ◌≤ℤ◌, map, Bool, true, if◌then◌else◌}
 use Rattle.std.specs.Int.{w8, cast_signed}
 use Rattle.std.specs.List.{AllZip}
 use Rattle.std.proofs.lemmas.Bool.{cases_lt, le-ltb}
 use Rattle.std.proofs.lemmas.Int.{ints, to_z_pos}
 use Rattle.std.proofs.lemmas.List.{map-append}
 use Rattle.spelled.specs.Spelled.{AreBytes}
+use Rattle.dw_base.specs.declared.classes.Classes.{Classes}
 use Rattle.dw_base.specs.declared.record.Run.{Run}
 use Rattle.leb_codec.specs.Records.{Record, OfLines, OfList, OfLayout}
 use Rattle.line_machine.specs.declared.head.Head.{Head}
@@ -21,10 +22,11 @@ use Rattle.line_write.proofs.ReadBack.{bounds}
 use Rattle.check_lines.proofs.Least.{accepted_are_least}
 use Rattle.value_links.specs.Reading.{ProgramRead, Reading, line_heads, no_program, program_at}
 use Rattle.value_links.specs.Sections.{debug_line}
+use Rattle.written_files.specs.Kept.{HaveLeastLines}
 use Rattle.tidy_files.specs.Tidy.{IsTidy}
 use Rattle.tidy_files.specs.Tidy.Row.{AProgram as ProgramRow}
 use Rattle.check_records.specs.Accepted.{IsAccepted, SaysOf, accepting}
-use Rattle.check_records.specs.Parts.{Part, AProgram, numbers_below}
+use Rattle.check_records.specs.Parts.{Part, AProgram, numbers_below, program_count}
 use Rattle.verdict.proofs.AmongParts.{StandsAmong, among_more, said_of}
 
 -- THE RECORD OF A PROGRAM
@@ -44,10 +46,11 @@ runs_of lines s i (OfLines runs) says = (runs, says)
 runs_of lines s i (OfList potentials) says = absurd says
 runs_of lines s i (OfLayout ranks) says = absurd says
 
-runs_for : (written certificate : List ℕ) (is : IsAccepted written certificate) (i : ℕ) → i < length is.s.links.programs → (runs : List Run) × AreRunsFor AreAcceptedRuns (debug_line written) (program_at is.s.links i).head runs
-runs_for written certificate is i known =
-    let programs = map AProgram (numbers_below (length is.s.links.programs)) in
-    let there : StandsAmong (AProgram i) is.parts = subst (λ (z : List Part). StandsAmong (AProgram i) z) (sym is.judged.of_file.whole) (among_more (AProgram i) programs _ (numbered (length is.s.links.programs) i known)) in
+runs_for : (classes : Classes) (written certificate : List ℕ) (is : IsAccepted classes written certificate) → classes.lines ≡ true → (i : ℕ) → i < length is.s.links.programs → (runs : List Run) × AreRunsFor AreAcceptedRuns (debug_line written) (program_at is.s.links i).head runs
+runs_for classes written certificate is searched i known =
+    let programs = map AProgram (numbers_below (program_count classes is.s)) in
+    let count : program_count classes is.s ≡ length is.s.links.programs = ap (λ (on : Bool). if on then length is.s.links.programs else 0) searched in
+    let there : StandsAmong (AProgram i) is.parts = subst (λ (z : List Part). StandsAmong (AProgram i) z) (sym is.judged.of_file.whole) (among_more (AProgram i) programs _ (numbered (program_count classes is.s) i (omega (arith, known, count)))) in
     let one = said_of (SaysOf accepting (debug_line written) is.s) there.0 there.1 (AProgram i) is.records (subst (λ (z : List Part). AllZip (SaysOf accepting (debug_line written) is.s) z is.records) there.2 is.each) in
     runs_of (debug_line written) is.s i one.0 one.1
 
@@ -126,8 +129,8 @@ standard_base base not_other = elim (cases_lt base 13) [
 ]
 
 -- The bytes of .debug_line are below 256, as those of any file are.
-pub least_lines : (file written certificate : List ℕ) → AreBytes (debug_line written) → IsTidy file written → IsAccepted written certificate → LeastLines (debug_line written) (debug_line written)
-least_lines file written certificate small tidy is =
+least_programs : (classes : Classes) (file written certificate : List ℕ) → AreBytes (debug_line written) → IsTidy classes file written → IsAccepted classes written certificate → classes.lines ≡ true → LeastLines (debug_line written) (debug_line written)
+least_programs classes file written certificate small tidy is searched =
     let section = debug_line written in
     let programs : List ProgramRead = is.s.links.programs in
     let tiled = is.judged.read.links.programs.tiled in
@@ -135,8 +138,12 @@ least_lines file written certificate small tidy is =
     let least : (i : ℕ) → i < length programs → IsLeastProgram section section (get_or programs i no_program).head (get_or programs i no_program).head = λ i known.
     let head = (get_or programs i no_program).head in
     let stands : IsHead section head = heads_stand section programs 0 (length section) tiled i known in
-    let standard : head.opcode_base ≡ 13 = standard_base head.opcode_base (λ other. tidy ProgramRow _ (record { s = is.s; read = is.judged.read; i = i; known = known; other = other; place = refl })) in
-    let runs = runs_for written certificate is i known in
+    let standard : head.opcode_base ≡ 13 = standard_base head.opcode_base (λ other. tidy ProgramRow _ (inl (searched, record { s = is.s; read = is.judged.read; i = i; known = known; other = other; place = refl }))) in
+    let runs = runs_for classes written certificate is searched i known in
     least_program section small head stands standard runs.0 runs.1
     in
     (heads, heads, tiled, tiled, are_each (IsLeastProgram section section) programs least)
+
+-- Where the classes keep .debug_line, it is its own.
+pub least_lines : (classes : Classes) (file written certificate : List ℕ) → AreBytes (debug_line written) → IsTidy classes file written → IsAccepted classes written certificate → HaveLeastLines classes written written
+least_lines classes file written certificate small tidy is = record { least = λ searched. least_programs classes file written certificate small tidy is searched; kept = λ kept. refl }

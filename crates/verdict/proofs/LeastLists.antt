@@ -1,4 +1,4 @@
--- Where each record of a file that is tidy is accepted, no list of the file has a shorter one in its class: of a list that isn't frozen its
+-- Where each record of a file that is tidy is accepted, no list of the file has a shorter one in its class: of a list that isn't kept its
 -- record shows it, and of one that is, that no operand has a byte too many.
 use Rattle.std.proofs.Common.{◌≡◌, ◌≤◌, ◌<◌, ◌+◌, ◌⊎◌, ◌∙◌, inl, inr, ℕ, zero, suc, List, [], ◌∷◌, ◌++◌, length, map, drop, sym, ap, refl, subst, arith}
 use Rattle.std.specs.Prelude.{Some}
@@ -7,6 +7,7 @@ use Rattle.std.proofs.lemmas.Bool.{cases_lt}
 use Rattle.std.proofs.lemmas.List.{append_assoc, length-append}
 use Rattle.std.proofs.lemmas.List.Elements.{All-contains, Contains-append_left, Contains-append_right}
 use Rattle.std.proofs.lemmas.Option.{same_Some}
+use Rattle.dw_base.specs.declared.classes.Classes.{Classes}
 use Rattle.spelled.specs.Spelled.{AreBytes, Joined}
 use Rattle.leb_codec.specs.Leb.{least_unsigned_len}
 use Rattle.leb_codec.specs.Records.{Record, OfLines, OfList, OfLayout}
@@ -36,14 +37,15 @@ use Rattle.list_least.proofs.Bound.{plans_least}
 use Rattle.list_least.proofs.Shortest.{frozen_least}
 use Rattle.written_files.specs.Certificates.{IsListWithout, ArePotentialsFor}
 use Rattle.written_files.specs.Classes.{AreBare, IsLeastWritten, HaveLeastLists}
-use Rattle.value_links.specs.Lists.{IsFrozen, IsListOf}
+use Rattle.written_files.specs.Kept.{IsKept}
+use Rattle.value_links.specs.Lists.{IsListOf}
 use Rattle.value_links.specs.Reading.{Reading, of_kind, lists_of, part_at, list_at, context_at}
 use Rattle.value_links.specs.Sections.{debug_addr, debug_line, offset_named, lists_name}
 use Rattle.value_links.proofs.ListMeanings.{owner_once}
 use Rattle.tidy_numbers.specs.LongLists.{IsLongOperandOf, AreLongOperandsOf}
 use Rattle.tidy_files.specs.Tidy.{IsTidy, ANumber}
 use Rattle.check_records.specs.Accepted.{SaysOf, accepting, IsAccepted}
-use Rattle.check_records.specs.Parts.{Part, AList, AProgram, AUnit, numbers_below, AreUnfrozen, AreParts}
+use Rattle.check_records.specs.Parts.{Part, AList, AProgram, AUnit, numbers_below, AreSearched, AreParts, program_count}
 use Rattle.check_records.proofs.BareBytes.{behind_code, onward, parted_at, in_section}
 
 -- ---- operands without a byte too many
@@ -179,8 +181,8 @@ without_bare : (kind : ListKind) (entries : List Entry) (bytes bare : List ℕ) 
 without_bare Ranges entries bytes bare (spelled, same) = (same, subst (λ (z : List ℕ). SpellsList Ranges entries z) same spelled)
 without_bare Locations entries bytes bare (locations, same, apart) = ((locations, apart), subst (λ (z : List Entry). SpellsList Locations z bare) same (apart_bare locations bytes bare apart))
 
-live_written : (s : Reading) (kind : ListKind) (k : ℕ) (potentials : List ℕ) → AreBytes s.links.addresses → (IsFrozen s.links kind (list_at (lists_of s kind) k) → ⊥) → ArePotentialsFor AcceptsList kind s k potentials → IsLeastWritten kind s s k
-live_written s kind k potentials small free is =
+live_written : (classes : Classes) (s : Reading) (kind : ListKind) (k : ℕ) (potentials : List ℕ) → AreBytes s.links.addresses → (IsKept classes s.links kind (list_at (lists_of s kind) k) → ⊥) → ArePotentialsFor AcceptsList kind s k potentials → IsLeastWritten classes kind s s k
+live_written classes s kind k potentials small free is =
     let list = list_at (lists_of s kind) k in
     let addresses = s.links.addresses in
     let stands = is.stands in
@@ -199,14 +201,14 @@ live_written s kind k potentials small free is =
             let given : Give addresses (context_at s.links u) entries is.bounds = subst (λ (z : List Entry). Give addresses (context_at s.links u) z is.bounds) says (subst (λ (z : ℕ). Give addresses (context_at s.links z) is.entries is.bounds) owners is.gives) in
             let walks : is.bounds ≡ bounds = one_walk addresses (context_at s.links u) entries is.bounds bounds given gives in
             subst (λ (z : List Bounds). IsLeastList kind addresses (context_at s.links u) z is.bare) walks (subst (λ (z : ℕ). IsLeastList kind addresses (context_at s.links z) is.bounds is.bare) owners least);
-        frozen = λ kept. absurd (free kept);
+        kept = λ kept. absurd (free kept);
       };
     }
 
 -- ---- a list that has no record
 
-frozen_written : (s : Reading) (kind : ListKind) (k : ℕ) → ((IsFrozen s.links kind (list_at (lists_of s kind) k) → ⊥) → ⊥) → IsListOf kind (of_kind s.links kind).section (part_at (of_kind s.links kind) (list_at (lists_of s kind) k).part) (list_at (lists_of s kind) k).at (list_at (lists_of s kind) k).raws → (IsFrozen s.links kind (list_at (lists_of s kind) k) → AreShort kind (of_kind s.links kind).section (list_at (lists_of s kind) k).raws) → IsLeastWritten kind s s k
-frozen_written s kind k kept read short =
+kept_written : (classes : Classes) (s : Reading) (kind : ListKind) (k : ℕ) → ((IsKept classes s.links kind (list_at (lists_of s kind) k) → ⊥) → ⊥) → IsListOf kind (of_kind s.links kind).section (part_at (of_kind s.links kind) (list_at (lists_of s kind) k).part) (list_at (lists_of s kind) k).at (list_at (lists_of s kind) k).raws → (IsKept classes s.links kind (list_at (lists_of s kind) k) → AreShort kind (of_kind s.links kind).section (list_at (lists_of s kind) k).raws) → IsLeastWritten classes kind s s k
+kept_written classes s kind k kept read short =
     let list = list_at (lists_of s kind) k in
     let stands = list_short kind (of_kind s.links kind).section (part_at (of_kind s.links kind) list.part) list.at list.raws read in
     record {
@@ -217,7 +219,7 @@ frozen_written s kind k kept read short =
       without = stands.without;
       least = record {
         live = λ thawed u entries bounds owner said gives. absurd (kept thawed);
-        frozen = λ frozen entries said. frozen_least kind entries stands.bare (stands.shortest (short frozen) entries said);
+        kept = λ still entries said. frozen_least kind entries stands.bare (stands.shortest (short still) entries said);
       };
     }
 
@@ -260,23 +262,23 @@ locations_there programs ranges locations units part has =
     Contains-append_right programs (ranges ++ (locations ++ units)) part (Contains-append_right ranges (locations ++ units) part (Contains-append_left locations units part has))
 
 -- the numbers of the lists that have records
-record HaveRecords (kind : ListKind) (s : Reading) (parts : List Part) : Type 0 where
+record HaveRecords (classes : Classes) (kind : ListKind) (s : Reading) (parts : List Part) : Type 0 where
   pub numbers : List ℕ
-  pub unfrozen : AreUnfrozen kind s numbers
+  pub searched : AreSearched classes kind s numbers
   pub named : (k : ℕ) → Contains numbers k → Contains parts (AList kind k)
 
-numbers_of : (s : Reading) (parts : List Part) → AreParts s parts → (kind : ListKind) → HaveRecords kind s parts
-numbers_of s parts are Ranges = record {
+numbers_of : (classes : Classes) (s : Reading) (parts : List Part) → AreParts classes s parts → (kind : ListKind) → HaveRecords classes kind s parts
+numbers_of classes s parts are Ranges = record {
   numbers = are.ranges;
-  unfrozen = are.unfrozen_ranges;
+  searched = are.searched_ranges;
   named = λ k has. subst (λ (z : List Part). Contains z (AList Ranges k)) (sym are.whole)
-      (ranges_there (map AProgram (numbers_below (length s.links.programs))) (map (AList Ranges) are.ranges) (map (AList Locations) are.locations) (map AUnit (numbers_below (length s.links.units))) (AList Ranges k) (all_named (AList Ranges) are.ranges k has));
+      (ranges_there (map AProgram (numbers_below (program_count classes s))) (map (AList Ranges) are.ranges) (map (AList Locations) are.locations) (map AUnit (numbers_below (length s.links.units))) (AList Ranges k) (all_named (AList Ranges) are.ranges k has));
 }
-numbers_of s parts are Locations = record {
+numbers_of classes s parts are Locations = record {
   numbers = are.locations;
-  unfrozen = are.unfrozen_locations;
+  searched = are.searched_locations;
   named = λ k has. subst (λ (z : List Part). Contains z (AList Locations k)) (sym are.whole)
-      (locations_there (map AProgram (numbers_below (length s.links.programs))) (map (AList Ranges) are.ranges) (map (AList Locations) are.locations) (map AUnit (numbers_below (length s.links.units))) (AList Locations k) (all_named (AList Locations) are.locations k has));
+      (locations_there (map AProgram (numbers_below (program_count classes s))) (map (AList Ranges) are.ranges) (map (AList Locations) are.locations) (map AUnit (numbers_below (length s.links.units))) (AList Locations k) (all_named (AList Locations) are.locations k has));
 }
 
 zipped : {A B : Type 0} (R : A → B → Type 0) (xs : List A) (ys : List B) (x : A) → AllZip R xs ys → Contains xs x → (y : B) × R x y
@@ -293,22 +295,22 @@ list_record lines s kind k (OfLayout ranks) says = absurd says
 -- ---- all lists
 
 -- The addresses are bytes, as those of each file that is read are.
-pub least_lists : (file written certificate : List ℕ) → AreBytes (debug_addr written) → IsTidy file written → IsAccepted written certificate → HaveLeastLists written written
-least_lists file written certificate small tidy is = (is.s, is.s, is.judged.read, is.judged.read, each)
+pub least_lists : (classes : Classes) (file written certificate : List ℕ) → AreBytes (debug_addr written) → IsTidy classes file written → IsAccepted classes written certificate → HaveLeastLists classes written written
+least_lists classes file written certificate small tidy is = (is.s, is.s, is.judged.read, is.judged.read, each)
   where
-    short : (kind : ListKind) (k : ℕ) → k < length (lists_of is.s kind) → IsFrozen is.s.links kind (list_at (lists_of is.s kind) k) → AreShort kind (of_kind is.s.links kind).section (list_at (lists_of is.s kind) k).raws
-    short kind k inside frozen raw there by known inner long =
+    short : (kind : ListKind) (k : ℕ) → k < length (lists_of is.s kind) → IsKept classes is.s.links kind (list_at (lists_of is.s kind) k) → AreShort kind (of_kind is.s.links kind).section (list_at (lists_of is.s kind) k).raws
+    short kind k inside kept raw there by known inner long =
         let place : ℕ = raw.at + 1 + inner in
         tidy ANumber (offset_named written (lists_name kind) + place)
-        (is.s, is.judged.read, inr (inr (kind, (place, inl (k, inside, inl (frozen, (raw, there, record { kind = by; known = known; inner = inner; holds = long; place = refl }))), refl))))
+        (is.s, is.judged.read, inr (inr (kind, (place, inl (k, inside, inl (kept, (raw, there, record { kind = by; known = known; inner = inner; holds = long; place = refl }))), refl))))
 
-    each : (kind : ListKind) (k : ℕ) → k < length (lists_of is.s kind) → IsLeastWritten kind is.s is.s k
+    each : (kind : ListKind) (k : ℕ) → k < length (lists_of is.s kind) → IsLeastWritten classes kind is.s is.s k
     each kind k inside =
-        let those = numbers_of is.s is.parts is.judged.of_file kind in
+        let those = numbers_of classes is.s is.parts is.judged.of_file kind in
         elim (among k those.numbers) [
           | inl has ↦
               let (one, says) = zipped (SaysOf accepting (debug_line written) is.s) is.parts is.records (AList kind k) is.each (those.named k has) in
               let (potentials, accepted) = list_record (debug_line written) is.s kind k one says in
-              live_written is.s kind k potentials (subst (λ (z : List ℕ). AreBytes z) (sym is.judged.read.links.addresses) small) (All-contains (λ (j : ℕ). (j < length (lists_of is.s kind)) × (IsFrozen is.s.links kind (list_at (lists_of is.s kind) j) → ⊥)) those.numbers k those.unfrozen.those has).1 accepted
-          | inr none ↦ frozen_written is.s kind k (λ free. none (those.unfrozen.all k inside free)) ((is.judged.read.lists kind).each k inside).read (short kind k inside)
+              live_written classes is.s kind k potentials (subst (λ (z : List ℕ). AreBytes z) (sym is.judged.read.links.addresses) small) (All-contains (λ (j : ℕ). (j < length (lists_of is.s kind)) × (IsKept classes is.s.links kind (list_at (lists_of is.s kind) j) → ⊥)) those.numbers k those.searched.those has).1 accepted
+          | inr none ↦ kept_written classes is.s kind k (λ free. none (those.searched.all k inside free)) ((is.judged.read.lists kind).each k inside).read (short kind k inside)
         ]

@@ -2,6 +2,7 @@
 use Rattle.std.proofs.Common.{◌≡◌, ◌∙◌, ◌∷◌, inr, true, false, ℕ, List, [], length, sym, ap, subst}
 use Rattle.std.specs.Prelude.{◌↔◌, Option, Some, None, Result, Ok, Err, IfOk, IfSome, IsNone, is_some}
 use Rattle.std.specs.List.{AllZip}
+use Rattle.dw_base.specs.declared.classes.Classes.{Classes}
 use Rattle.dw_base.specs.declared.fault.Reach.TheVariants.{Narrow, Wide}
 use Rattle.leb_codec.specs.Records.{Record, OfLines, OfList, OfLayout}
 use Rattle.value_links.specs.Faults.{IsValid}
@@ -29,8 +30,8 @@ all_for judges lines s (part ∷ parts) [] says = absurd says
 all_for judges lines s (part ∷ parts) (one ∷ records) (here, rest) = (says_for judges lines s part one here, all_for judges lines s parts records rest)
 
 -- a certificate that is accepted has the records of the file's parts
-pub has_records : (written certificate : List ℕ) → IsAccepted written certificate → HasRecords written certificate
-has_records written certificate accepted = record {
+pub has_records : (classes : Classes) (written certificate : List ℕ) → IsAccepted classes written certificate → HasRecords classes written certificate
+has_records classes written certificate accepted = record {
   s = accepted.s;
   parts = accepted.parts;
   records = accepted.records;
@@ -39,20 +40,20 @@ has_records written certificate accepted = record {
 }
 
 -- and is a record file
-pub record_file : (written certificate : List ℕ) → IsAccepted written certificate → IsRecordFile certificate
-record_file written certificate accepted = (accepted.records, accepted.judged.spelled)
+pub record_file : (classes : Classes) (written certificate : List ℕ) → IsAccepted classes written certificate → IsRecordFile classes certificate
+record_file classes written certificate accepted = (accepted.records, accepted.judged.spelled)
 
 -- A record that is refused is that of a program, a list or a unit.
-named_first : (file written certificate : List ℕ) (s : Reading) (part : Part) (before n : ℕ) (why : Reason) → IsNamedBy s part before n why → IsRightButForRecords file written certificate → IsFirstRefused written certificate why → IsFirstReason file written certificate why
-named_first file written certificate s (AProgram i) before n why is right refused =
-    subst (λ (z : Reason). IsFirstReason file written certificate z) (sym is) (right, subst (IsFirstRefused written certificate) is refused)
-named_first file written certificate s (AList kind k) before n why is right refused =
-    subst (λ (z : Reason). IsFirstReason file written certificate z) (sym is) (right, subst (IsFirstRefused written certificate) is refused)
-named_first file written certificate s (AUnit u) before n why is right refused =
-    subst (λ (z : Reason). IsFirstReason file written certificate z) (sym is) (right, subst (IsFirstRefused written certificate) is refused)
+named_first : (classes : Classes) (file written certificate : List ℕ) (s : Reading) (part : Part) (before n : ℕ) (why : Reason) → IsNamedBy classes s part before n why → IsRightButForRecords classes file written certificate → IsFirstRefused classes written certificate why → IsFirstReason classes file written certificate why
+named_first classes file written certificate s (AProgram i) before n why is right refused =
+    subst (λ (z : Reason). IsFirstReason classes file written certificate z) (sym is) (right, subst (IsFirstRefused classes written certificate) is refused)
+named_first classes file written certificate s (AList kind k) before n why is right refused =
+    subst (λ (z : Reason). IsFirstReason classes file written certificate z) (sym is) (right, subst (IsFirstRefused classes written certificate) is refused)
+named_first classes file written certificate s (AUnit u) before n why is right refused =
+    subst (λ (z : Reason). IsFirstReason classes file written certificate z) (sym is) (right, subst (IsFirstRefused classes written certificate) is refused)
 
-pub refused_first : (file written certificate : List ℕ) (why : Reason) → IsRightButForRecords file written certificate → IsFirstRefused written certificate why → IsFirstReason file written certificate why
-refused_first file written certificate why right refused = named_first file written certificate refused.s refused.part (length refused.parts_before) refused.n why refused.named right refused
+pub refused_first : (classes : Classes) (file written certificate : List ℕ) (why : Reason) → IsRightButForRecords classes file written certificate → IsFirstRefused classes written certificate why → IsFirstReason classes file written certificate why
+refused_first classes file written certificate why right refused = named_first classes file written certificate refused.s refused.part (length refused.parts_before) refused.n why refused.named right refused
 
 -- WHERE A STEP NAMES SOMETHING
 
@@ -68,45 +69,45 @@ when_none P found exactly is = exactly.0 (ap is_some is)
 when_some : {T : Type 0} (P : T → Type 0) (found : Option T) (one : T) → IfSome found P → found ≡ Some one → P one
 when_some P found one named is = subst (λ (o : Option _). IfSome o P) is named
 
-module _ (file written certificate : List ℕ) where
+module _ (classes : Classes) (file written certificate : List ℕ) where
   -- a reason that is named isn't acceptance
   abbrev IsRefused : Type 0
-  IsRefused = (true ≡ false) ↔ Accepts file written certificate
+  IsRefused = (true ≡ false) ↔ Accepts classes file written certificate
 
-  refused : (Accepts file written certificate → ⊥) → IsRefused
+  refused : (Accepts classes file written certificate → ⊥) → IsRefused
   refused never = (λ none. absurd (cc (none)), λ accepts. absurd (never accepts))
 
-  pub broken_refused : (found : Option ℕ) (place : ℕ) → (IsNone found ↔ IsRecordFile certificate) → found ≡ Some place → IsRefused
-  broken_refused found place exactly is = refused (λ accepts. not_none (IsRecordFile certificate) found place exactly is (record_file written certificate accepts.accepted))
+  pub broken_refused : (found : Option ℕ) (place : ℕ) → (IsNone found ↔ IsRecordFile classes certificate) → found ≡ Some place → IsRefused
+  broken_refused found place exactly is = refused (λ accepts. not_none (IsRecordFile classes certificate) found place exactly is (record_file classes written certificate accepts.accepted))
 
-  pub stray_refused : (found : Option ℕ) (place : ℕ) → (IsNone found ↔ HasRecords written certificate) → found ≡ Some place → IsRefused
-  stray_refused found place exactly is = refused (λ accepts. not_none (HasRecords written certificate) found place exactly is (has_records written certificate accepts.accepted))
+  pub stray_refused : (found : Option ℕ) (place : ℕ) → (IsNone found ↔ HasRecords classes written certificate) → found ≡ Some place → IsRefused
+  stray_refused found place exactly is = refused (λ accepts. not_none (HasRecords classes written certificate) found place exactly is (has_records classes written certificate accepts.accepted))
 
   -- THE STEPS BEFORE THAT OF RECORDS
 
-  module _ (broken : Option ℕ) (is_whole : IsNone broken ↔ IsRecordFile certificate) (not_broken : broken ≡ None) (other : Option Reason) (is_same : IsNone other ↔ Same file written) (no_other : other ≡ None) (untidy : Option ℕ) (is_tidy : IsNone untidy ↔ IsTidy file written) (none_untidy : untidy ≡ None) where
-    pub right_so_far : IsRightButForRecords file written certificate
+  module _ (broken : Option ℕ) (is_whole : IsNone broken ↔ IsRecordFile classes certificate) (not_broken : broken ≡ None) (other : Option Reason) (is_same : IsNone other ↔ Same file written) (no_other : other ≡ None) (untidy : Option ℕ) (is_tidy : IsNone untidy ↔ IsTidy classes file written) (none_untidy : untidy ≡ None) where
+    pub right_so_far : IsRightButForRecords classes file written certificate
     right_so_far = record {
-      whole = when_none (IsRecordFile certificate) broken is_whole not_broken;
+      whole = when_none (IsRecordFile classes certificate) broken is_whole not_broken;
       same = when_none (Same file written) other is_same no_other;
-      tidy = when_none (IsTidy file written) untidy is_tidy none_untidy;
+      tidy = when_none (IsTidy classes file written) untidy is_tidy none_untidy;
     }
 
-    pub stray_first : (found : Option ℕ) (place : ℕ) → IfSome found (IsStray written certificate) → found ≡ Some place → IsFirstReason file written certificate (reason.Broken place)
-    stray_first found place named is = inr (right_so_far, when_some (IsStray written certificate) found place named is)
+    pub stray_first : (found : Option ℕ) (place : ℕ) → IfSome found (IsStray classes written certificate) → found ≡ Some place → IsFirstReason classes file written certificate (reason.Broken place)
+    stray_first found place named is = inr (right_so_far, when_some (IsStray classes written certificate) found place named is)
 
-    pub all_accepted : {E : Type 0} → IsValid file Narrow → IsValid written Wide → (result : Result (Option Reason) E) → IfOk result (λ why. IsNone why ↔ IsAccepted written certificate) → IfOk result (λ why. IsNone why ↔ Accepts file written certificate)
+    pub all_accepted : {E : Type 0} → IsValid file Narrow → IsValid written Wide → (result : Result (Option Reason) E) → IfOk result (λ why. IsNone why ↔ IsAccepted classes written certificate) → IfOk result (λ why. IsNone why ↔ Accepts classes file written certificate)
     all_accepted valid still (Ok why) exactly =
         (λ none. record { valid = valid; still_valid = still; same = right_so_far.same; tidy = right_so_far.tidy; accepted = exactly.0 none }, λ accepts. exactly.1 accepts.accepted)
     all_accepted valid still (Err e) exactly = tt
 
-    pub all_first : {E : Type 0} → (result : Result (Option Reason) E) → IfOk result (λ why. IfSome why (IsFirstRefused written certificate)) → IfOk result (λ why. IfSome why (IsFirstReason file written certificate))
+    pub all_first : {E : Type 0} → (result : Result (Option Reason) E) → IfOk result (λ why. IfSome why (IsFirstRefused classes written certificate)) → IfOk result (λ why. IfSome why (IsFirstReason classes file written certificate))
     all_first (Ok None) named = tt
-    all_first (Ok (Some why)) named = refused_first file written certificate why right_so_far named
+    all_first (Ok (Some why)) named = refused_first classes file written certificate why right_so_far named
     all_first (Err e) named = tt
 
     -- WHAT ACCEPTANCE SHOWS
 
-    pub all_least : {E : Type 0} (Shown : Type 0) → (result : Result (Option Reason) E) → IfOk result (λ why. IsNone why ↔ IsAccepted written certificate) → (IsTidy file written → IsAccepted written certificate → Shown) → IfOk result (λ why. IsNone why → Shown)
+    pub all_least : {E : Type 0} (Shown : Type 0) → (result : Result (Option Reason) E) → IfOk result (λ why. IsNone why ↔ IsAccepted classes written certificate) → (IsTidy classes file written → IsAccepted classes written certificate → Shown) → IfOk result (λ why. IsNone why → Shown)
     all_least Shown (Ok why) exactly shows = λ none. shows right_so_far.tidy (exactly.0 none)
     all_least Shown (Err e) exactly shows = tt

@@ -24,7 +24,7 @@ no_spec = record { name = 0; form = 0; constant = pos 0 }
 
 -- some bytes of the column's form spell the value
 abbrev pub IsSpelledBy : List ℕ → Spec → Value → Type 0
-IsSpelledBy section c v = (bytes : List ℕ) × SpellsValue c.form c.constant (meant_in section v) bytes
+IsSpelledBy section c v = (bytes : List ℕ) × SpellsValue c.name c.form c.constant (meant_in section v) bytes
 
 -- so the form of each column among values that stand one after the other
 pub spelled_between : (section : List ℕ) (columns : List Spec) (values : List Value) (from to k : ℕ) → ValuesBetween section columns values from to → k < length columns → IsSpelledBy section (spec_at columns k) (value_at values k)
@@ -34,7 +34,7 @@ spelled_between section (c ∷ cs) (v ∷ vs) from to zero (next, here, placed, 
 spelled_between section (c ∷ cs) (v ∷ vs) from to (suc k) (next, here, placed, rest) inside = spelled_between section cs vs next to k rest (omega (arith, inside))
 
 -- and the form of each column of an entry
-pub column_spelled : (info abbrevs : List ℕ) (unit : UnitRead) → IsUnitRead info abbrevs unit → HaveOwners (declarations unit) unit.forest → (id k : ℕ) → id < length unit.forest.entries → k < (entry_of unit id).count → (bytes : List ℕ) × SpellsValue (spec_at (declaration_of unit id).columns k).form (spec_at (declaration_of unit id).columns k).constant (meaning_in unit id k) bytes
+pub column_spelled : (info abbrevs : List ℕ) (unit : UnitRead) → IsUnitRead info abbrevs unit → HaveOwners (declarations unit) unit.forest → (id k : ℕ) → id < length unit.forest.entries → k < (entry_of unit id).count → (bytes : List ℕ) × SpellsValue (spec_at (declaration_of unit id).columns k).name (spec_at (declaration_of unit id).columns k).form (spec_at (declaration_of unit id).columns k).constant (meaning_in unit id k) bytes
 column_spelled info abbrevs unit is owned id k known inside =
     let stands = entry_stands info unit.head (declarations unit) unit.forest is.section is.entries id known in
     let here = spelled_between unit.forest.section (declaration_of unit id).columns (values_of unit id) stands.values_at ((entry_of unit id).at + (entry_of unit id).len) k stands.valued (subst (λ (n : ℕ). k < n) (owned.counted id known) inside) in

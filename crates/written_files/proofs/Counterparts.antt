@@ -167,7 +167,7 @@ pub written_forms : HaveWrittenForms
 written_forms file written r s anew u id number name meaning place inside stands =
     let now : UnitRead = unit_at s.links u in
     let same : Correspond r s = correspond file written r s anew.read anew.again anew.anew.same in
-    let columns : HaveColumns IsLeastColumn r.links s.links = holds_of_these (λ x y. HaveColumns IsLeastColumn x.links y.links) file written r s anew.read anew.again anew.anew.columns in
+    let columns : HaveColumns (IsLeastColumn anew.classes) r.links s.links = holds_of_these (λ x y. HaveColumns (IsLeastColumn anew.classes) x.links y.links) file written r s anew.read anew.again anew.anew.columns in
     let here = columns u id (subst (λ (n : ℕ). u < n) same.units inside) (subst (λ (n : ℕ). id < n) (same.entries u inside) stands.known) in
     let is = unit_is (debug_info written) (debug_abbrev written) s.links.units anew.again.links.units u inside in
     let owned = unit_owners (debug_info written) (debug_abbrev written) s.links.units anew.again.links.units u inside in
@@ -176,5 +176,5 @@ written_forms file written r s anew u id number name meaning place inside stands
     let k_in : k < length (declaration_of now id).columns = subst (λ (n : ℕ). k < n) (owned.counted id stands.known) at.inside in
     let least = (here.each k (subst (λ (n : ℕ). k < n) here.count k_in)).least in
     let (bytes, spelled) = column_spelled (debug_info written) (debug_abbrev written) now is owned id k stands.known at.inside in
-    let form : HasWrittenForm (meaning_in now id k) (spec_at (declaration_of now id).columns k).form = written_form (spec_at (declaration_of now id).columns k).form (spec_at (declaration_of now id).columns k).constant (meaning_in now id k) bytes least.enough.choice spelled in
+    let form : HasWrittenForm (meaning_in now id k) (spec_at (declaration_of now id).columns k).form = written_form (spec_at (declaration_of now id).columns k).name (spec_at (declaration_of now id).columns k).form (spec_at (declaration_of now id).columns k).constant (meaning_in now id k) bytes least.enough.choice spelled in
     subst (λ (c : Spec). HasWrittenForm meaning c.form) at.column_is (subst (λ (m : Meaning). HasWrittenForm m (spec_at (declaration_of now id).columns k).form) (sym at.means) form)

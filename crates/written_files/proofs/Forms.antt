@@ -3,14 +3,15 @@ use Rattle.std.proofs.Common.{◌≡◌, ◌-◌, ◌*◌, ◌^◌, ℕ, List, t
 use Rattle.std.specs.Prelude.{ℤ, pos}
 use Rattle.std.proofs.lemmas.Bool.{cond_both}
 use Rattle.form_codec.specs.declared.form.Form.{Form}
-use Rattle.form_codec.specs.declared.form.Form.TheVariants.{Ref1, Ref2, Ref4, Ref8, RefUdata, RefAddr, SecOffset, Exprloc}
+use Rattle.form_codec.specs.declared.form.Form.TheVariants.{Data1, Data2, Data4, Data8, Ref1, Ref2, Ref4, Ref8, RefUdata, RefAddr, SecOffset, Exprloc}
 use Rattle.form_codec.specs.declared.form.Content.TheVariants as content
 use Rattle.form_codec.specs.declared.form.Role.{Role}
 use Rattle.form_codec.specs.declared.form.Role.TheVariants as role
 use Rattle.form_codec.specs.declared.form.Shape.{Shape}
 use Rattle.form_codec.specs.declared.form.Shape.TheVariants.{Constant, Present, Number, Uleb as ByUleb, Sleb as BySleb, Counted, UlebCounted, Sixteen, ZeroEnded}
 use Rattle.form_codec.specs.declared.form.Width.{Width}
-use Rattle.form_codec.specs.declared.form.Width.TheVariants.{Eight}
+use Rattle.form_codec.specs.declared.form.Width.TheVariants.{One, Two, Four, Eight}
+use Rattle.form_codec.specs.Signs.{is_unsigned, constant_role}
 use Rattle.form_codec.specs.Forms.{Meaning, SpellsShape, SpellsValue, code_of, shape_of, size_of, data_of, in_role, is_written}
 use Rattle.form_codec.specs.Forms.Meaning.{Bits, Whole}
 use Rattle.form_codec.specs.Columns.{IsChoice}
@@ -56,20 +57,28 @@ plain_shape (UlebCounted content.Expression) meaning bytes code plain s = absurd
 plain_shape Sixteen meaning bytes code plain s = subst (λ (m : Meaning). HasWrittenForm m code) (sym s.1) tt
 plain_shape ZeroEnded meaning bytes code plain s = subst (λ (m : Meaning). HasWrittenForm m code) (sym s.holds) tt
 
+-- a constant of fixed size has a plain role under each name
+of_constant : (name : ℕ) (width : Width) (n : ℕ) (meaning : Meaning) (code : ℕ) → meaning ≡ in_role (constant_role name) width n → HasWrittenForm meaning code
+of_constant name width n meaning code is = of_role (constant_role name) width n meaning code (cond_both (is_unsigned name) role.Unsigned role.Data IsPlainRole (λ _. tt) (λ _. tt)) is
+
 -- ALL FORMS
 
-form_written : (form : Form) (constant : ℤ) (meaning : Meaning) (bytes : List ℕ) → is_written form ≡ true → SpellsShape (shape_of form constant) meaning bytes → HasWrittenForm meaning (code_of form)
-form_written Ref1 constant meaning bytes written s = absurd (cc written)
-form_written Ref2 constant meaning bytes written s = absurd (cc written)
-form_written Ref4 constant meaning bytes written s = absurd (cc written)
-form_written Ref8 constant meaning bytes written s = absurd (cc written)
-form_written RefUdata constant meaning bytes written s = subst (λ (m : Meaning). HasWrittenForm m (code_of RefUdata)) (sym s.2) refl
-form_written RefAddr constant meaning bytes written s = subst (λ (m : Meaning). HasWrittenForm m (code_of RefAddr)) (sym s.1) refl
-form_written SecOffset constant meaning bytes written s = subst (λ (m : Meaning). HasWrittenForm m (code_of SecOffset)) (sym s.1) refl
-form_written Exprloc constant meaning bytes written s = subst (λ (m : Meaning). HasWrittenForm m (code_of Exprloc)) (sym s.holds) refl
-form_written form constant meaning bytes written s = plain_shape (shape_of form constant) meaning bytes (code_of form) tt s
+form_written : (form : Form) (name : ℕ) (constant : ℤ) (meaning : Meaning) (bytes : List ℕ) → is_written form ≡ true → SpellsShape (shape_of form name constant) meaning bytes → HasWrittenForm meaning (code_of form)
+form_written Ref1 name constant meaning bytes written s = absurd (cc written)
+form_written Ref2 name constant meaning bytes written s = absurd (cc written)
+form_written Ref4 name constant meaning bytes written s = absurd (cc written)
+form_written Ref8 name constant meaning bytes written s = absurd (cc written)
+form_written RefUdata name constant meaning bytes written s = subst (λ (m : Meaning). HasWrittenForm m (code_of RefUdata)) (sym s.2) refl
+form_written RefAddr name constant meaning bytes written s = subst (λ (m : Meaning). HasWrittenForm m (code_of RefAddr)) (sym s.1) refl
+form_written SecOffset name constant meaning bytes written s = subst (λ (m : Meaning). HasWrittenForm m (code_of SecOffset)) (sym s.1) refl
+form_written Exprloc name constant meaning bytes written s = subst (λ (m : Meaning). HasWrittenForm m (code_of Exprloc)) (sym s.holds) refl
+form_written Data1 name constant meaning bytes written s = of_constant name One _ meaning (code_of Data1) s.1
+form_written Data2 name constant meaning bytes written s = of_constant name Two _ meaning (code_of Data2) s.1
+form_written Data4 name constant meaning bytes written s = of_constant name Four _ meaning (code_of Data4) s.1
+form_written Data8 name constant meaning bytes written s = of_constant name Eight _ meaning (code_of Data8) s.1
+form_written form name constant meaning bytes written s = plain_shape (shape_of form name constant) meaning bytes (code_of form) tt s
 
 -- A form that may be chosen and spells a reference, a section offset or an expression is the one that is written for it.
-pub written_form : (code : ℕ) (constant : ℤ) (meaning : Meaning) (bytes : List ℕ) → IsChoice code → SpellsValue code constant meaning bytes → HasWrittenForm meaning code
-written_form code constant meaning bytes (form, known, written) s =
-    subst (λ (z : ℕ). HasWrittenForm meaning z) known (form_written form constant meaning bytes written (in_form code form constant meaning bytes known s))
+pub written_form : (name code : ℕ) (constant : ℤ) (meaning : Meaning) (bytes : List ℕ) → IsChoice code → SpellsValue name code constant meaning bytes → HasWrittenForm meaning code
+written_form name code constant meaning bytes (form, known, written) s =
+    subst (λ (z : ℕ). HasWrittenForm meaning z) known (form_written form name constant meaning bytes written (in_form name code form constant meaning bytes known s))

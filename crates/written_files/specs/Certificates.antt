@@ -1,17 +1,17 @@
--- Certificates: the records that show, of each part of a file that was written, why nothing shorter is in its class. They are judged by
--- the written file alone. Of a line number program the runs are judged by its header, its rows and how many bytes its opcodes have; of a list
--- that isn't frozen the potentials, by .debug_addr, its context, its items and how many bytes it has without its expressions and their lengths;
--- of a unit the ranks, by the rows and the sizes of its slots. The sizes are those that the numbers in the slots need: that the slots have
--- them is said of the forms of columns and of what is tidy, which a checker asks besides.
+-- Certificates: the records that show, of each part of a file that was written, why nothing shorter is in its class. Parts that are kept
+-- have none. They are judged by the written file alone. Of a line number program the runs are judged by its header, its rows and how many
+-- bytes its opcodes have; of a list that isn't kept the potentials, by .debug_addr, its context, its items and how many bytes it has without
+-- its expressions and their lengths; of a unit the ranks, by the rows and the sizes of its slots. The sizes are those that the numbers in the
+-- slots need: that the slots have them is said of the forms of columns and of what is tidy, which a checker asks besides.
 use Rattle.std.specs.Prelude.{◌≡◌, ◌<◌, ◌++◌, ℕ, List, [], length, map, slice_index_or, Some}
 use Rattle.std.specs.List.{AllZip}
+use Rattle.dw_base.specs.declared.classes.Classes.{Classes}
 use Rattle.dw_base.specs.declared.record.Run.{Run}
 use Rattle.leb_codec.specs.Layout.{SlotRow, AcceptsLayout, HasFirstRanks}
 use Rattle.leb_codec.specs.Records.{Record, OfLines, OfList, OfLayout, SpellsFile}
 use Rattle.line_machine.specs.declared.head.Head.{Head}
 use Rattle.line_machine.specs.declared.registers.Row.{Row}
 use Rattle.line_sums.specs.Accepted.{AreAcceptedRuns, AreLeastRuns}
-use Rattle.line_write.specs.Records.{HaveRuns}
 use Rattle.list_model.specs.declared.context.Context.{Context}
 use Rattle.list_model.specs.declared.entry.ListKind.{ListKind}
 use Rattle.list_model.specs.declared.entry.ListKind.TheVariants.{Ranges, Locations}
@@ -21,8 +21,9 @@ use Rattle.list_model.specs.Items.{Bounds, Give}
 use Rattle.list_model.specs.Potentials.{AcceptsList, AreGreatest}
 use Rattle.loc_lists.specs.Apart.{StandApart}
 use Rattle.loc_lists.specs.Locations.{SpellsBehind}
+use Rattle.written_files.specs.Kept.{IsKept, HaveRunsIn}
 use Rattle.written_files.specs.Layouts.{AreNumbersOf, HasLayout}
-use Rattle.value_links.specs.Lists.{IsOwner, IsFrozen}
+use Rattle.value_links.specs.Lists.{IsOwner}
 use Rattle.value_links.specs.Reading.{ListRead, Linkable, Reading, of_kind, lists_of, part_at, list_at, context_at}
 use Rattle.value_links.specs.Sections.{debug_line}
 use Rattle.value_links.specs.Whole.{IsReading}
@@ -55,10 +56,10 @@ pub record ArePotentialsFor (Judge : List ℕ → Context → List Bounds → Li
   pub stands : HasBareBytes kind s.links (list_at (lists_of s kind) k) entries bare
   pub judged : Judge s.links.addresses (context_at s.links u) bounds potentials (length bare)
 
--- There are potentials for each list of a kind that isn't frozen, in the order of their places.
-abbrev pub HavePotentials : (List ℕ → Context → List Bounds → List ℕ → ℕ → Type 0) → ListKind → Reading → List (List ℕ) → Type 0
-HavePotentials Judge kind s all =
-    (numbers : List ℕ) × AreNumbersOf (λ (k : ℕ). ¬ IsFrozen s.links kind (list_at (lists_of s kind) k)) (length (lists_of s kind)) numbers × AllZip (ArePotentialsFor Judge kind s) numbers all
+-- There are potentials for each list of a kind that isn't kept, in the order of their places.
+abbrev pub HavePotentials : Classes → (List ℕ → Context → List Bounds → List ℕ → ℕ → Type 0) → ListKind → Reading → List (List ℕ) → Type 0
+HavePotentials classes Judge kind s all =
+    (numbers : List ℕ) × AreNumbersOf (λ (k : ℕ). ¬ IsKept classes s.links kind (list_at (lists_of s kind) k)) (length (lists_of s kind)) numbers × AllZip (ArePotentialsFor Judge kind s) numbers all
 
 -- UNITS
 
@@ -74,22 +75,22 @@ pub record HaveRanks (Judge : List SlotRow → List ℕ → List ℕ → Type 0)
 -- THE CERTIFICATE OF A FILE
 
 -- The records are those of the line number programs, of the range lists, of the location lists, and of the units, and no others.
-pub record AreRecordsOf (JudgeRuns : Head → List Row → ℕ → List Run → Type 0) (JudgePotentials : List ℕ → Context → List Bounds → List ℕ → ℕ → Type 0) (JudgeRanks : List SlotRow → List ℕ → List ℕ → Type 0) (lines : List ℕ) (s : Reading) (records : List Record) : Type 0 where
+pub record AreRecordsOf (classes : Classes) (JudgeRuns : Head → List Row → ℕ → List Run → Type 0) (JudgePotentials : List ℕ → Context → List Bounds → List ℕ → ℕ → Type 0) (JudgeRanks : List SlotRow → List ℕ → List ℕ → Type 0) (lines : List ℕ) (s : Reading) (records : List Record) : Type 0 where
   pub runs : List (List Run)
-  pub has_runs : HaveRuns JudgeRuns lines runs
+  pub has_runs : HaveRunsIn classes JudgeRuns lines runs
   pub ranges : List (List ℕ)
-  pub has_ranges : HavePotentials JudgePotentials Ranges s ranges
+  pub has_ranges : HavePotentials classes JudgePotentials Ranges s ranges
   pub locations : List (List ℕ)
-  pub has_locations : HavePotentials JudgePotentials Locations s locations
+  pub has_locations : HavePotentials classes JudgePotentials Locations s locations
   pub ranks : List (List ℕ)
   pub has_ranks : HaveRanks JudgeRanks s ranks
   pub whole : records ≡ map OfLines runs ++ (map OfList ranges ++ (map OfList locations ++ map OfLayout ranks))
 
--- The bytes are a record file of the written file whose records are each accepted: no program, no list that isn't frozen and no
--- layout of its class is shorter.
-abbrev pub IsCertificate : List ℕ → List ℕ → Type 0
-IsCertificate written certificate =
-    (s : Reading) × (records : List Record) × IsReading written s × AreRecordsOf AreAcceptedRuns AcceptsList AcceptsLayout (debug_line written) s records × SpellsFile records certificate
+-- The bytes are a record file of the written file whose records are each accepted: no program and no list that isn't kept, and no layout, of
+-- its class is shorter.
+abbrev pub IsCertificate : Classes → List ℕ → List ℕ → Type 0
+IsCertificate classes written certificate =
+    (s : Reading) × (records : List Record) × IsReading written s × AreRecordsOf classes AreAcceptedRuns AcceptsList AcceptsLayout (debug_line written) s records × SpellsFile classes records certificate
 
 -- potentials that are accepted, and each is the greatest that is before those behind it
 abbrev pub AreGreatestOf : List ℕ → Context → List Bounds → List ℕ → ℕ → Type 0
@@ -101,6 +102,6 @@ AreFirstRanks rows sizes ranks = AcceptsLayout rows sizes ranks × HasFirstRanks
 
 -- Which of several certificates that are accepted it is: the one with the least number for each pair, the greatest potentials, and the
 -- first ranks.
-abbrev pub IsFirstCertificate : List ℕ → List ℕ → Type 0
-IsFirstCertificate written certificate =
-    (s : Reading) × (records : List Record) × IsReading written s × AreRecordsOf AreLeastRuns AreGreatestOf AreFirstRanks (debug_line written) s records × SpellsFile records certificate
+abbrev pub IsFirstCertificate : Classes → List ℕ → List ℕ → Type 0
+IsFirstCertificate classes written certificate =
+    (s : Reading) × (records : List Record) × IsReading written s × AreRecordsOf classes AreLeastRuns AreGreatestOf AreFirstRanks (debug_line written) s records × SpellsFile classes records certificate

@@ -1,6 +1,7 @@
 -- What is least in a file that is written anew for another, by what is read of both; and, apart from that, which of several least
 -- choices is written.
 use Rattle.std.specs.Prelude.{◌≡◌, ◌<◌, ◌++◌, ℕ, List, length, map, slice_index, Some}
+use Rattle.dw_base.specs.declared.classes.Classes.{Classes}
 use Rattle.leb_codec.specs.Numbering.{IsLeastNumbering, RiseByFallingUses, AreFirstNumbers}
 use Rattle.form_codec.specs.Forms.{Meaning}
 use Rattle.abbrev_tables.specs.declared.decl.Spec.{Spec}
@@ -15,10 +16,11 @@ use Rattle.list_model.specs.Members.{IsLeastList, IsLeastFrozen}
 use Rattle.loc_lists.specs.Locations.{SpellsBehind}
 use Rattle.loc_lists.specs.Apart.{StandApart}
 use Rattle.value_links.specs.Reading.{ListRead, Linkable, Reading, unit_at, of_kind, lists_of, part_at, list_at, context_at}
-use Rattle.value_links.specs.Lists.{IsOwner, IsFrozen}
+use Rattle.value_links.specs.Lists.{IsOwner}
 use Rattle.value_links.specs.Whole.{IsReading}
 use Rattle.value_links.specs.Values.{entry_of, declaration_of}
 use Rattle.value_links.specs.World.{head_and_forest, named_by}
+use Rattle.written_files.specs.Kept.{IsKept}
 use Rattle.written_files.specs.Uses.{AreUses, column_meanings}
 
 -- both files are read, and this holds of what is read of them
@@ -75,21 +77,21 @@ pub record HasColumns (Holds : Spec → List Meaning → Spec → Type 0) (r s :
 abbrev pub HaveColumns : (Spec → List Meaning → Spec → Type 0) → Linkable → Linkable → Type 0
 HaveColumns Holds r s = (u id : ℕ) → u < length r.units → id < length (unit_at r u).forest.entries → HasColumns Holds r s u id
 
--- Each column is in a least form.
-abbrev pub HaveLeastColumns : List ℕ → List ℕ → Type 0
-HaveLeastColumns = OfBoth (HaveColumns IsLeastColumn)
+-- Each column is in a least form of the classes.
+abbrev pub HaveLeastColumns : Classes → List ℕ → List ℕ → Type 0
+HaveLeastColumns classes = OfBoth (HaveColumns (IsLeastColumn classes))
 
 -- No least form comes before its own.
-abbrev pub HaveFirstColumns : List ℕ → List ℕ → Type 0
-HaveFirstColumns = OfBoth (HaveColumns IsFirstColumn)
+abbrev pub HaveFirstColumns : Classes → List ℕ → List ℕ → Type 0
+HaveFirstColumns classes = OfBoth (HaveColumns (IsFirstColumn classes))
 
 -- LISTS
 
--- Bytes are the shortest of the class of a list: where it isn't frozen, of those that give its items in the context of the unit that
--- owns it, with any bases; where it is, of those with its own kinds of entries and operands.
-pub record AreLeastBytes (r : Linkable) (kind : ListKind) (list : ListRead) (bytes : List ℕ) : Type 0 where
-  pub live : (¬ IsFrozen r kind list) → (u : ℕ) (entries : List Entry) (bounds : List Bounds) → IsOwner r kind list.at (Some u) → AreSaid kind list.raws entries → Give r.addresses (context_at r u) entries bounds → IsLeastList kind r.addresses (context_at r u) bounds bytes
-  pub frozen : IsFrozen r kind list → (entries : List Entry) → AreSaid kind list.raws entries → IsLeastFrozen kind entries bytes
+-- Bytes are the shortest of the class of a list: where it isn't kept, of those that give its items in the context of the unit that owns it,
+-- with any bases; where it is, of those with its own kinds of entries and operands.
+pub record AreLeastBytes (classes : Classes) (r : Linkable) (kind : ListKind) (list : ListRead) (bytes : List ℕ) : Type 0 where
+  pub live : (¬ IsKept classes r kind list) → (u : ℕ) (entries : List Entry) (bounds : List Bounds) → IsOwner r kind list.at (Some u) → AreSaid kind list.raws entries → Give r.addresses (context_at r u) entries bounds → IsLeastList kind r.addresses (context_at r u) bounds bytes
+  pub kept : IsKept classes r kind list → (entries : List Entry) → AreSaid kind list.raws entries → IsLeastFrozen kind entries bytes
 
 -- the bytes of a list, and those without the expressions behind its entries and their lengths
 abbrev pub AreBare : ListKind → List ℕ → List ℕ → Type 0
@@ -97,14 +99,14 @@ AreBare Ranges bytes bare = bytes ≡ bare
 AreBare Locations bytes bare = (locations : List (Entry × List ℕ)) × StandApart SpellsBehind locations bytes bare
 
 -- The list with a number is written in such bytes, which may have expressions between them.
-pub record IsLeastWritten (kind : ListKind) (r s : Reading) (k : ℕ) : Type 0 where
+pub record IsLeastWritten (classes : Classes) (kind : ListKind) (r s : Reading) (k : ℕ) : Type 0 where
   pub bytes : List ℕ
   pub rest : List ℕ
   pub stands : bytes_from (of_kind s.links kind).section (part_at (of_kind s.links kind) (list_at (lists_of s kind) k).part) (list_at (lists_of s kind) k).at ≡ bytes ++ rest
   pub bare : List ℕ
   pub without : AreBare kind bytes bare
-  pub least : AreLeastBytes r.links kind (list_at (lists_of r kind) k) bare
+  pub least : AreLeastBytes classes r.links kind (list_at (lists_of r kind) k) bare
 
 -- all lists are; the one of a kind with a number in the written file is the one with this number in the old file
-abbrev pub HaveLeastLists : List ℕ → List ℕ → Type 0
-HaveLeastLists = OfReadings (λ r s. (kind : ListKind) (k : ℕ) → k < length (lists_of r kind) → IsLeastWritten kind r s k)
+abbrev pub HaveLeastLists : Classes → List ℕ → List ℕ → Type 0
+HaveLeastLists classes = OfReadings (λ r s. (kind : ListKind) (k : ℕ) → k < length (lists_of r kind) → IsLeastWritten classes kind r s k)

@@ -1,5 +1,6 @@
 pub mod Uses
 pub mod Placed
+pub mod Kept
 pub mod Classes
 pub mod Layouts
 pub mod Certificates

@@ -85,7 +85,7 @@ pub record AreTidyViews (r s : Reading) : Type 0 where
 -- The contributions of the written file are those of the old one, with as many slots. Each list that something names in the old file
 -- is the one with its number in the written file, in the contribution with the same number, so that their order stays. Each value that
 -- names a list names this one, and so does each slot. Its expressions are the old ones. A contribution holds these with their view pairs, and nothing else. That the
--- numbers of a frozen list's entries have no byte too many is said with the classes: its bytes are the shortest with these entries.
+-- numbers of a kept list's entries have no byte too many is said with the classes: its bytes are the shortest with these entries.
 pub record AreTidyLists (kind : ListKind) (r s : Reading) : Type 0 where
   pub parts : length (of_kind s.links kind).parts ≡ length (of_kind r.links kind).parts
   pub slots : (p : ℕ) → p < length (of_kind r.links kind).parts → (part_at (of_kind s.links kind) p).slots ≡ (part_at (of_kind r.links kind) p).slots

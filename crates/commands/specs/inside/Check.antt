@@ -2,6 +2,7 @@
 -- Inner functions and proofs alone need what stands here.
 use Rattle.std.specs.Prelude.{◌≡◌, ◌≢◌, ◌≤◌, ◌<◌, ◌+◌, ◌⊎◌, ℕ, List, length, take, Option, string_bytes}
 use Rattle.std.specs.Option.{ForSome}
+use Rattle.dw_base.specs.declared.classes.Classes.{Classes}
 use Rattle.dw_base.specs.Host.{Rose}
 use Rattle.dw_base.specs.declared.fault.Fault.{Fault}
 use Rattle.dw_base.specs.declared.fault.Kind.TheVariants.{Limit}
@@ -12,11 +13,11 @@ use Rattle.dw_base.specs.declared.fault.Refusal.TheVariants.{Refused as RefusedF
 use Rattle.elf_sections.specs.Faults.{file_limit}
 use Rattle.same_meaning.specs.declared.reason.Reason.{Reason}
 use Rattle.value_links.specs.Faults.{Faulty as FaultyWithin}
-use Rattle.verdict.specs.Accepts.{Accepts, IsAllLeast}
+use Rattle.verdict.specs.Accepts.{Accepts, IsAllLeast, IsAllKept}
 use Rattle.commands.specs.File.{IsValid, IsValidOutput, IsRejected}
 use Rattle.commands.specs.Words.{Names}
 use Rattle.commands.specs.Words.Command.{Check}
-use Rattle.commands.specs.Run.{OfFiles, FailsToRead, ReadsWell, ReadsValid, HasFault}
+use Rattle.commands.specs.Run.{OfBothFiles, OfFiles, FailsToRead, ReadsWell, ReadsValid, HasFault}
 use Rattle.commands.specs.Said.{acceptance_text, input_refusal_text, output_refusal_text, rejection_text, SaysRefusal, SaysLong, SaysRejection, SaysDone, StopsSaying}
 use Rattle.commands.specs.declared.check.Answer.{Answer}
 use Rattle.commands.specs.declared.check.Answer.TheVariants.{Accepted, Refused, Rejected}
@@ -54,14 +55,14 @@ line_of (Refused line) = string_bytes line
 line_of (Rejected line) = line.items
 
 -- the answer is that to these bytes
-abbrev pub IsAnswer : List ℕ → List ℕ → List ℕ → Answer → Type 0
-IsAnswer file written cert Accepted = Accepts file written cert × IsAllLeast written
-IsAnswer file written cert (Refused line) = NamesFaultIn file (string_bytes line) ⊎ NamesFaultOut file written (string_bytes line)
-IsAnswer file written cert (Rejected line) = (reason : Reason) × IsRejected file written cert reason × (line.items ≡ rejection_text file reason)
+abbrev pub IsAnswer : Classes → List ℕ → List ℕ → List ℕ → Answer → Type 0
+IsAnswer classes file written cert Accepted = Accepts classes file written cert × (IsAllLeast classes written × IsAllKept classes file written)
+IsAnswer classes file written cert (Refused line) = NamesFaultIn file (string_bytes line) ⊎ NamesFaultOut file written (string_bytes line)
+IsAnswer classes file written cert (Rejected line) = (reason : Reason) × IsRejected classes file written cert reason × (line.items ≡ rejection_text file reason)
 
 -- How a check of three files ends: `told` has the bytes of files, and then come what was said before and after, the counts of failed reads
 -- before and after, those of failed messages, and the status.
-pub record EndsCheck (told : List ℕ → Option (List ℕ)) (n : Names) (old new : Option (List ℕ)) (reads risen : List ℕ → ℕ) (before now result : ℕ) : Type 0 where
+pub record EndsCheck (classes : Classes) (told : List ℕ → Option (List ℕ)) (n : Names) (old new : Option (List ℕ)) (reads risen : List ℕ → ℕ) (before now result : ℕ) : Type 0 where
   pub known : (result ≤ 7) × ((result ≢ 1) × (result ≢ 2))
   pub refused : result ≡ 3 → SaysRefusal told old new (Check n)
   pub long : result ≡ 3 → SaysLong told old new (Check n)
@@ -71,12 +72,13 @@ pub record EndsCheck (told : List ℕ → Option (List ℕ)) (n : Names) (old ne
   pub say_rose : before < now → result ≡ 5
   pub valid : result ≡ 0 → ForSome (told n.input) IsValid
   pub output_valid : result ≡ 0 → ForSome (told n.output) IsValidOutput
-  pub accepted : result ≡ 0 → OfFiles Accepts told n
-  pub least : result ≡ 0 → ForSome (told n.output) IsAllLeast
-  pub rejected : result ≡ 7 → SaysRejection told old new (Check n)
-  pub said : result ≡ 0 → SaysDone told old new (Check n)
+  pub accepted : result ≡ 0 → OfFiles (Accepts classes) told n
+  pub least : result ≡ 0 → ForSome (told n.output) (IsAllLeast classes)
+  pub kept : result ≡ 0 → OfBothFiles (IsAllKept classes) told n
+  pub rejected : result ≡ 7 → SaysRejection classes told old new (Check n)
+  pub said : result ≡ 0 → SaysDone classes told old new (Check n)
   pub quiet : result ≡ 4 → new ≡ old
-  pub stopped : (result ≡ 5) ⊎ (result ≡ 6) → StopsSaying told old new (Check n)
-  pub complete : ReadsValid told (Check n) → ReadsWell reads risen (Check n) → ¬ Rose before now → (result ≡ 0) ⊎ (result ≡ 6)
+  pub stopped : (result ≡ 5) ⊎ (result ≡ 6) → StopsSaying classes told old new (Check n)
+  pub complete : ReadsValid classes told (Check n) → ReadsWell reads risen (Check n) → ¬ Rose before now → (result ≡ 0) ⊎ (result ≡ 6)
   pub refuses : HasFault told (Check n) → ReadsWell reads risen (Check n) → (result ≡ 3) ⊎ ((result ≡ 5) ⊎ (result ≡ 6))
-  pub rejects : OfFiles (λ file written cert. IsValid file → IsValidOutput written → ¬ Accepts file written cert → ReadsWell reads risen (Check n) → (result ≡ 7) ⊎ ((result ≡ 5) ⊎ (result ≡ 6))) told n
+  pub rejects : OfFiles (λ file written cert. IsValid file → IsValidOutput written → ¬ Accepts classes file written cert → ReadsWell reads risen (Check n) → (result ≡ 7) ⊎ ((result ≡ 5) ⊎ (result ≡ 6))) told n

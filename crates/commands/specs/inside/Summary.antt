@@ -1,6 +1,7 @@
 -- The numbers of which a summary tells.
 -- Inner functions and proofs alone need what stands here.
 use Rattle.std.specs.Prelude.{◌≡◌, ℕ, List, length, codes}
+use Rattle.dw_base.specs.declared.classes.Classes.{Classes}
 use Rattle.serde_json.specs.Data.{Data, number, unsigned, array, object, item, no_items, member, no_members}
 use Rattle.list_model.specs.declared.entry.ListKind.TheVariants.{Ranges, Locations}
 use Rattle.value_links.specs.Debug.{Debug}
@@ -24,8 +25,8 @@ pub record AreCounts (debug : Debug) (counts : Counts) : Type 0 where
   pub units : counts.units ≡ unit_count debug
 
 -- the text is the line of a file, of one that may be written for it, and of what both mean
-abbrev pub IsLineOf : List ℕ → List ℕ → Type 0
-IsLineOf file text = (written : List ℕ) × (debug : Debug) × IsSummed file written debug × (text ≡ summary_text file written debug)
+abbrev pub IsLineOf : Classes → List ℕ → List ℕ → Type 0
+IsLineOf classes file text = (written : List ℕ) × (debug : Debug) × IsSummed classes file written debug × (text ≡ summary_text file written debug)
 
 -- how many bytes a section has in both files, as an array of JSON
 abbrev pub sizes_data : ℕ → ℕ → Data

@@ -32,7 +32,7 @@ pub record FaultOfColumns (info : List ℕ) (end : ℕ) (columns : List Spec) (f
   pub values : List Value
   pub valued : ValuesBetween info before values from place
   pub inside : place ≤ end
-  pub fault : FaultValue column.form column.constant kind (bytes_between info place end)
+  pub fault : FaultValue column.name column.form column.constant kind (bytes_between info place end)
 
 -- what a walk lists up to a place is held
 pub record IsWalked (info : List ℕ) (ds : List Declared) (held : Arena) (chains : List ℕ) (at : ℕ) : Type 0 where

@@ -73,22 +73,33 @@ pub record IsEncoding (shape : Shape) (value : Value) (encoding : Encoding) : Ty
   pub shortest : (section bytes others : List ℕ) → IsValueIn section value → Encodes section encoding bytes → SpellsShape shape (meant_in section value) others → length bytes ≤ length others
   pub flag : (section bytes : List ℕ) → IsValueIn section value → Encodes section encoding bytes → shape ≡ Number One role.Truth → (k : ℕ) → k < length bytes → slice_index bytes k ≤ 1
 
--- no bytes of the form spell the value, whatever the constant
-abbrev pub HasNoForm : Form → Value → Type 0
-HasNoForm form value = (section bytes : List ℕ) (constant : ℤ) → IsValueIn section value → AreBytes bytes → SpellsShape (shape_of form constant) (meant_in section value) bytes → ⊥
+-- the shortest bytes of the shape that spell the value; a flag is 0 or 1
+pub record IsShortestShape (shape : Shape) (meaning : Meaning) (bytes : List ℕ) : Type 0 where
+  pub small : AreBytes bytes
+  pub spells : SpellsShape shape meaning bytes
+  pub shortest : (others : List ℕ) → SpellsShape shape meaning others → length bytes ≤ length others
+  pub flag : shape ≡ Number One role.Truth → (k : ℕ) → k < length bytes → slice_index bytes k ≤ 1
+
+-- so many bytes of the shape are the fewest that spell the value
+abbrev pub HasShortest : Shape → Meaning → ℕ → Type 0
+HasShortest shape meaning size = (written : List ℕ) × IsShortestShape shape meaning written × (size ≡ length written)
+
+-- under this name no bytes of the form spell the value, whatever the constant
+abbrev pub HasNoForm : ℕ → Form → Value → Type 0
+HasNoForm name form value = (section bytes : List ℕ) (constant : ℤ) → IsValueIn section value → AreBytes bytes → SpellsShape (shape_of form name constant) (meant_in section value) bytes → ⊥
 
 -- what is written spells the value in the form, and nothing shorter does, whatever the constant
-pub record IsFormEncoding (form : Form) (value : Value) (encoding : Encoding) : Type 0 where
+pub record IsFormEncoding (name : ℕ) (form : Form) (value : Value) (encoding : Encoding) : Type 0 where
   pub constant : ℤ
-  pub shape : IsEncoding (shape_of form constant) value encoding
-  pub shortest : (section bytes others : List ℕ) (other : ℤ) → IsValueIn section value → Encodes section encoding bytes → SpellsShape (shape_of form other) (meant_in section value) others → length bytes ≤ length others
+  pub shape : IsEncoding (shape_of form name constant) value encoding
+  pub shortest : (section bytes others : List ℕ) (other : ℤ) → IsValueIn section value → Encodes section encoding bytes → SpellsShape (shape_of form name other) (meant_in section value) others → length bytes ≤ length others
 
 -- no bytes of the form with this code spell the value
-abbrev pub HasNoCode : ℕ → Value → Type 0
-HasNoCode code value = (section bytes : List ℕ) (constant : ℤ) → IsValueIn section value → SpellsValue code constant (meant_in section value) bytes → ⊥
+abbrev pub HasNoCode : ℕ → ℕ → Value → Type 0
+HasNoCode name code value = (section bytes : List ℕ) (constant : ℤ) → IsValueIn section value → SpellsValue name code constant (meant_in section value) bytes → ⊥
 
 -- what is written spells the value in the form with this code, and nothing shorter does
-pub record IsCodeEncoding (code : ℕ) (value : Value) (written : Encoding) : Type 0 where
+pub record IsCodeEncoding (name code : ℕ) (value : Value) (written : Encoding) : Type 0 where
   pub form : Form
   pub known : code_of form ≡ code
-  pub encoding : IsFormEncoding form value written
+  pub encoding : IsFormEncoding name form value written

@@ -1,5 +1,6 @@
 -- What the new sections of a file mean.
 use Rattle.std.specs.Prelude.{◌≡◌, ◌<◌, ℕ, List, length, slice_index}
+use Rattle.dw_base.specs.declared.classes.Classes.{Classes}
 use Rattle.line_write.specs.Meaning.{ProgramMeaning, HaveMeanings}
 use Rattle.companions.specs.Aranges.{IsOutside, SetsTile}
 use Rattle.unit_write.specs.declared.places.Places.{Places}
@@ -42,14 +43,14 @@ new_lists new Ranges = new.ranges.items
 new_lists new Locations = new.locations.items
 
 -- What is read of the new sections of a file, of which so much was read, where its units stand at their new places; and its certificate.
-pub record AreAnew (file : List ℕ) (world : World) (r s : Reading) (new : NewSections) (certificate : List ℕ) : Type 0 where
+pub record AreAnew (classes : Classes) (file : List ℕ) (world : World) (r s : Reading) (new : NewSections) (certificate : List ℕ) : Type 0 where
   pub tables : List NewTable
   pub places : List Places
   pub new_places : NewPlaces
-  pub tables_written : AreTablesWritten world new.abbrevs.items tables
+  pub tables_written : AreTablesWritten classes world new.abbrevs.items tables
   pub programs : AreProgramsAnew (debug_line file) r.links s.links new.lines.items new_places
   pub section : (kind : ListKind) → (of_kind s.links kind).section ≡ new_lists new kind
-  pub lists : (kind : ListKind) → AreListsAnew r places kind (of_kind s.links kind) (lists_of s kind) (moved_lists new_places kind)
+  pub lists : (kind : ListKind) → AreListsAnew classes r places kind (of_kind s.links kind) (lists_of s kind) (moved_lists new_places kind)
   pub views : AreViewsAnew r s new_places.views.items
   pub filled : (kind : ListKind) (p : ℕ) → p < length (of_kind s.links kind).parts → IsFilled kind s p
   pub addresses : s.links.addresses ≡ r.links.addresses
@@ -57,4 +58,4 @@ pub record AreAnew (file : List ℕ) (world : World) (r s : Reading) (new : NewS
   pub units : AreUnitsWritten world r.links tables places new_places new.info.items new.abbrevs.items s.links.units
   pub placed : (u : ℕ) → u < length world.units → IsPlacedBy world tables u (places_at places u)
   pub sets : AreSetsAnew (debug_aranges file) r s new.aranges.items
-  pub recorded : IsRecorded world r tables places new.lines.items certificate
+  pub recorded : IsRecorded classes world r tables places new.lines.items certificate

@@ -1,5 +1,6 @@
 -- A table that is written behind others.
 use Rattle.std.specs.Prelude.{◌≡◌, ◌<◌, ℕ, List, ◌++◌, length, map}
+use Rattle.dw_base.specs.declared.classes.Classes.{Classes}
 use Rattle.leb_codec.specs.Numbering.{IsLeastNumbering, RiseByFallingUses, AreFirstNumbers, used_count}
 use Rattle.abbrev_tables.specs.Listings.{Listing, IsTableAt}
 use Rattle.abbrev_tables.specs.Written.{ShortestTable, IsWritten}
@@ -35,9 +36,9 @@ pub record IsAppended (old : Listing) (uses : List ℕ) (before section : List �
   pub stands : StandsAnew section old uses new
   pub end : stands.listing.end ≡ length section
 
--- The first of the tables stand one after the other, and are all of the section. Each has its columns in their least forms.
-pub record AreAppended (units : List HeadAndForest) (tables : List NamedTable) (all : List Uses) (n : ℕ) (section : List ℕ) (new : List NewTable) : Type 0 where
+-- The first of the tables stand one after the other, and are all of the section. Each has its columns in their least forms of the classes.
+pub record AreAppended (classes : Classes) (units : List HeadAndForest) (tables : List NamedTable) (all : List Uses) (n : ℕ) (section : List ℕ) (new : List NewTable) : Type 0 where
   pub count : length new ≡ n
   pub tiled : TablesStand section (map table_anew new) 0
   pub each : (i : ℕ) → i < n → StandsAnew section (table_at tables i).table (counts_in all i) (new_table_at new i)
-  pub chosen : (i : ℕ) → i < n → AreColumnsChosen units (table_at tables i) (new_table_at new i).columns
+  pub chosen : (i : ℕ) → i < n → AreColumnsChosen classes units (table_at tables i) (new_table_at new i).columns

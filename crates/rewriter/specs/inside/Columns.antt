@@ -1,6 +1,7 @@
 -- Inner contracts: the values of the columns of a table, as they are gathered, unit by unit, and in a unit entry by entry.
 use Rattle.std.specs.Prelude.{◌≡◌, ◌≤◌, ◌<◌, ◌+◌, ◌-◌, ◌^◌, ◌&&◌, ◌++◌, ◌⊎◌, pos, ℕ, zero, suc, Bool, List, [], ◌∷◌, length, map, slice_index, slice_index_or, nat_eq, nat_le, nat_lt, if◌then◌else◌, flat_map, Option}
 use Rattle.std.specs.List.{sum_by}
+use Rattle.dw_base.specs.declared.classes.Classes.{Classes}
 use Rattle.form_codec.specs.declared.form.Form.TheVariants.{RefAddr, RefUdata}
 use Rattle.form_codec.specs.declared.value.Value.{Value}
 use Rattle.form_codec.specs.Forms.{Meaning, code_of}
@@ -54,16 +55,20 @@ values_of_units units decls named k = flat_map (λ (u : ℕ). values_in_column d
 abbrev pub with_entries : List Decl → List Value → List Entry → (ℕ → List Value) → ℕ → List Value
 with_entries decls values entries before k = before k ++ values_in_column decls values entries k
 
--- so many more values of each column can be counted
-pub record HaveRoomFor (section : List ℕ) (tallies : List (Option Tallying)) (more : ℕ) : Type 0 where
+-- the names of columns, by their numbers
+abbrev pub names_of : List Spec → ℕ → ℕ
+names_of specs k = (spec_at specs k).name
+
+-- so many more values of each column, which have these names, can be counted
+pub record HaveRoomFor (names : ℕ → ℕ) (section : List ℕ) (tallies : List (Option Tallying)) (more : ℕ) : Type 0 where
   pub before : ℕ → List Value
-  pub tallied : AreTalliesOf section before tallies
+  pub tallied : AreTalliesOf section names before tallies
   pub few : (k : ℕ) → length (before k) + more < 2 ^ 63
 
--- the values of some entries of a unit are counted, each in its column
-pub record AddsEntries (decls : List Decl) (unit : HeadAndForest) (entries : List Entry) (old new : List (Option Tallying)) : Type 0 where
+-- the values of some entries of a unit are counted, each in its column, of which these are the names
+pub record AddsEntries (names : ℕ → ℕ) (decls : List Decl) (unit : HeadAndForest) (entries : List Entry) (old new : List (Option Tallying)) : Type 0 where
   pub count : length new ≡ length old
-  pub added : (before : ℕ → List Value) → AreTalliesOf unit.forest.section before old → AreTalliesOf unit.forest.section (with_entries decls unit.forest.values entries before) new
+  pub added : (before : ℕ → List Value) → AreTalliesOf unit.forest.section names before old → AreTalliesOf unit.forest.section names (with_entries decls unit.forest.values entries before) new
 
 -- The listed units have entries by the declarations of a table, all in one section, and no more than a file may have.
 pub record AreUnitsOf (units : List HeadAndForest) (table : Listing) (named : List ℕ) (section : List ℕ) : Type 0 where
@@ -75,7 +80,7 @@ pub record AreUnitsOf (units : List HeadAndForest) (table : Listing) (named : Li
 -- the values of all columns of a table are counted, over some of the units that are listed
 pub record AreGathered (units : List HeadAndForest) (table : Listing) (named some : List ℕ) (tallies : List (Option Tallying)) : Type 0 where
   pub count : length tallies ≡ length table.specs
-  pub tallied : (section : List ℕ) → AreUnitsOf units table named section → AreTalliesOf section (values_of_units units table.decls some) tallies
+  pub tallied : (section : List ℕ) → AreUnitsOf units table named section → AreTalliesOf section (names_of table.specs) (values_of_units units table.decls some) tallies
 
 -- REFERENCES TO PLACES IN THEIR OWN UNITS
 
@@ -126,7 +131,7 @@ pub record AreInside (values : ℕ → List (UnitHead × Meaning)) (old new : Li
 
 -- The columns of a table are the best for the values of listed units, and then references to places in their own units are taken as ones
 -- within these.
-pub record AreBestInside (section : List ℕ) (units : List HeadAndForest) (decls : List Decl) (named : List ℕ) (old new : List Spec) : Type 0 where
+pub record AreBestInside (classes : Classes) (section : List ℕ) (units : List HeadAndForest) (decls : List Decl) (named : List ℕ) (old new : List Spec) : Type 0 where
   pub best : List Spec
-  pub are : AreBestFor section (values_of_units units decls named) old best
+  pub are : AreBestFor classes section (values_of_units units decls named) old best
   pub inside : AreInside (meanings_of_units units decls named) best new

@@ -1,6 +1,7 @@
 -- The lists of a kind of a file written anew.
 use Rattle.std.specs.Prelude.{◌≡◌, ◌≤◌, ◌<◌, ◌+◌, ◌*◌, ℕ, List, length, map, Option, Some}
 use Rattle.std.specs.List.{AllZip}
+use Rattle.dw_base.specs.declared.classes.Classes.{Classes}
 use Rattle.spelled.specs.Spelled.{Joined}
 use Rattle.leb_codec.specs.Records.{OfList, SpellsRecord}
 use Rattle.unit_write.specs.declared.places.Places.{Places}
@@ -16,42 +17,42 @@ use Rattle.list_write.specs.Written.{ToWrite, all_runs, runs_before, AreWritten}
 use Rattle.list_write.specs.Written.{list_at as written_at}
 use Rattle.value_links.specs.Reading.{ListRead, Linkable, Reading, of_kind, lists_of, list_at, view_at, context_at}
 use Rattle.value_links.specs.Lists.{IsOwner, IsFrozen, owner_unit, expressions_at}
+use Rattle.written_files.specs.Kept.{IsKept}
 use Rattle.written_files.specs.Classes.{AreLeastBytes}
 use Rattle.written_files.specs.Layouts.{AreNumbersOf}
 use Rattle.rewriter.specs.inside.Numbers.{IsNewExpression}
 use Rattle.rewriter.specs.inside.Runs.{views_among, run_for}
 
--- The entries of a list that isn't frozen give what the old ones give in the context of its owner, and those of a frozen one are its
--- own.
-pub record MeanTheSame (r : Reading) (kind : ListKind) (list : ListRead) (old new : List Entry) : Type 0 where
+-- The entries of a list that isn't frozen give what the old ones give in the context of its owner, and those of one that is kept are its own.
+pub record MeanTheSame (classes : Classes) (r : Reading) (kind : ListKind) (list : ListRead) (old new : List Entry) : Type 0 where
   pub live : (¬ IsFrozen r.links kind list) → (u : ℕ) (bounds : List Bounds) → IsOwner r.links kind list.at (Some u) → Give r.links.addresses (context_at r.links u) old bounds → Give r.links.addresses (context_at r.links u) new bounds
-  pub frozen : IsFrozen r.links kind list → new ≡ old
+  pub kept : IsKept classes r.links kind list → new ≡ old
 
 -- A list is to be written in its contribution, with entries that mean the same, and whose shortest bytes are least in the class of the
 -- list. There are at most twice as many entries as before.
-pub record IsPlannedFor (r : Reading) (kind : ListKind) (list : ListRead) (written : ToWrite) : Type 0 where
+pub record IsPlannedFor (classes : Classes) (r : Reading) (kind : ListKind) (list : ListRead) (written : ToWrite) : Type 0 where
   pub part : written.part ≡ list.part
   pub at : written.at ≡ list.at
   pub entries : List Entry
   pub picked : ArePicks kind written.picks entries
   pub size : written.size ≡ entries_bytes entries + 1
   pub few : length entries ≤ 2 * length list.raws
-  pub same : (old : List Entry) → AreSaid kind list.raws old → MeanTheSame r kind list old entries
-  pub least : (bytes : List ℕ) → ShortestList kind entries bytes → AreLeastBytes r.links kind list bytes
+  pub same : (old : List Entry) → AreSaid kind list.raws old → MeanTheSame classes r kind list old entries
+  pub least : (bytes : List ℕ) → ShortestList kind entries bytes → AreLeastBytes classes r.links kind list bytes
 
--- The potentials of a list that isn't frozen are accepted for what its entries give in the context of its owner, and for its size, and each is
+-- The potentials of a list that isn't kept are accepted for what its entries give in the context of its owner, and for its size, and each is
 -- the greatest that is. The size is that of the shortest bytes of its class.
-pub record IsRecordedFor (r : Reading) (kind : ListKind) (list : ListRead) (potentials : List ℕ) : Type 0 where
+pub record IsRecordedFor (classes : Classes) (r : Reading) (kind : ListKind) (list : ListRead) (potentials : List ℕ) : Type 0 where
   pub size : ℕ
   pub accepted : (u : ℕ) (old : List Entry) (bounds : List Bounds) → IsOwner r.links kind list.at (Some u) → AreSaid kind list.raws old → Give r.links.addresses (context_at r.links u) old bounds → AcceptsList r.links.addresses (context_at r.links u) bounds potentials size × AreGreatest r.links.addresses (context_at r.links u) bounds potentials
-  pub sized : (bytes : List ℕ) → AreLeastBytes r.links kind list bytes → length bytes ≡ size
+  pub sized : (bytes : List ℕ) → AreLeastBytes classes r.links kind list bytes → length bytes ≡ size
 
--- The records have the potentials of the lists of a kind that aren't frozen, one after the other.
-pub record AreListsRecorded (r : Reading) (kind : ListKind) (records : List ℕ) : Type 0 where
+-- The records have the potentials of the lists of a kind that aren't kept, one after the other.
+pub record AreListsRecorded (classes : Classes) (r : Reading) (kind : ListKind) (records : List ℕ) : Type 0 where
   pub numbers : List ℕ
-  pub live : AreNumbersOf (λ (k : ℕ). ¬ IsFrozen r.links kind (list_at (lists_of r kind) k)) (length (lists_of r kind)) numbers
+  pub live : AreNumbersOf (λ (k : ℕ). ¬ IsKept classes r.links kind (list_at (lists_of r kind) k)) (length (lists_of r kind)) numbers
   pub potentials : List (List ℕ)
-  pub recorded : AllZip (λ (k : ℕ) (each : List ℕ). IsRecordedFor r kind (list_at (lists_of r kind) k) each) numbers potentials
+  pub recorded : AllZip (λ (k : ℕ) (each : List ℕ). IsRecordedFor classes r kind (list_at (lists_of r kind) k) each) numbers potentials
   pub spelled : Joined SpellsRecord (map OfList potentials) records
 
 -- The expressions of a list's items are to be written with their operations, each reference at the new place of what it names.
@@ -62,10 +63,10 @@ pub record AreNewExpressions (r : Linkable) (places : List Places) (kind : ListK
 
 -- The section holds the lists that something names, each as it is planned with its expressions and its view pairs, and nothing else.
 -- `places` are those of all units.
-pub record AreListsWritten (r : Reading) (places : List Places) (kind : ListKind) (section : List ℕ) (parts : List Contribution) (moved views : List Moved) : Type 0 where
+pub record AreListsWritten (classes : Classes) (r : Reading) (places : List Places) (kind : ListKind) (section : List ℕ) (parts : List Contribution) (moved views : List Moved) : Type 0 where
   pub lists : List ToWrite
   pub count : length lists ≡ length (lists_of r kind)
-  pub each : (k : ℕ) → k < length (lists_of r kind) → IsPlannedFor r kind (list_at (lists_of r kind) k) (written_at lists k)
+  pub each : (k : ℕ) → k < length (lists_of r kind) → IsPlannedFor classes r kind (list_at (lists_of r kind) k) (written_at lists k)
   pub expressions : (k : ℕ) → k < length (lists_of r kind) → AreNewExpressions r.links places kind (list_at (lists_of r kind) k) (written_at lists k).expressions
   pub runs : all_runs lists ≡ map run_for (views_among kind r.views)
   pub own : (k i : ℕ) → k < length (lists_of r kind) → i < length (written_at lists k).views → (view_at (views_among kind r.views) (runs_before lists k + i)).list ≡ (list_at (lists_of r kind) k).at

@@ -1,5 +1,6 @@
 -- The abbreviation tables of a file written anew: one for each place that units name.
 use Rattle.std.specs.Prelude.{◌≡◌, ◌≢◌, ◌<◌, ◌+◌, ℕ, List, [], ◌∷◌, length, slice_index_or, map}
+use Rattle.dw_base.specs.declared.classes.Classes.{Classes}
 use Rattle.leb_codec.specs.Numbering.{IsLeastNumbering, RiseByFallingUses, AreFirstNumbers, used_count}
 use Rattle.abbrev_tables.specs.declared.decl.Spec.{Spec}
 use Rattle.abbrev_tables.specs.Listings.{Listing, decl_at, spec_at, IsTableAt}
@@ -33,18 +34,18 @@ new_table_at tables i = anew_at (map table_anew tables) i
 
 -- The columns of a declaration that entries have are the old ones, each in its least form for the values of all those entries. Those of
 -- a declaration that no entry has are never written.
-pub record AreColumnsChosen (units : List HeadAndForest) (old : NamedTable) (columns : List Spec) : Type 0 where
+pub record AreColumnsChosen (classes : Classes) (units : List HeadAndForest) (old : NamedTable) (columns : List Spec) : Type 0 where
   pub count : length columns ≡ length old.table.specs
-  pub each : (number j : ℕ) → number < length old.table.decls → uses_of units old.place number ≢ 0 → j < (decl_at old.table.decls number).count → IsChosen (spec_at old.table.specs ((decl_at old.table.decls number).first + j)) (column_meanings units old.place number j) (spec_at columns ((decl_at old.table.decls number).first + j))
+  pub each : (number j : ℕ) → number < length old.table.decls → uses_of units old.place number ≢ 0 → j < (decl_at old.table.decls number).count → IsChosen classes (spec_at old.table.specs ((decl_at old.table.decls number).first + j)) (column_meanings units old.place number j) (spec_at columns ((decl_at old.table.decls number).first + j))
   pub unused : (number j : ℕ) → number < length old.table.decls → uses_of units old.place number ≡ 0 → j < (decl_at old.table.decls number).count → spec_at columns ((decl_at old.table.decls number).first + j) ≡ spec_at old.table.specs ((decl_at old.table.decls number).first + j)
 
 -- The table stands in the new section: its used declarations and no others, by rising code, each column in its least form, and each
 -- LEB128 number shortest. They are numbered so that the codes are those from 1 on and take the least bytes in the table and
 -- in all entries, by falling uses and then by place.
-pub record IsTableWritten (units : List HeadAndForest) (section : List ℕ) (old : NamedTable) (new : TableAnew) : Type 0 where
+pub record IsTableWritten (classes : Classes) (units : List HeadAndForest) (section : List ℕ) (old : NamedTable) (new : TableAnew) : Type 0 where
   pub uses : List ℕ
   pub used : AreUses units old uses
-  pub columns : AreColumnsChosen units old new.columns
+  pub columns : AreColumnsChosen classes units old new.columns
   pub least : IsLeastNumbering uses new.numbers
   pub order : RiseByFallingUses uses new.numbers
   pub first : AreFirstNumbers uses new.numbers
@@ -61,7 +62,7 @@ TablesStand section [] at = at ≡ length section
 TablesStand section (table ∷ tables) at = (table.at ≡ at) × ((listing : Listing) × IsTableAt section at listing × TablesStand section tables listing.end)
 
 -- the section is the tables that units name, each written once, in the order of their places
-pub record AreTablesWritten (world : World) (section : List ℕ) (tables : List NewTable) : Type 0 where
+pub record AreTablesWritten (classes : Classes) (world : World) (section : List ℕ) (tables : List NewTable) : Type 0 where
   pub count : length tables ≡ length world.tables
   pub tiled : TablesStand section (map table_anew tables) 0
-  pub each : (i : ℕ) → i < length world.tables → IsTableWritten world.units section (table_at world.tables i) (new_table_at tables i)
+  pub each : (i : ℕ) → i < length world.tables → IsTableWritten classes world.units section (table_at world.tables i) (new_table_at tables i)

@@ -1,7 +1,7 @@
 // Tables as they are written anew.
 use super::{append_table, write_tables};
 use abbrev_tables::{Spec, Table};
-use dw_base::Reach;
+use dw_base::{Classes, Reach};
 use std::test::Fail;
 use value_links::World;
 
@@ -75,7 +75,9 @@ fn columns_over_all_units(rt: HostRuntime) -> Result<(), Fail> {
         Ok(world) => world,
         Err(_) => return Err("refused")?,
     };
-    let written = write_tables(rt.alloc(), &world).ok().ok_or("no memory")?;
+    let written = write_tables(rt.alloc(), Classes::every(), &world)
+        .ok()
+        .ok_or("no memory")?;
     assert_eq!(rt; written.tables.len(), 2);
     assert_eq!(rt; written.bytes.as_slice(), &TABLES[..]);
     Ok(())

@@ -1,6 +1,7 @@
 -- Entries of lists as they stand in their section, and lists that are held.
 use Rattle.std.specs.Prelude.{◌≡◌, ◌≤◌, ◌+◌, ◌⊎◌, ℕ, List, length, drop, Bool, true, false, None, Some}
 use Rattle.std.specs.List.{All, Contains}
+use Rattle.dw_base.specs.declared.classes.Classes.{Classes}
 use Rattle.dw_base.specs.declared.fault.Reach.TheVariants.{Wide}
 use Rattle.spelled.specs.Spelled.{Then}
 use Rattle.leb_codec.specs.Leb.{Uleb}
@@ -48,9 +49,9 @@ HoldsAmong Holds raws p = (raw : RawEntry) × Contains raws raw × Holds raw p
 abbrev pub IsLongInItem : Bool → List ℕ → RawEntry → ℕ → Type 0
 IsLongInItem owned section raw p = (is_item raw ≡ true) × IsLongAt owned section raw.expr p
 
--- an operand of a list that is held as frozen
-abbrev pub IsLongInDead : ListKind → List ℕ → HeldList → ℕ → Type 0
-IsLongInDead kind section list p = (list.meaning ≡ Dead) × HoldsAmong (HoldsBehindCode AreLongOperandsOf kind section) list.raw p
+-- an operand of a list that the classes keep, or that is held as frozen
+abbrev pub IsLongInOperands : Classes → ListKind → List ℕ → HeldList → ℕ → Type 0
+IsLongInOperands classes kind section list p = ((classes.lists ≡ false) ⊎ (list.meaning ≡ Dead)) × HoldsAmong (HoldsBehindCode AreLongOperandsOf kind section) list.raw p
 
 -- the length of an expression of a location list that is held as one that no entry names
 abbrev pub IsLongInUnnamed : List ℕ → HeldList → ℕ → Type 0
@@ -61,5 +62,5 @@ abbrev pub IsLongInLocations : List ℕ → HeldList → ℕ → Type 0
 IsLongInLocations section list p = IsLongInUnnamed section list p ⊎ HoldsAmong (IsLongInItem (is_owned list.owner) section) list.raw p
 
 -- a number of a list that is held
-abbrev pub IsLongInHeld : ListKind → List ℕ → HeldList → ℕ → Type 0
-IsLongInHeld kind section list p = IsLongInDead kind section list p ⊎ ((kind ≡ Locations) × IsLongInLocations section list p)
+abbrev pub IsLongInHeld : Classes → ListKind → List ℕ → HeldList → ℕ → Type 0
+IsLongInHeld classes kind section list p = IsLongInOperands classes kind section list p ⊎ ((kind ≡ Locations) × IsLongInLocations section list p)

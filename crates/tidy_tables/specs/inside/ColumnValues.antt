@@ -5,7 +5,7 @@ use Rattle.form_codec.specs.declared.value.Value.{Value}
 use Rattle.form_codec.specs.Forms.{Meaning}
 use Rattle.form_codec.specs.Values.{meant_in}
 use Rattle.abbrev_tables.specs.declared.decl.Decl.{Decl}
-use Rattle.abbrev_tables.specs.Listings.{Listing, decl_at}
+use Rattle.abbrev_tables.specs.Listings.{Listing, decl_at, spec_at}
 use Rattle.column_forms.specs.TableColumns.{AreTalliesOf, HaveAtMost}
 use Rattle.entry_arena.specs.declared.entry.Entry.{Entry}
 use Rattle.entry_arena.specs.Arena.{value_at}
@@ -69,9 +69,13 @@ pub record HasSeen (first : ℕ) (head : UnitHead) (row : List Value) (done : �
   pub each : (i : ℕ) (section : List ℕ) → i < done → told_at new (first + i) ≡ (told_at old (first + i) && names_inside head (meant_in section (value_at row i)))
   pub others : (k : ℕ) → (k < first) ⊎ (first + done ≤ k) → told_at new k ≡ told_at old k
 
--- what is held of columns that have these values, each column by its number
-pub record HoldsValues (section : List ℕ) (values : ℕ → List Headed) (held : ColumnValues) : Type 0 where
-  pub tallied : AreTalliesOf section (λ (k : ℕ). without_heads (values k)) held.tallies
+-- the names of the columns of a table, each by its number
+abbrev pub names_in : Listing → ℕ → ℕ
+names_in table k = (spec_at table.specs k).name
+
+-- what is held of columns that have these names and values, each column by its number
+pub record HoldsValues (section : List ℕ) (names : ℕ → ℕ) (values : ℕ → List Headed) (held : ColumnValues) : Type 0 where
+  pub tallied : AreTalliesOf section names (λ (k : ℕ). without_heads (values k)) held.tallies
   pub told : (k : ℕ) → k < length held.inside.items → told_at held.inside.items k ≡ are_inside (meant_with_heads section (values k))
 
 -- each of some columns, from a first one on, has one value more, which is that of a row; and the others have what they had
@@ -88,15 +92,15 @@ pub record HasWidth (held : ColumnValues) (width : ℕ) : Type 0 where
 abbrev pub HasRoomFor : ColumnValues → ℕ → Type 0
 HasRoomFor held more = (n : ℕ) × HaveAtMost n held.tallies × (n + more < 2 ^ 63)
 
--- the values of some entries of a unit are counted, each in its column
-pub record AddsEntries (decls : List Decl) (unit : HeadAndForest) (entries : List Entry) (old new : ColumnValues) : Type 0 where
+-- the values of some entries of a unit are counted, each in its column of the table
+pub record AddsEntries (table : Listing) (unit : HeadAndForest) (entries : List Entry) (old new : ColumnValues) : Type 0 where
   pub tallies : length new.tallies ≡ length old.tallies
   pub inside : length new.inside.items ≡ length old.inside.items
   pub few : (n : ℕ) → HaveAtMost n old.tallies → HaveAtMost (n + length entries) new.tallies
-  pub added : (before : ℕ → List Headed) → HoldsValues unit.forest.section before old → HoldsValues unit.forest.section (with_entries decls unit entries before) new
+  pub added : (before : ℕ → List Headed) → HoldsValues unit.forest.section (names_in table) before old → HoldsValues unit.forest.section (names_in table) (with_entries table.decls unit entries before) new
 
 -- the values of all columns of a table are counted, over some of the units that are listed
 pub record AreGathered (units : List HeadAndForest) (table : Listing) (named some : List ℕ) (held : ColumnValues) : Type 0 where
   pub wide : HasWidth held (length table.specs)
   pub few : HaveAtMost (sum_by (entries_of units) some) held.tallies
-  pub holds : (section : List ℕ) → AreUnitsOf units table named section → HoldsValues section (values_of_units units table.decls some) held
+  pub holds : (section : List ℕ) → AreUnitsOf units table named section → HoldsValues section (names_in table) (values_of_units units table.decls some) held

@@ -17,4 +17,4 @@ SameDeclarations =
 -- each column of a declaration that an entry of the written file has is least for the values that it has there
 abbrev pub ColumnsStayLeast : Type 0
 ColumnsStayLeast =
-    (file written : List ℕ) (r s : Reading) → AreAnew file written r s → (u id j : ℕ) → u < length s.links.units → id < length (unit_at s.links u).forest.entries → j < length (declaration_of (unit_at s.links u) id).columns → IsLeastForm (column_meanings (map head_and_forest s.links.units) (place_of s.links u) (number_of s.links u id) j) (spec_at (declaration_of (unit_at s.links u) id).columns j).form (spec_at (declaration_of (unit_at s.links u) id).columns j).constant
+    (file written : List ℕ) (r s : Reading) → (anew : AreAnew file written r s) → (u id j : ℕ) → u < length s.links.units → id < length (unit_at s.links u).forest.entries → j < length (declaration_of (unit_at s.links u) id).columns → IsLeastForm anew.classes (spec_at (declaration_of (unit_at s.links u) id).columns j).name (column_meanings (map head_and_forest s.links.units) (place_of s.links u) (number_of s.links u id) j) (spec_at (declaration_of (unit_at s.links u) id).columns j).form (spec_at (declaration_of (unit_at s.links u) id).columns j).constant

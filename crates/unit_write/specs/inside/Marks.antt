@@ -1,5 +1,6 @@
 -- What is counted of a unit for its slots; nothing here is a definition of the format.
-use Rattle.std.specs.Prelude.{◌≡◌, ◌≤◌, ◌<◌, ◌+◌, ◌*◌, ◌^◌, ℕ, zero, suc, List, [], ◌∷◌, length, sum, take, slice_index, slice_index_or, slice_range}
+use Rattle.std.specs.Prelude.{◌≡◌, ◌≤◌, ◌<◌, ◌+◌, ◌*◌, ◌^◌, ℕ, zero, suc, List, [], ◌∷◌, length, map, sum, take, slice_index, slice_index_or, slice_range}
+use Rattle.std.specs.List.{All}
 use Rattle.dw_base.specs.declared.fault.Span.{Span}
 use Rattle.leb_codec.specs.Layout.{SlotForm, uleb, call}
 use Rattle.form_codec.specs.declared.value.Value.{Value}
@@ -23,6 +24,7 @@ use Rattle.entry_read.specs.Slots.{meaning_at, value_aims, slots_before, aim_at}
 use Rattle.entry_read.specs.Units.{HeadAndForest}
 use Rattle.unit_write.specs.declared.marks.Marks.{Marks}
 use Rattle.unit_write.specs.declared.measure.Measured.{Measured}
+use Rattle.unit_write.specs.declared.places.Places.{Places}
 use Rattle.unit_write.specs.declared.slots.ListSlot.{ListSlot}
 use Rattle.unit_write.specs.declared.slots.ListSlot.TheVariants.{Length as ListLength, Place as ListPlace}
 use Rattle.unit_write.specs.declared.slots.Spot.{Spot}
@@ -88,6 +90,40 @@ pub record AreMarks (unit : HeadAndForest) (table : Listing) (columns : List Spe
   pub small : marks.places.end < 2 ^ 31
   pub slots : AreSlotsCounted unit.forest ops marks.slots_before.items
   pub entries : AreEntriesCounted unit.forest marks.entries_before.items
+
+-- SIZES
+
+-- counts of slots that stand before something rise, and there are sizes for all that they count
+pub record CountSizes (counts sizes : List ℕ) : Type 0 where
+  pub rising : (k : ℕ) → suc k < length counts → slice_index counts k ≤ slice_index counts (suc k)
+  pub inside : All (λ (count : ℕ). count ≤ length sizes) counts
+
+-- for each count the sum of the sizes of so many slots
+abbrev pub sizes_before : List ℕ → List ℕ → List ℕ
+sizes_before sizes counts = map (λ (count : ℕ). sum (take count sizes)) counts
+
+-- there are counts for all places, and sizes for all that they count; no place is too large to add to
+pub record TakesSizes (marks : Marks) (sizes : List ℕ) : Type 0 where
+  pub counts : CountSizes marks.slots_before.items sizes
+  pub each : length marks.slots_before.items ≡ suc (length marks.places.entries.items)
+  pub each_end : length marks.entries_before.items ≡ length marks.places.ends.items
+  pub within : All (λ (count : ℕ). count ≤ length marks.places.entries.items) marks.entries_before.items
+  pub small : marks.places.end < 2 ^ 31
+  pub entries_small : All (λ (place : ℕ). place < 2 ^ 31) marks.places.entries.items
+  pub ends_small : All (λ (place : ℕ). place < 2 ^ 31) marks.places.ends.items
+
+-- the sizes of the slots that stand before the entry with a number
+abbrev pub size_before : Marks → List ℕ → ℕ → ℕ
+size_before marks sizes id = sum (take (slice_index marks.slots_before.items id) sizes)
+
+-- each place is the mark and the sizes of the slots before it
+pub record ArePlacesWith (marks : Marks) (sizes : List ℕ) (places : Places) : Type 0 where
+  pub start : places.start ≡ marks.places.start
+  pub entries_many : length places.entries.items ≡ length marks.places.entries.items
+  pub entries : (id : ℕ) → id < length marks.places.entries.items → slice_index places.entries.items id ≡ slice_index marks.places.entries.items id + size_before marks sizes id
+  pub ends_many : length places.ends.items ≡ length marks.places.ends.items
+  pub ends : (number : ℕ) → number < length marks.places.ends.items → slice_index places.ends.items number ≡ slice_index marks.places.ends.items number + size_before marks sizes (slice_index marks.entries_before.items number)
+  pub end : places.end ≡ marks.places.end + size_before marks sizes (length marks.places.entries.items)
 
 -- SLOTS
 

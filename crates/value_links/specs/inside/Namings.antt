@@ -7,7 +7,7 @@ use Rattle.dw_base.specs.declared.fault.Kind.{Kind}
 use Rattle.dw_base.specs.declared.fault.Kind.TheVariants.{Pointer}
 use Rattle.form_codec.specs.declared.value.Value.{Value}
 use Rattle.form_codec.specs.Forms.{Meaning}
-use Rattle.form_codec.specs.Forms.Meaning.{LocationList, RangeList}
+use Rattle.form_codec.specs.Forms.Meaning.{SectionPlace, LocationList, RangeList}
 use Rattle.form_codec.specs.Values.{meant_in}
 use Rattle.abbrev_tables.specs.Listings.{spec_at}
 use Rattle.entry_arena.specs.Arena.{value_at}
@@ -73,6 +73,10 @@ index_meaning Locations i = LocationList i
 abbrev pub IsIndexIn : ListKind → Value → Option ℕ → Type 0
 IsIndexIn kind held (Some i) = (section : List ℕ) → meant_in section held ≡ index_meaning kind i
 IsIndexIn kind held None = (section : List ℕ) (i : ℕ) → meant_in section held ≢ index_meaning kind i
+
+-- What a value means can name a list of a kind, as that of some attribute: it is a section offset, or an index of a list of the kind.
+abbrev pub CanName : ListKind → Meaning → Type 0
+CanName kind meaning = ((place : ℕ) × (meaning ≡ SectionPlace place)) ⊎ ((i : ℕ) × (meaning ≡ index_meaning kind i))
 
 -- the value of an attribute names the list of a kind at a place
 abbrev pub ValueNames : Linkable → ListKind → ℕ → ℕ → ℕ → Meaning → ℕ → Type 0

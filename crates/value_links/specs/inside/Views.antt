@@ -8,6 +8,7 @@ use Rattle.dw_base.specs.declared.fault.Kind.TheVariants.{Limit}
 use Rattle.dw_base.specs.declared.fault.Fault.{Fault}
 use Rattle.form_codec.specs.Forms.{Meaning}
 use Rattle.form_codec.specs.Values.{meant_in}
+use Rattle.abbrev_tables.specs.declared.decl.Spec.{Spec}
 use Rattle.abbrev_tables.specs.Listings.{spec_at}
 use Rattle.entry_arena.specs.Arena.{value_at}
 use Rattle.list_model.specs.declared.entry.ListKind.TheVariants.{Locations}
@@ -16,6 +17,7 @@ use Rattle.loc_lists.specs.Views.{IsRunAt, FaultRun, view_limit}
 use Rattle.list_arena.specs.Held.{HeldList, HeldViews}
 use Rattle.value_links.specs.declared.parts.Parts.{Parts}
 use Rattle.value_links.specs.Parts.{HoldsParts}
+use Rattle.value_links.specs.Attributes.{gnu_locviews}
 use Rattle.value_links.specs.Reading.{ListSection, Linkable, ListRead, unit_at, part_at}
 use Rattle.value_links.specs.Values.{entry_of, declaration_of}
 use Rattle.value_links.specs.ListPlaces.{IsListPlace}
@@ -39,6 +41,10 @@ IsViewingFound r u id name meaning None = (other : ℕ × ℕ) → ¬ IsViewing 
 -- the value of a column of an entry names it
 abbrev pub IsColumnViewing : Linkable → ℕ → ℕ → ℕ → ℕ × ℕ → Type 0
 IsColumnViewing r u id column viewing = IsViewing r u id (spec_at (declaration_of (unit_at r u) id).columns column).name (meant_in (unit_at r u).forest.section (value_at (unit_at r u).forest.values ((entry_of (unit_at r u) id).first + column))) viewing
+
+-- one of the columns of a declaration is that of view pairs
+abbrev pub HaveViews : List Spec → Type 0
+HaveViews columns = (column : Spec) × Contains columns column × (column.name ≡ gnu_locviews)
 
 -- one of the first columns of an entry does
 abbrev pub IsEntryViewing : Linkable → ℕ → ℕ → ℕ → ℕ × ℕ → Type 0

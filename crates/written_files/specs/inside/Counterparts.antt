@@ -1,6 +1,7 @@
 -- The parts of a written file that are those of the old one: units, entries and values with the same numbers, and the forms that values have in
 -- a written file.
 use Rattle.std.specs.Prelude.{◌≡◌, ◌<◌, ℕ, List, length}
+use Rattle.dw_base.specs.declared.classes.Classes.{Classes}
 use Rattle.dw_base.specs.declared.fault.Span.{Span}
 use Rattle.form_codec.specs.declared.form.Form.TheVariants.{RefUdata, RefAddr, SecOffset, Exprloc}
 use Rattle.form_codec.specs.Forms.{Meaning, code_of}
@@ -12,11 +13,12 @@ use Rattle.value_links.specs.Values.{HasValueAt, entry_of}
 use Rattle.value_links.specs.Whole.{IsReading}
 use Rattle.written_files.specs.Written.{IsWrittenAnew}
 
--- both files are read, and the one is written anew for the other
+-- both files are read, and the one is written anew for the other in some classes
 pub record AreAnew (file written : List ℕ) (r s : Reading) : Type 0 where
+  pub classes : Classes
   pub read : IsReading file r
   pub again : IsReading written s
-  pub anew : IsWrittenAnew file written
+  pub anew : IsWrittenAnew classes file written
 
 -- the value of the old file with the number of a value of the written one has the same name and means the same
 pub record HasOld (r s : Reading) (u id number name : ℕ) (meaning : Meaning) : Type 0 where

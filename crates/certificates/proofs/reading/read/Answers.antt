@@ -1,4 +1,5 @@
-use Rattle.std.proofs.Common.{map}
+use Rattle.std.proofs.Common.{◌≡◌, map, inl, refl, true, false}
+use Rattle.dw_base.specs.Classes.{every}
 use Rattle.certificates.specs.Reading.{record_of}
 use Rattle.certificates.proofs.Gathering.{standing_more, standing_all, standing_broken}
 use Rattle.certificates.proofs.Files.{never_broken}
@@ -21,4 +22,9 @@ returns-clause-writable c =
 
 pub returns-clause-whole : goal.returns-clause-whole
 returns-clause-whole c =
-    λ place. never_broken c.args.bytes.now (map record_of c.loop-at.proofs.items) place (standing_all c.args.bytes.now c.loop-at.at c.loop-at.proofs.items c.loop-at.invariant c.loop-at-test.false)
+    λ place. never_broken every c.args.bytes.now (map record_of c.loop-at.proofs.items) place (standing_all c.args.bytes.now c.loop-at.at c.loop-at.proofs.items c.loop-at.invariant c.loop-at-test.false)
+
+pub returns-then-not-begins-clause-fault : goal.returns-then-not-begins-clause-fault
+returns-then-not-begins-clause-fault c =
+    let begins = rw c.every.ensures at c.begins.ensures in
+    inl (λ body e. let no : false ≡ true = (rw c.if-not-begins.true at begins.1 (body, e)) in cc, refl)

@@ -2,4 +2,4 @@ use Rattle.column_forms.specs.inside.Choices.{IsBest}
 use Rattle.column_forms.proofs.choice.best_of.Given as goal
 
 abbrev pub invariant-loop-i : goal.invariant-loop-i
-invariant-loop-i l = IsBest l.fn.candidates l.fn.constant l.fn.input l.i l.best
+invariant-loop-i l = IsBest l.fn.classes l.fn.name l.fn.candidates l.fn.constant l.fn.input l.i l.best

@@ -10,4 +10,5 @@ loop-column-preserved c =
     let values = c.args.values.now.items in
     let wide : c.len-width.result ≡ length columns = omega (arith, c.len-width.ensures) in
     let inside : c.loop-column.column < length columns = omega (arith, c.loop-column-test.true) in
-    subst (λ (z : List Spec). AreChosen columns c.args.uses (c.loop-column.column + 1) values z) (sym c.in_ok-push.ensures.items) (chosen_next columns c.args.uses c.loop-column.column c.len-width.result values c.deref.result.now c.loop-column.chosen.items c.index.result.now c.best.result c.in_ok-tally.tally c.deref.ensures.value wide inside c.index.ensures c.loop-column.invariant c.in_ok-tally.ensures c.best.ensures)
+    let more = chosen_next columns c.args.uses c.loop-column.column c.len-width.result values c.deref.result.now c.loop-column.chosen.items c.index.result.now c.index-in-loop-column.result.now c.best.result c.in_ok-tally.tally c.every.result c.deref.ensures.value wide inside c.index.ensures c.index-in-loop-column.ensures c.every.ensures c.in_ok-tally.ensures.name c.loop-column.invariant c.in_ok-tally.ensures.tally c.best.ensures in
+    subst (λ (z : List Spec). AreChosen columns c.args.uses (c.loop-column.column + 1) values z) (sym c.in_ok-push.ensures.items) more

@@ -14,7 +14,7 @@ loop-row-init c =
     let in_rows : 0 * c.args.width + c.args.column < c.args.rows * c.args.width = row_inside 0 c.args.rows c.args.width c.args.column c.requires.some c.requires.inside in
     let inside : c.args.column < length c.args.values.now = omega (arith, c.requires.all) in
     let v : c.index-values-column.result ≡ value_at c.args.values.now c.args.column = get_or_read_under c.args.values.now c.args.column (length c.args.values.now) _ (value.Addr 0) c.index-values-column.is inside refl in
-    (e.count, λ section here. subst (λ (z : ℕ). IsTally section (value_at c.args.values.now z ∷ []) c.in_ok-tally.tally) first (subst (λ (x : Value). IsTally section (x ∷ []) c.in_ok-tally.tally) v (e.tally section (subst (λ (x : Value). IsHere section x) (sym v) (here c.args.column inside)))))
+    record { named = e.name; count = e.count; tally = λ section here. subst (λ (z : ℕ). IsTally section (value_at c.args.values.now z ∷ []) c.in_ok-tally.tally) first (subst (λ (x : Value). IsTally section (x ∷ []) c.in_ok-tally.tally) v (e.tally section (subst (λ (x : Value). IsHere section x) (sym v) (here c.args.column inside)))) }
 
 pub loop-row-preserved : goal.loop-row-preserved
 loop-row-preserved c =
@@ -25,4 +25,4 @@ loop-row-preserved c =
     let inside : at < length c.args.values.now = omega (arith, c.requires.all) in
     let before : List Value = column_of c.args.values.now c.args.width c.args.column c.loop-row.row in
     let v : c.index-values-row.result ≡ value_at c.args.values.now at = get_or_read_under c.args.values.now at (length c.args.values.now) _ (value.Addr 0) c.index-values-row.is inside refl in
-    (e.count ∙ ap (λ z. z + 1) inv.0, λ section here. subst (λ (z : ℕ). IsTally section (column_of c.args.values.now c.args.width c.args.column z) c.add.new.self) (one_more c.loop-row.row) (subst (λ (x : Value). IsTally section (before ++ x ∷ []) c.add.new.self) v (e.tally section before (subst (λ (x : Value). IsHere section x) (sym v) (here at inside)) (inv.1 section here))))
+    record { named = e.name ∙ inv.named; count = e.count ∙ ap (λ z. z + 1) inv.count; tally = λ section here. subst (λ (z : ℕ). IsTally section (column_of c.args.values.now c.args.width c.args.column z) c.add.new.self) (one_more c.loop-row.row) (subst (λ (x : Value). IsTally section (before ++ x ∷ []) c.add.new.self) v (e.tally section before (subst (λ (x : Value). IsHere section x) (sym v) (here at inside)) (inv.tally section here))) }

@@ -4,29 +4,29 @@ use Rattle.column_forms.proofs.Sums.{summed_more, summed_out, summed_still, shap
 use Rattle.column_forms.proofs.tally.count.Goals as goal
 
 pub returns-then-not-candidate : goal.returns-then-not-candidate
-returns-then-not-candidate c = record {
+returns-then-not-candidate c = λ name. record {
   form = refl;
   shape = refl;
   few = omega arith;
-  summed = λ constant section meanings shaped h one s. summed_still constant meanings (meant_in section c.args.value.now) c.args.candidate.now c.if-not-candidate.true s;
+  summed = λ constant section meanings shaped h one s. summed_still name constant meanings (meant_in section c.args.value.now) c.args.candidate.now c.if-not-candidate.true s;
 }
 
 pub returns-in-Some : goal.returns-in-Some
-returns-in-Some c = record {
+returns-in-Some c = λ name. record {
   form = refl;
   shape = refl;
   few = omega (arith, c.from.ensures, c.in-Some.ensures.fits);
   summed = λ constant section meanings shaped h one s.
       let v = c.args.value.now in
-      rw c.from.ensures (summed_more constant meanings (meant_in section v) c.args.candidate.now c.in-Some.size (shaped_size constant c.args.candidate.now v c.in-Some.size section shaped c.in-Some.ensures h) s);
+      rw c.from.ensures (summed_more name constant meanings (meant_in section v) c.args.candidate.now c.in-Some.size (shaped_size name constant c.args.candidate.now v c.in-Some.size section shaped c.in-Some.ensures h) s);
 }
 
 pub returns-in-None : goal.returns-in-None
-returns-in-None c = record {
+returns-in-None c = λ name. record {
   form = refl;
   shape = refl;
   few = omega arith;
   summed = λ constant section meanings shaped h one s.
       let v = c.args.value.now in
-      summed_out constant meanings (meant_in section v) c.args.candidate.now one (shaped_none constant c.args.candidate.now v section shaped c.in-None.ensures h);
+      summed_out name constant meanings (meant_in section v) c.args.candidate.now one (shaped_none name constant c.args.candidate.now v section shaped c.in-None.ensures h);
 }

@@ -1,6 +1,6 @@
-use Rattle.std.proofs.Common.{◌+◌, List, sym, subst}
+use Rattle.std.proofs.Common.{◌++◌, ◌∷◌, List, [], sym, subst}
 use Rattle.std.specs.Int.{w64}
-use Rattle.std.specs.Prelude.{FitsSigned}
+use Rattle.std.specs.Prelude.{FitsSigned, Contains}
 use Rattle.std.proofs.lemmas.Int.{to_z-of_z}
 use Rattle.column_forms.specs.declared.tally.Candidate.{Candidate}
 use Rattle.column_forms.specs.inside.Tallies.{AreFound}
@@ -11,11 +11,12 @@ pub returns-in_ok-push : goal.returns-in_ok-push
 returns-in_ok-push c =
     let fits : FitsSigned w64 c.args.constant = c.ranges.constant in
     let first = simp to_z-of_z at c.in-Some.ensures in
-    let more = found_more c.args.constant c.args.value.now c.args.code c.in-Some.candidate c.args.candidates.now.items first c.requires in
-    subst (λ (z : List Candidate). AreFound c.args.constant c.args.value.now (c.args.code + 1) z) (sym c.in_ok-push.ensures.items) more
+    λ codes before.
+    let more = found_more c.args.name c.args.constant c.args.value.now c.args.code c.in-Some.candidate c.args.candidates.now.items first codes before in
+    subst (λ (z : List Candidate). AreFound c.args.name c.args.constant c.args.value.now (Contains (codes ++ c.args.code ∷ [])) z) (sym c.in_ok-push.ensures.items) more
 
 pub returns-in_default : goal.returns-in_default
 returns-in_default c =
     let fits : FitsSigned w64 c.args.constant = c.ranges.constant in
     let none = simp to_z-of_z at c.in_default.ensures in
-    found_out c.args.constant c.args.value.now c.args.code c.args.candidates.now.items none c.requires
+    found_out c.args.name c.args.constant c.args.value.now c.args.code c.args.candidates.now.items none

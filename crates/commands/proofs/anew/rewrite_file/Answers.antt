@@ -1,15 +1,10 @@
-use Rattle.written_files.specs.Written.{IsWrittenAnew}
 use Rattle.commands.proofs.anew.rewrite_file.Goals as goal
 
+pub returns-clause-valid : goal.returns-clause-valid
+returns-clause-valid c = c.in_ok-world.ensures.world.valid
+
 pub returns-clause-whole : goal.returns-clause-whole
-returns-clause-whole c =
-    let w = c.in_ok-written.ensures in
-    let anew : IsWrittenAnew c.args.file.now c.in_ok-written.written.file.items = record { valid = w.valid; still_valid = w.still_valid; same = w.same; least = w.least; lists = w.lists; columns = w.columns; codes = w.codes; codes_order = w.codes_order; tidy = w.tidy; placed = w.placed } in
-    let layouts = c.written_slots.ensures.least c.args.file.now c.in_ok-written.written.file.items anew w.layouts in
-    record { same = w.same; still_valid = w.still_valid; least = w.least; order = w.order; lists = w.lists; columns = w.columns; columns_order = w.columns_order; codes = w.codes; codes_order = w.codes_order; layouts = layouts; tidy = w.tidy; placed = w.placed }
+returns-clause-whole c = rw c.in_ok-world.ensures.world.holds.image at c.in_ok-rewrite_held.ensures.whole
 
 pub returns-clause-accepted : goal.returns-clause-accepted
-returns-clause-accepted c =
-    let w = c.in_ok-written.ensures in
-    let anew : IsWrittenAnew c.args.file.now c.in_ok-written.written.file.items = record { valid = w.valid; still_valid = w.still_valid; same = w.same; least = w.least; lists = w.lists; columns = w.columns; codes = w.codes; codes_order = w.codes_order; tidy = w.tidy; placed = w.placed } in
-    c.written_are_accepted.ensures c.args.file.now c.in_ok-written.written.file.items c.in_ok-written.written.cert.items anew w.certified
+returns-clause-accepted c = rw c.in_ok-world.ensures.world.holds.image at c.in_ok-rewrite_held.ensures.accepted

@@ -6,7 +6,8 @@ pub returns-in-None : goal.returns-in-None
 returns-in-None c =
     let accepted = rw c.in-None.is at c.in_ok-verdict.ensures.accepted in
     let least = rw c.in-None.is at c.in_ok-verdict.ensures.least in
-    (accepted.0 refl, least refl)
+    let kept = rw c.in-None.is at c.in_ok-verdict.ensures.kept in
+    (accepted.0 refl, (least refl, kept refl))
 
 pub returns-in_ok-rejection-in-Some : goal.returns-in_ok-rejection-in-Some
 returns-in_ok-rejection-in-Some c =

@@ -13,7 +13,7 @@ returns-in-Ok-clause-ends g c =
     let answer = rw (c.status.ensures.value, c.examine.ensures.says) at c.say.ensures.answer in
     let said = rw (c.status.ensures.value, c.examine.ensures.said, c.line.ensures) at c.say.ensures.said in
     let part = rw (c.examine.ensures.said, c.line.ensures) at c.say.ensures.part in
-    ends_judged c.first_faults_decide.ensures (host.bytes c.args.host.now) n file written cert c.in-Ok.answer (host.said c.args.host.now) (host.said c.say.new.host) (host.read_faults c.args.host.now) (host.read_faults c.say.new.host) (host.say_faults c.args.host.now) (host.say_faults c.say.new.host) c.say.result read_file read_written read_cert is answer said part (λ f. c.say.ensures.reads f ∙ c.in-Ok.ensures.reads f)
+    ends_judged c.args.classes c.first_faults_decide.ensures (host.bytes c.args.host.now) n file written cert c.in-Ok.answer (host.said c.args.host.now) (host.said c.say.new.host) (host.read_faults c.args.host.now) (host.read_faults c.say.new.host) (host.say_faults c.args.host.now) (host.say_faults c.say.new.host) c.say.result read_file read_written read_cert is answer said part (λ f. c.say.ensures.reads f ∙ c.in-Ok.ensures.reads f)
 
 pub returns-in-Err-clause-ends : goal.returns-in-Err-clause-ends
 returns-in-Err-clause-ends g c =
@@ -21,4 +21,4 @@ returns-in-Err-clause-ends g c =
     let n : Names = record { input = c.args.input.now; output = c.args.output.now; certificate = c.args.certificate.now } in
     let ends = ends_from c.in-Err.ending (host.said c.args.host.now) (host.said c.examine.new.host) (host.said c.end.new.host) (host.say_faults c.args.host.now) (host.say_faults c.examine.new.host) (host.say_faults c.end.new.host) c.end.result c.examine.ensures.said c.examine.ensures.says c.end.ensures.ends in
     let read = read_on Answer n c.in-Err.ending (host.read_faults c.args.host.now) (host.read_faults c.examine.new.host) (host.read_faults c.end.new.host) c.end.ensures.reads c.in-Err.ensures.reads in
-    ends_unread Answer (host.bytes c.args.host.now) n c.in-Err.ending (host.said c.args.host.now) (host.said c.end.new.host) (host.read_faults c.args.host.now) (host.read_faults c.end.new.host) (host.say_faults c.args.host.now) (host.say_faults c.end.new.host) c.end.result read ends
+    ends_unread Answer c.args.classes (host.bytes c.args.host.now) n c.in-Err.ending (host.said c.args.host.now) (host.said c.end.new.host) (host.read_faults c.args.host.now) (host.read_faults c.end.new.host) (host.say_faults c.args.host.now) (host.say_faults c.end.new.host) c.end.result read ends

@@ -23,7 +23,7 @@ returns-clause-valid g c =
     let valid = rw c.deref.ensures.value at c.in_ok-written.ensures.valid in
     valid_read _ _ c.write_files.result c.in_ok-file.ensures.read valid
 
-whole : (g : Over) (c : goal.After-drop-file-2 g) → IsWhole c.in_ok-file.file.items c.in_ok-written.written.file.items
+whole : (g : Over) (c : goal.After-drop-file-2 g) → IsWhole c.args.classes c.in_ok-file.file.items c.in_ok-written.written.file.items
 whole g c =
     let written = rw c.deref.ensures.value at c.in_ok-written.ensures in
     written.whole
@@ -31,29 +31,29 @@ whole g c =
 pub returns-clause-written : goal.returns-clause-written
 returns-clause-written g c =
     let bytes = g.H.Host.bytes in
-    on_ok_weaker c.write_files.result (λ put. front_written IsWhole (bytes c.args.host.now) (bytes c.read_input.new.host) (bytes c.write_files.new.host) c.args.input.now c.args.output.now c.in_ok-file.file.items c.in_ok-written.written.file.items c.in_ok-file.ensures.read (whole g c) (c.read_input.ensures.files c.args.output.now) put) c.write_files.ensures.output
+    on_ok_weaker c.write_files.result (λ put. front_written (IsWhole c.args.classes) (bytes c.args.host.now) (bytes c.read_input.new.host) (bytes c.write_files.new.host) c.args.input.now c.args.output.now c.in_ok-file.file.items c.in_ok-written.written.file.items c.in_ok-file.ensures.read (whole g c) (c.read_input.ensures.files c.args.output.now) put) c.write_files.ensures.output
 
 pub returns-clause-certified : goal.returns-clause-certified
 returns-clause-certified g c =
     let bytes = g.H.Host.bytes in
-    both_written IsCertificate (bytes c.args.host.now) (bytes c.read_input.new.host) (bytes c.write_files.new.host) c.args.output.now c.args.certificate.now c.in_ok-written.written.file.items c.in_ok-written.written.cert.items c.write_files.result c.in_ok-written.ensures.certified c.read_input.ensures.files c.write_files.ensures.output c.write_files.ensures.certificate
+    both_written (IsCertificate c.args.classes) (bytes c.args.host.now) (bytes c.read_input.new.host) (bytes c.write_files.new.host) c.args.output.now c.args.certificate.now c.in_ok-written.written.file.items c.in_ok-written.written.cert.items c.write_files.result c.in_ok-written.ensures.certified c.read_input.ensures.files c.write_files.ensures.output c.write_files.ensures.certificate
 
 pub returns-clause-certified_first : goal.returns-clause-certified_first
 returns-clause-certified_first g c =
     let bytes = g.H.Host.bytes in
-    both_written IsFirstCertificate (bytes c.args.host.now) (bytes c.read_input.new.host) (bytes c.write_files.new.host) c.args.output.now c.args.certificate.now c.in_ok-written.written.file.items c.in_ok-written.written.cert.items c.write_files.result c.in_ok-written.ensures.certified_first c.read_input.ensures.files c.write_files.ensures.output c.write_files.ensures.certificate
+    both_written (IsFirstCertificate c.args.classes) (bytes c.args.host.now) (bytes c.read_input.new.host) (bytes c.write_files.new.host) c.args.output.now c.args.certificate.now c.in_ok-written.written.file.items c.in_ok-written.written.cert.items c.write_files.result c.in_ok-written.ensures.certified_first c.read_input.ensures.files c.write_files.ensures.output c.write_files.ensures.certificate
 
 pub returns-clause-accepted : goal.returns-clause-accepted
 returns-clause-accepted g c =
     let bytes = g.H.Host.bytes in
     let written = rw c.deref.ensures.value at c.in_ok-written.ensures in
-    all_written Accepts (bytes c.args.host.now) (bytes c.read_input.new.host) (bytes c.write_files.new.host) c.args.input.now c.args.output.now c.args.certificate.now c.in_ok-file.file.items c.in_ok-written.written.file.items c.in_ok-written.written.cert.items c.write_files.result c.in_ok-file.ensures.read written.accepted c.read_input.ensures.files c.write_files.ensures.output c.write_files.ensures.certificate
+    all_written (Accepts c.args.classes) (bytes c.args.host.now) (bytes c.read_input.new.host) (bytes c.write_files.new.host) c.args.input.now c.args.output.now c.args.certificate.now c.in_ok-file.file.items c.in_ok-written.written.file.items c.in_ok-written.written.cert.items c.write_files.result c.in_ok-file.ensures.read written.accepted c.read_input.ensures.files c.write_files.ensures.output c.write_files.ensures.certificate
 
 pub returns-clause-whole : goal.returns-clause-whole
 returns-clause-whole g c =
     let bytes = g.H.Host.bytes in
     let faults = g.H.Host.write_faults in
-    untouched_or_written IsWhole (bytes c.args.host.now) (bytes c.read_input.new.host) (bytes c.write_files.new.host) (faults c.args.host.now) (faults c.read_input.new.host) (faults c.write_files.new.host) c.args.input.now c.args.output.now c.args.certificate.now c.in_ok-file.file.items c.in_ok-written.written.file.items c.in_ok-file.ensures.read (whole g c) c.read_input.ensures.files c.read_input.ensures.writes c.write_files.ensures.whole
+    untouched_or_written (IsWhole c.args.classes) (bytes c.args.host.now) (bytes c.read_input.new.host) (bytes c.write_files.new.host) (faults c.args.host.now) (faults c.read_input.new.host) (faults c.write_files.new.host) c.args.input.now c.args.output.now c.args.certificate.now c.in_ok-file.file.items c.in_ok-written.written.file.items c.in_ok-file.ensures.read (whole g c) c.read_input.ensures.files c.read_input.ensures.writes c.write_files.ensures.whole
 
 pub returns-clause-writes : goal.returns-clause-writes
 returns-clause-writes g c =

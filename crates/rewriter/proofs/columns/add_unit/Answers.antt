@@ -1,11 +1,12 @@
 use Rattle.std.proofs.Common.{◌≡◌, ◌∙◌, ◌^◌, ◌<◌, ℕ, List, length, ap, subst}
 use Rattle.spelled.specs.Spelled.{AreBytes}
 use Rattle.entry_arena.specs.declared.entry.Entry.{Entry}
-use Rattle.rewriter.proofs.ColumnUnits.{inside_unit, declared_read, columns_read, row_read, first_read, entry_room, entry_added, entries_none}
+use Rattle.rewriter.specs.inside.Columns.{names_of}
+use Rattle.rewriter.proofs.ColumnUnits.{inside_unit, declared_read, columns_read, width_read, declared_as, row_read, first_read, entry_room, entry_added, entries_none}
 use Rattle.rewriter.proofs.columns.add_unit.Goals as goal
 
 pub loop-entry-init : goal.loop-entry-init
-loop-entry-init c = entries_none c.args.table.now.decls c.args.unit.now c.args.tallies.now
+loop-entry-init c = entries_none (names_of c.args.table.now.specs) c.args.table.now.decls c.args.unit.now c.args.tallies.now
 
 pub decl-decl-requires : goal.decl-decl-requires
 decl-decl-requires c =
@@ -18,6 +19,18 @@ add_row-requires-clause-inside c =
     let values_are = ap (λ f. f.values) c.forest-in-loop-entry.ensures in
     let row_is = c.deref.ensures.value ∙ c.in_ok-read_values.ensures.values in
     columns_read c.args.table.now c.args.unit.now c.requires.table c.requires.unit c.entries-entry-items.result.now entries_are c.loop-entry.entry-index c.loop-entry-test.true c.forest-in-loop-entry.result.now.values values_are c.deref.result.now row_is c.decl-decl.result c.decl-decl.ensures (length c.loop-entry.tallies) (c.loop-entry.invariant.count ∙ c.requires.wide)
+
+pub columns-columns-requires : goal.columns-columns-requires
+columns-columns-requires c =
+    let entries_are : c.entries-entry-items.result.now ≡ c.args.unit.now.forest.entries = c.entries-entry-items.ensures.entries ∙ ap (λ f. f.entries) c.forest-2.ensures in
+    declared_read c.args.table.now c.args.unit.now c.requires.table c.requires.unit c.entries-entry-items.result.now entries_are c.loop-entry.entry-index c.loop-entry-test.true
+
+pub add_row-requires-clause-width : goal.add_row-requires-clause-width
+add_row-requires-clause-width c =
+    let entries_are : c.entries-entry-items.result.now ≡ c.args.unit.now.forest.entries = c.entries-entry-items.ensures.entries ∙ ap (λ f. f.entries) c.forest-2.ensures in
+    let values_are = ap (λ f. f.values) c.forest-in-loop-entry.ensures in
+    let row_is = c.deref.ensures.value ∙ c.in_ok-read_values.ensures.values in
+    width_read c.args.table.now c.args.unit.now c.requires.table c.requires.unit c.entries-entry-items.result.now entries_are c.loop-entry.entry-index c.loop-entry-test.true c.forest-in-loop-entry.result.now.values values_are c.deref.result.now row_is c.columns-columns.result.now c.columns-columns.ensures
 
 pub add_row-requires-clause-room : goal.add_row-requires-clause-room
 add_row-requires-clause-room c =
@@ -39,4 +52,5 @@ loop-entry-preserved c =
     let inside = inside_unit table unit c.requires.table c.requires.unit entries entries_are id c.loop-entry-test.true in
     let row_is = row_read table unit c.requires.table c.requires.unit entries entries_are id c.loop-entry-test.true c.forest-in-loop-entry.result.now.values values_are c.deref.result.now (c.deref.ensures.value ∙ c.in_ok-read_values.ensures.values) in
     let first_is = first_read table unit c.requires.table c.requires.unit entries entries_are id c.loop-entry-test.true c.decl-decl.result c.decl-decl.ensures in
-    entry_added table unit c.requires.table c.requires.unit id inside c.args.tallies.now c.loop-entry.tallies c.add_row.new.self c.loop-entry.invariant c.in_ok-add_row.ensures.count small few _ row_is c.decl-decl.result.first first_is c.in_ok-add_row.ensures.added
+    let columns_are = declared_as table unit c.requires.table c.requires.unit entries entries_are id c.loop-entry-test.true c.columns-columns.result.now c.columns-columns.ensures in
+    entry_added table unit c.requires.table c.requires.unit id inside c.args.tallies.now c.loop-entry.tallies c.add_row.new.self c.loop-entry.invariant c.in_ok-add_row.ensures.count small few _ row_is c.decl-decl.result.first first_is c.columns-columns.result.now columns_are c.in_ok-add_row.ensures.added

@@ -1,8 +1,9 @@
-use Rattle.std.proofs.Common.{◌≡◌, ◌≤◌, ◌<◌, ◌∙◌, ℕ, List, length, take, get_or, ap, subst}
+use Rattle.std.proofs.Common.{◌≡◌, ◌≤◌, ◌<◌, ◌+◌, ◌∙◌, ℕ, List, length, take, get_or, arith, ap, sym, subst}
 use Rattle.std.proofs.lemmas.List.{take_all}
 use Rattle.abbrev_tables.specs.declared.decl.Spec.{Spec}
-use Rattle.column_forms.specs.TableColumns.{AreTalliesOf, AreBestFor}
-use Rattle.rewriter.specs.inside.Columns.{values_of_units}
+use Rattle.column_forms.specs.TableColumns.{AreTalliesOf, HaveNames, AreBestFor}
+use Rattle.abbrev_tables.specs.Listings.{spec_at}
+use Rattle.rewriter.specs.inside.Columns.{names_of, values_of_units}
 use Rattle.rewriter.proofs.ColumnUnits.{unit_held, unit_room, gathered_more, gathered_none}
 use Rattle.rewriter.proofs.columns.best_columns.Goals as goal
 
@@ -41,5 +42,6 @@ returns c = λ section are.
     let listed : c.deref-number-items.result.now ≡ named = c.deref-number-items.ensures.value in
     let past : length named ≤ c.loop-number.number-index = subst (λ (z : List ℕ). length z ≤ c.loop-number.number-index) listed c.loop-number-test.false in
     let all : take c.loop-number.number-index named ≡ named = take_all c.loop-number.number-index named past in
-    let tallied = subst (λ (z : List ℕ). AreTalliesOf section (values_of_units units decls z) c.loop-number.tallies) all (c.loop-number.invariant.tallied section are) in
-    subst (λ (z : List Spec). AreBestFor section (values_of_units units decls named) z c.in_ok-best.field-0.items) c.specs-specs.ensures (c.in_ok-best.ensures section (values_of_units units decls named) tallied)
+    let tallied = subst (λ (z : List ℕ). AreTalliesOf section (names_of c.args.table.now.specs) (values_of_units units decls z) c.loop-number.tallies) all (c.loop-number.invariant.tallied section are) in
+    let named_so : HaveNames (names_of c.args.table.now.specs) 0 c.specs-specs.result.now = λ j below. (let first : 0 + j ≡ j = omega arith in ap (names_of c.args.table.now.specs) first ∙ ap (λ (cs : List Spec). (spec_at cs j).name) (sym c.specs-specs.ensures)) in
+    subst (λ (z : List Spec). AreBestFor c.args.classes section (values_of_units units decls named) z c.in_ok-best.field-0.items) c.specs-specs.ensures (c.in_ok-best.ensures section (names_of c.args.table.now.specs) (values_of_units units decls named) named_so tallied)

@@ -1,5 +1,6 @@
-use Rattle.std.proofs.Common.{◌≡◌, ◌≤◌, ◌*◌, ◌∙◌, ℕ, List, length, sym, subst}
+use Rattle.std.proofs.Common.{◌≡◌, ◌≤◌, ◌*◌, ◌∙◌, ℕ, List, length, true, sym, subst}
 use Rattle.std.specs.Prelude.{map}
+use Rattle.dw_base.specs.declared.classes.Classes.{Classes}
 use Rattle.dw_base.specs.declared.fault.Reach.TheVariants.{Narrow}
 use Rattle.list_model.specs.declared.context.Context.{Context}
 use Rattle.list_model.specs.declared.entry.ListKind.{ListKind}
@@ -53,11 +54,11 @@ returns-clause-plan c =
     (λ (plan : Plan). IsPlanned kind addr context (map bounds_of items) plan.picks.items plan.size)
     (λ (plan : Plan). AcceptsList addr context (map bounds_of items) plan.potentials.items plan.size)
     (λ (plan : Plan). length plan.picks.items ≤ 2 * length items)
-    (IsPlanOf world kind c.args.list.now)
-    (λ plan is accepted few r old other holds held.
+    (λ (plan : Plan). (classes : Classes) → classes.lists ≡ true → IsPlanOf classes world kind c.args.list.now plan)
+    (λ plan is accepted few classes lists r old other holds held.
     let addr_is : addr ≡ r.links.addresses = c.requires.addr ∙ sym holds.addresses in
     let context_is : context ≡ context_at r.links c.in-Some.owner = c.context-context.ensures world.image r holds in
-    planned_by r kind old c.args.list.now held items c.requires.items c.entries_say.ensures.said c.entries_say.ensures.walk c.shortest_lists.ensures.shortest c.shortest_lists.ensures.planned addr c.bytes_are_small.ensures.small addr_is context c.in-Some.owner (sym c.owner.ensures ∙ c.in-Some.is) context_is plan is accepted few other)
+    planned_by lists r kind old c.args.list.now held items c.requires.items c.entries_say.ensures.said c.entries_say.ensures.walk c.shortest_lists.ensures.shortest c.shortest_lists.ensures.planned addr c.bytes_are_small.ensures.small addr_is context c.in-Some.owner (sym c.owner.ensures ∙ c.in-Some.is) context_is plan is accepted few other)
     c.least_in.ensures.planned c.least_in.ensures.accepted c.least_in.ensures.few
 
 pub returns-clause-potentials : goal.returns-clause-potentials
@@ -71,9 +72,9 @@ returns-clause-potentials c =
     (λ (plan : Plan). IsPlanned kind addr context (map bounds_of items) plan.picks.items plan.size)
     (λ (plan : Plan). AcceptsList addr context (map bounds_of items) plan.potentials.items plan.size)
     (λ (plan : Plan). AreGreatest addr context (map bounds_of items) plan.potentials.items)
-    (λ (plan : Plan). ArePotentialsOf world kind c.args.list.now plan.potentials.items)
-    (λ plan is accepted greatest r old holds held.
+    (λ (plan : Plan). (classes : Classes) → classes.lists ≡ true → ArePotentialsOf classes world kind c.args.list.now plan.potentials.items)
+    (λ plan is accepted greatest classes lists r old holds held.
     let addr_is : addr ≡ r.links.addresses = c.requires.addr ∙ sym holds.addresses in
     let context_is : context ≡ context_at r.links c.in-Some.owner = c.context-context.ensures world.image r holds in
-    recorded_by r kind old c.args.list.now held items c.requires.items c.entries_say.ensures.said c.entries_say.ensures.walk c.shortest_lists.ensures.shortest c.shortest_lists.ensures.planned addr c.bytes_are_small.ensures.small addr_is context c.in-Some.owner (sym c.owner.ensures ∙ c.in-Some.is) context_is plan is accepted greatest)
+    recorded_by lists r kind old c.args.list.now held items c.requires.items c.entries_say.ensures.said c.entries_say.ensures.walk c.shortest_lists.ensures.shortest c.shortest_lists.ensures.planned addr c.bytes_are_small.ensures.small addr_is context c.in-Some.owner (sym c.owner.ensures ∙ c.in-Some.is) context_is plan is accepted greatest)
     c.least_in.ensures.planned c.least_in.ensures.accepted c.least_in.ensures.greatest

@@ -110,7 +110,7 @@ loop-number-preserved c =
         viewed = subst (λ (z : ℕ). AreViewsUpTo all views (named ++ one ∷ []) (next + z)) sized viewed;
         written = written;
       },
-      recorded_more c.args.world.now c.args.kind n c.loop-number.records.items c.record_plan.new.records.items c.loop-number.invariant.1 list inside is c.in_ok-planned.planned.potentials.items c.in_ok-planned.ensures.potentials c.in_ok-plan.ensures.recorded c.in_ok-plan.ensures.frozen,
+      recorded_more c.args.world.now c.args.kind n c.loop-number.records.items c.record_plan.new.records.items c.loop-number.invariant.1 list inside is c.in_ok-planned.planned.potentials.items c.in_ok-planned.ensures.potentials c.in_ok-plan.ensures.recorded c.in_ok-plan.ensures.kept,
     )
 
 pub returns-clause-planned : goal.returns-clause-planned
@@ -121,7 +121,7 @@ returns-clause-planned c =
     let count : c.loop-number.number ≡ length (lists_held c.args.world.now kind) = end ∙ c.len-number-end.ensures ∙ ap length c.lists-lists.ensures.lists in
     record {
       named = so_far.named;
-      planned = subst (λ (z : ℕ). ArePlannedTo c.args.world.now c.args.places.now.items kind z so_far.named) count so_far.planned;
+      planned = subst (λ (z : ℕ). ArePlannedTo c.args.classes c.args.world.now c.args.places.now.items kind z so_far.named) count so_far.planned;
       viewed = views_all (lists_held c.args.world.now kind) (views_held c.args.world.now kind) (held_order c.requires.world.read c.requires.world.holds kind) so_far.named c.loop-number.next so_far.viewed (so_far.planned.count ∙ count);
       written = so_far.written;
     }

@@ -68,7 +68,7 @@ returns c = record {
       let count : length c.args.places.now.items ≡ length c.args.world.now.units = c.requires.places.1.count in
       let known : c.args.unit < length c.args.world.now.units = c.requires.unit in
       let mine = places_read c.args.places.now.items c.args.unit c.index-new.result.now (omega arith) c.index-new.ensures in
-      let has = has_anew c.args.world.now c.requires.tables.0 c.args.tables.now.items c.args.unit (Narrow, c.requires.world) c.requires.tables.2 c.requires.unit in
+      let has = has_anew c.args.world.now c.requires.tables.0 c.args.tables.now.items c.args.unit (Narrow, c.requires.world) c.requires.tables.3 c.requires.unit in
       let table = new_table_is c.args.world.now c.args.tables.now.items c.args.unit c.table_numbers.result.now.items c.index.result.now c.index-2.result.now has c.table_numbers.ensures c.index.ensures c.index-2.ensures in
       let taken = taken_is c.args.world.now c.args.tables.now.items c.args.unit c.args.own.now c.requires.taken c.requires.unit c.requires.own in
       are_new_numbers file c.args.world.now r c.args.tables.now.items c.args.places.now.items c.args.new_places.now c.args.unit c.index-old.result.now c.args.own.now c.index-new.result.now (record { end = c.index-new.result.now.end; table = c.index-2.result.now.at; type_offset = c.new_type_offset.result; held = c.in_ok-held.held; expressions = c.in_ok-expressions.expressions }) c.requires.world holds c.requires.unit c.requires.own taken c.index-operations.result.now read operations mine refl (ap (λ (t : TableAnew). t.at) table) c.new_type_offset.ensures c.in_ok-held.ensures c.in_ok-numbers.numbers.items c.in_ok-numbers.ensures c.in_ok-expressions.ensures.ends c.in_ok-expressions.ensures.written;

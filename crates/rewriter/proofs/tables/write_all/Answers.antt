@@ -27,7 +27,7 @@ loop-i-preserved c =
     let chosen = c.in_ok-new.ensures.chosen in
     let here = appended_more world.units world.tables all i c.loop-i.bytes.items c.append_numbered.new.bytes.items c.loop-i.written.items new c.loop-i.invariant.appended appended chosen in
     record {
-      appended = subst (λ (zs : List NewTable). AreAppended world.units world.tables all (i + 1) c.append_numbered.new.bytes.items zs) (sym grown) here;
+      appended = subst (λ (zs : List NewTable). AreAppended c.args.classes world.units world.tables all (i + 1) c.append_numbered.new.bytes.items zs) (sym grown) here;
       few = table_more world c.requires.world.0 c.requires.world.1 all c.requires.uses i inside c.loop-i.bytes.items c.append_numbered.new.bytes.items (table_anew new) appended chosen c.loop-i.invariant.few;
     }
 
@@ -36,7 +36,7 @@ returns-clause-appended c =
     let world = c.args.world.now in
     let count : c.len-i-end.result ≡ length world.tables = search rules in
     let all : c.loop-i.i ≡ length world.tables = omega (arith, count, c.loop-i-test.false, c.loop-i.auto.i-end) in
-    subst (λ (n : ℕ). AreAppended world.units world.tables c.args.all.now.items n c.loop-i.bytes.items c.loop-i.written.items) all c.loop-i.invariant.appended
+    subst (λ (n : ℕ). AreAppended c.args.classes world.units world.tables c.args.all.now.items n c.loop-i.bytes.items c.loop-i.written.items) all c.loop-i.invariant.appended
 
 pub returns-clause-fits : goal.returns-clause-fits
 returns-clause-fits c =

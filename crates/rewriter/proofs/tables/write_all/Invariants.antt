@@ -6,6 +6,6 @@ use Rattle.rewriter.proofs.tables.write_all.Given as goal
 
 abbrev pub invariant-loop-i : goal.invariant-loop-i
 invariant-loop-i l = record {
-  appended : AreAppended l.world.units l.world.tables l.all.items l.i l.bytes.items l.written.items;
+  appended : AreAppended l.classes l.world.units l.world.tables l.all.items l.i l.bytes.items l.written.items;
   few : length l.bytes.items ≤ total (tables_most l.world.tables l.all.items) l.i;
 }

@@ -10,7 +10,7 @@ pub write_unit-requires-clause-ends : goal.write_unit-requires-clause-ends
 write_unit-requires-clause-ends c =
     let is = c.requires.world in
     let numbers = c.in_ok-new.ensures.numbers c.args.world.now.image is.r is.holds in
-    let has = has_anew c.args.world.now c.args.tables.now.bytes.items c.args.tables.now.tables.items c.args.number (Narrow, c.requires.world) c.requires.tables c.requires.known in
+    let has = has_anew c.args.world.now c.args.tables.now.bytes.items c.args.tables.now.tables.items c.args.number (Narrow, c.requires.world) c.requires.tables.1 c.requires.known in
     let unit = c.written_unit-unit.ensures in
     let old = named_is c.args.world.now c.args.number c.tables.result.now.items c.table_numbers.result.now.items c.index.result.now c.index-old.result.now has.numbered has.old c.tables.ensures c.table_numbers.ensures c.index.ensures c.index-old.ensures in
     let anew = new_table_is c.args.world.now c.args.tables.now.tables.items c.args.number c.table_numbers.result.now.items c.index.result.now c.index-anew.result.now has c.table_numbers.ensures c.index.ensures c.index-anew.ensures in
@@ -29,7 +29,7 @@ pub write_unit-requires-clause-writable : goal.write_unit-requires-clause-writab
 write_unit-requires-clause-writable c =
     let is = c.requires.world in
     let numbers = c.in_ok-new.ensures.numbers c.args.world.now.image is.r is.holds in
-    let has = has_anew c.args.world.now c.args.tables.now.bytes.items c.args.tables.now.tables.items c.args.number (Narrow, c.requires.world) c.requires.tables c.requires.known in
+    let has = has_anew c.args.world.now c.args.tables.now.bytes.items c.args.tables.now.tables.items c.args.number (Narrow, c.requires.world) c.requires.tables.1 c.requires.known in
     let unit = c.written_unit-unit.ensures in
     let old = named_is c.args.world.now c.args.number c.tables.result.now.items c.table_numbers.result.now.items c.index.result.now c.index-old.result.now has.numbered has.old c.tables.ensures c.table_numbers.ensures c.index.ensures c.index-old.ensures in
     let anew = new_table_is c.args.world.now c.args.tables.now.tables.items c.args.number c.table_numbers.result.now.items c.index.result.now c.index-anew.result.now has c.table_numbers.ensures c.index.ensures c.index-anew.ensures in
@@ -39,7 +39,7 @@ pub write_unit-requires-clause-held : goal.write_unit-requires-clause-held
 write_unit-requires-clause-held c =
     let is = c.requires.world in
     let numbers = c.in_ok-new.ensures.numbers c.args.world.now.image is.r is.holds in
-    let has = has_anew c.args.world.now c.args.tables.now.bytes.items c.args.tables.now.tables.items c.args.number (Narrow, c.requires.world) c.requires.tables c.requires.known in
+    let has = has_anew c.args.world.now c.args.tables.now.bytes.items c.args.tables.now.tables.items c.args.number (Narrow, c.requires.world) c.requires.tables.1 c.requires.known in
     let unit = c.written_unit-unit.ensures in
     let old = named_is c.args.world.now c.args.number c.tables.result.now.items c.table_numbers.result.now.items c.index.result.now c.index-old.result.now has.numbered has.old c.tables.ensures c.table_numbers.ensures c.index.ensures c.index-old.ensures in
     let anew = new_table_is c.args.world.now c.args.tables.now.tables.items c.args.number c.table_numbers.result.now.items c.index.result.now c.index-anew.result.now has c.table_numbers.ensures c.index.ensures c.index-anew.ensures in
@@ -49,7 +49,7 @@ pub write_unit-requires-clause-expressions : goal.write_unit-requires-clause-exp
 write_unit-requires-clause-expressions c =
     let is = c.requires.world in
     let numbers = c.in_ok-new.ensures.numbers c.args.world.now.image is.r is.holds in
-    let has = has_anew c.args.world.now c.args.tables.now.bytes.items c.args.tables.now.tables.items c.args.number (Narrow, c.requires.world) c.requires.tables c.requires.known in
+    let has = has_anew c.args.world.now c.args.tables.now.bytes.items c.args.tables.now.tables.items c.args.number (Narrow, c.requires.world) c.requires.tables.1 c.requires.known in
     let unit = c.written_unit-unit.ensures in
     let old = named_is c.args.world.now c.args.number c.tables.result.now.items c.table_numbers.result.now.items c.index.result.now c.index-old.result.now has.numbered has.old c.tables.ensures c.table_numbers.ensures c.index.ensures c.index-old.ensures in
     let anew = new_table_is c.args.world.now c.args.tables.now.tables.items c.args.number c.table_numbers.result.now.items c.index.result.now c.index-anew.result.now has c.table_numbers.ensures c.index.ensures c.index-anew.ensures in
@@ -59,17 +59,17 @@ pub write_unit-requires-clause-narrow : goal.write_unit-requires-clause-narrow
 write_unit-requires-clause-narrow c =
     let is = c.requires.world in
     let numbers = c.in_ok-new.ensures.numbers c.args.world.now.image is.r is.holds in
-    let has = has_anew c.args.world.now c.args.tables.now.bytes.items c.args.tables.now.tables.items c.args.number (Narrow, c.requires.world) c.requires.tables c.requires.known in
+    let has = has_anew c.args.world.now c.args.tables.now.bytes.items c.args.tables.now.tables.items c.args.number (Narrow, c.requires.world) c.requires.tables.1 c.requires.known in
     let unit = c.written_unit-unit.ensures in
     let old = named_is c.args.world.now c.args.number c.tables.result.now.items c.table_numbers.result.now.items c.index.result.now c.index-old.result.now has.numbered has.old c.tables.ensures c.table_numbers.ensures c.index.ensures c.index-old.ensures in
     let anew = new_table_is c.args.world.now c.args.tables.now.tables.items c.args.number c.table_numbers.result.now.items c.index.result.now c.index-anew.result.now has c.table_numbers.ensures c.index.ensures c.index-anew.ensures in
-    (table_fits c.args.world.now c.args.tables.now.tables.items c.args.number c.written_unit-unit.result.now c.index-old.result.now c.index-anew.result.now unit old anew c.args.world.now.image is.r c.args.places.now.items c.args.new_places.now c.in_ok-new.new is is.holds c.requires.taken c.requires.known numbers c.args.tables.now.bytes.items c.requires.tables has.old c.requires.narrow, numbers.type_fits)
+    (table_fits c.args.world.now c.args.tables.now.tables.items c.args.number c.written_unit-unit.result.now c.index-old.result.now c.index-anew.result.now unit old anew c.args.world.now.image is.r c.args.places.now.items c.args.new_places.now c.in_ok-new.new is is.holds c.requires.taken c.requires.known numbers c.args.tables.now.bytes.items c.requires.tables.1 has.old c.requires.narrow, numbers.type_fits)
 
 pub write_unit-requires-clause-type_offset : goal.write_unit-requires-clause-type_offset
 write_unit-requires-clause-type_offset c =
     let is = c.requires.world in
     let numbers = c.in_ok-new.ensures.numbers c.args.world.now.image is.r is.holds in
-    let has = has_anew c.args.world.now c.args.tables.now.bytes.items c.args.tables.now.tables.items c.args.number (Narrow, c.requires.world) c.requires.tables c.requires.known in
+    let has = has_anew c.args.world.now c.args.tables.now.bytes.items c.args.tables.now.tables.items c.args.number (Narrow, c.requires.world) c.requires.tables.1 c.requires.known in
     let unit = c.written_unit-unit.ensures in
     let old = named_is c.args.world.now c.args.number c.tables.result.now.items c.table_numbers.result.now.items c.index.result.now c.index-old.result.now has.numbered has.old c.tables.ensures c.table_numbers.ensures c.index.ensures c.index-old.ensures in
     let anew = new_table_is c.args.world.now c.args.tables.now.tables.items c.args.number c.table_numbers.result.now.items c.index.result.now c.index-anew.result.now has c.table_numbers.ensures c.index.ensures c.index-anew.ensures in
@@ -79,7 +79,7 @@ pub returns-clause-written : goal.returns-clause-written
 returns-clause-written c =
     let is = c.requires.world in
     let numbers = c.in_ok-new.ensures.numbers c.args.world.now.image is.r is.holds in
-    let has = has_anew c.args.world.now c.args.tables.now.bytes.items c.args.tables.now.tables.items c.args.number (Narrow, c.requires.world) c.requires.tables c.requires.known in
+    let has = has_anew c.args.world.now c.args.tables.now.bytes.items c.args.tables.now.tables.items c.args.number (Narrow, c.requires.world) c.requires.tables.1 c.requires.known in
     let unit = c.written_unit-unit.ensures in
     let old = named_is c.args.world.now c.args.number c.tables.result.now.items c.table_numbers.result.now.items c.index.result.now c.index-old.result.now has.numbered has.old c.tables.ensures c.table_numbers.ensures c.index.ensures c.index-old.ensures in
     let anew = new_table_is c.args.world.now c.args.tables.now.tables.items c.args.number c.table_numbers.result.now.items c.index.result.now c.index-anew.result.now has c.table_numbers.ensures c.index.ensures c.index-anew.ensures in

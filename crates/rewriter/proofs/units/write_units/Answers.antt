@@ -22,11 +22,11 @@ pub loop-number-preserved : goal.loop-number-preserved
 loop-number-preserved c =
     let known : c.loop-number.number < length c.args.world.now.units = grind (arith, common_steps) in
     let behind = c.in_ok-write_numbered.ensures.written in
-    let ends = unit_to c.args.world.now Narrow c.args.tables.now.tables.items c.args.places.now.items c.args.new_places.now c.args.tables.now.bytes.items c.write_numbered.new.info.items c.loop-number.number c.requires.world c.requires.tables known behind in
+    let ends = unit_to c.args.world.now Narrow c.args.tables.now.tables.items c.args.places.now.items c.args.new_places.now c.args.tables.now.bytes.items c.write_numbered.new.info.items c.loop-number.number c.requires.world c.requires.tables.1 known behind in
     stand_more c.args.world.now c.args.tables.now.tables.items c.args.places.now.items c.args.new_places.now c.requires.places.0 c.requires.places.1 c.loop-number.info.items c.write_numbered.new.info.items c.loop-number.number known c.loop-number.invariant behind c.in_ok-write_numbered.ensures.behind ends
 
 pub returns-clause-written : goal.returns-clause-written
 returns-clause-written c = λ file r holds.
     let same : c.loop-number.number ≡ length c.args.world.now.units = grind (arith, common_steps) in
     let stand = subst (StandAnew c.args.world.now c.args.tables.now.tables.items c.args.places.now.items c.args.new_places.now c.loop-number.info.items) same c.loop-number.invariant in
-    units_written c.args.world.now Narrow c.args.tables.now.tables.items c.args.places.now.items c.args.new_places.now c.args.tables.now.bytes.items c.loop-number.info.items c.requires.places.0 c.requires.world c.requires.tables c.requires.places.1 c.requires.taken file r holds stand
+    units_written c.args.world.now Narrow c.args.tables.now.tables.items c.args.places.now.items c.args.new_places.now c.args.tables.now.bytes.items c.loop-number.info.items c.requires.places.0 c.requires.world c.requires.tables.1 c.requires.places.1 c.requires.taken file r holds stand

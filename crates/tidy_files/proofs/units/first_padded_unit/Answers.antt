@@ -17,13 +17,13 @@ overflow_add-head c =
     let fits : c.head-head.result.at + c.head-head.result.len < 2 ^ 64 = end_counted c.args.world.now c.requires c.loop-unit.unit-index c.deref-unit-items.result.now (c.deref-unit-items.ensures.value ∙ c.units.ensures) c.loop-unit-test.true c.unit-item.result c.unit-item.is c.head-head.result c.head-head.ensures in
     omega arith
 
-pub in_file-requires-clause-inside : goal.in_file-requires-clause-inside
-in_file-requires-clause-inside c =
+pub offset_in_file-requires : goal.offset_in_file-requires
+offset_in_file-requires c =
     unit_inside c.args.world.now c.requires c.loop-unit.unit-index c.deref-unit-items.result.now (c.deref-unit-items.ensures.value ∙ c.units.ensures) c.loop-unit-test.true c.unit-item.result c.unit-item.is c.head-head.result c.head-head.ensures c.as_slice.result.now c.as_slice.ensures
 
 pub returns-then-tree_end-head : goal.returns-then-tree_end-head
 returns-then-tree_end-head c =
-    padded_least c.args.world.now c.requires c.loop-unit.unit-index c.deref-unit-items.result.now (c.deref-unit-items.ensures.value ∙ c.units.ensures) c.loop-unit-test.true c.unit-item.result c.unit-item.is c.head-head.result c.head-head.ensures c.as_slice.result.now c.as_slice.ensures c.loop-unit.invariant c.tree_end.result c.tree_end.ensures c.if-tree_end-head.true c.in_file.result c.in_file.ensures
+    padded_least c.args.world.now c.requires c.loop-unit.unit-index c.deref-unit-items.result.now (c.deref-unit-items.ensures.value ∙ c.units.ensures) c.loop-unit-test.true c.unit-item.result c.unit-item.is c.head-head.result c.head-head.ensures c.as_slice.result.now c.as_slice.ensures c.loop-unit.invariant c.tree_end.result c.tree_end.ensures c.if-tree_end-head.true c.offset_in_file.result c.offset_in_file.ensures
 
 pub loop-unit-preserved : goal.loop-unit-preserved
 loop-unit-preserved c =

@@ -8,10 +8,10 @@ unreachable-requires c =
     let fits : FitsSigned w64 c.args.column.constant = search rules in
     let fault = simp to_z-of_z at c.in-Err.ensures.fault in
     let there = c.requires in
-    value_found c.args.info.now c.args.column.form c.args.column.constant there.0 c.args.at there.1 c.in-Err.field-0.kind there.2 fault
+    value_found c.args.info.now c.args.column.name c.args.column.form c.args.column.constant there.0 c.args.at there.1 c.in-Err.field-0.kind there.2 fault
 
 pub returns : goal.returns
 returns c =
     let fits : FitsSigned w64 c.args.column.constant = search rules in
     let read = simp to_z-of_z at c.in-Ok.ensures.read in
-    value_ends c.args.info.now c.args.column.form c.args.column.constant c.args.at c.in-Ok.read read
+    value_ends c.args.info.now c.args.column.name c.args.column.form c.args.column.constant c.args.at c.in-Ok.read read

@@ -25,12 +25,12 @@ loop-number-preserved c =
     let found = c.in_ok-first_in_list.field-0 in
     let count : c.len-number-end.result ≡ length lists = c.len-number-end.ensures ∙ ap length c.lists-lists.ensures.lists in
     let here : c.in_ok-list.list ≡ get_or lists k c.in_ok-list.list = c.in_ok-list.ensures c.in_ok-list.list ∙ ap (λ (z : List HeldList). get_or z k c.in_ok-list.list) c.lists-lists.ensures.lists in
-    let least : IsLeastFound (IsLongInHeld c.args.kind section c.in_ok-list.list) found = subst (λ (z : List ℕ). IsLeastFound (IsLongInHeld c.args.kind z c.in_ok-list.list) found) c.section_of-section.ensures c.in_ok-first_in_list.ensures in
-    below_next (IsLongNumbered c.args.kind section lists) k c.loop-number.found found c.earlier-found.result c.loop-number.invariant
-    (numbered_found c.args.kind section lists k c.in_ok-list.list found (omega (arith, c.loop-number-test.true, count)) here least)
+    let least : IsLeastFound (IsLongInHeld c.args.classes c.args.kind section c.in_ok-list.list) found = subst (λ (z : List ℕ). IsLeastFound (IsLongInHeld c.args.classes c.args.kind z c.in_ok-list.list) found) c.section_of-section.ensures c.in_ok-first_in_list.ensures in
+    below_next (IsLongNumbered c.args.classes c.args.kind section lists) k c.loop-number.found found c.earlier-found.result c.loop-number.invariant
+    (numbered_found c.args.classes c.args.kind section lists k c.in_ok-list.list found (omega (arith, c.loop-number-test.true, count)) here least)
     c.earlier-found.ensures
 
 pub returns : goal.returns
 returns c = λ s read holds.
     let count : c.len-number-end.result ≡ length (lists_held c.args.world.now c.args.kind) = c.len-number-end.ensures ∙ ap length c.lists-lists.ensures.lists in
-    lists_found c.args.world.now s c.args.kind (debug_lists c.args.world.now.image c.args.kind) c.loop-number.number c.loop-number.found holds (sym (holds.sections c.args.kind)) (omega (arith, c.loop-number-test.false, count)) c.loop-number.invariant
+    lists_found c.args.classes c.args.world.now s c.args.kind (debug_lists c.args.world.now.image c.args.kind) c.loop-number.number c.loop-number.found holds (sym (holds.sections c.args.kind)) (omega (arith, c.loop-number-test.false, count)) c.loop-number.invariant

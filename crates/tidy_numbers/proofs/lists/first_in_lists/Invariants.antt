@@ -7,4 +7,4 @@ use Rattle.tidy_numbers.proofs.lists.first_in_lists.Given as goal
 
 -- the least place in the lists so far
 abbrev pub invariant-loop-number : goal.invariant-loop-number
-invariant-loop-number l = IsLeastFound (HoldsBelow (IsLongNumbered l.kind (debug_lists l.world.image l.kind) (lists_held l.world l.kind)) l.number) l.found
+invariant-loop-number l = IsLeastFound (HoldsBelow (IsLongNumbered l.classes l.kind (debug_lists l.world.image l.kind) (lists_held l.world l.kind)) l.number) l.found

@@ -30,19 +30,19 @@ loop-i-preserved c =
     let table_is : table ≡ table_at world.tables i = c.index-in-loop-i.ensures ∙ get_or_default tables i table (table_at [] 0) (omega (arith, c.loop-i-test.true, c.len-i-end.ensures)) ∙ ap (λ (ts : List NamedTable). table_at ts i) c.tables-tables.ensures in
     record {
       least =
-          let here : IsLeastFound (IsUntidyIn world.units table) c.in_ok-place.place = subst (λ (us : List HeadAndForest). IsLeastFound (IsUntidyIn us table) c.in_ok-place.place) c.units.ensures c.in_ok-place.ensures.least in
-          let own : IsLeastFound (IsUntidyIn world.units (table_at world.tables i)) c.in_ok-place.place = subst (λ (t : NamedTable). IsLeastFound (IsUntidyIn world.units t) c.in_ok-place.place) table_is here in
-          subst (λ (o : Option ℕ). IsLeastFound (IsUntidyAmong world.units world.tables (i + 1)) o) (sym c.lesser-first.ensures) (among_more world.units world.tables i c.loop-i.first c.in_ok-place.place c.loop-i.invariant.least own);
+          let here : IsLeastFound (IsUntidyIn c.args.classes world.units table) c.in_ok-place.place = subst (λ (us : List HeadAndForest). IsLeastFound (IsUntidyIn c.args.classes us table) c.in_ok-place.place) c.units.ensures c.in_ok-place.ensures.least in
+          let own : IsLeastFound (IsUntidyIn c.args.classes world.units (table_at world.tables i)) c.in_ok-place.place = subst (λ (t : NamedTable). IsLeastFound (IsUntidyIn c.args.classes world.units t) c.in_ok-place.place) table_is here in
+          subst (λ (o : Option ℕ). IsLeastFound (IsUntidyAmong c.args.classes world.units world.tables (i + 1)) o) (sym c.lesser-first.ensures) (among_more c.args.classes world.units world.tables i c.loop-i.first c.in_ok-place.place c.loop-i.invariant.least own);
       short =
-          let here : IsNone c.in_ok-place.place → AreAllShort world.units table = subst (λ (us : List HeadAndForest). IsNone c.in_ok-place.place → AreAllShort us table) c.units.ensures c.in_ok-place.ensures.short in
-          let own : IsNone c.in_ok-place.place → AreAllShort world.units (table_at world.tables i) = subst (λ (t : NamedTable). IsNone c.in_ok-place.place → AreAllShort world.units t) table_is here in
-          subst (λ (o : Option ℕ). IsNone o → AreShortAmong world.units world.tables (i + 1)) (sym c.lesser-first.ensures) (short_among_more world.units world.tables i c.loop-i.first c.in_ok-place.place c.loop-i.invariant.short own);
+          let here : IsNone c.in_ok-place.place → AreAllShort c.args.classes world.units table = subst (λ (us : List HeadAndForest). IsNone c.in_ok-place.place → AreAllShort c.args.classes us table) c.units.ensures c.in_ok-place.ensures.short in
+          let own : IsNone c.in_ok-place.place → AreAllShort c.args.classes world.units (table_at world.tables i) = subst (λ (t : NamedTable). IsNone c.in_ok-place.place → AreAllShort c.args.classes world.units t) table_is here in
+          subst (λ (o : Option ℕ). IsNone o → AreShortAmong c.args.classes world.units world.tables (i + 1)) (sym c.lesser-first.ensures) (short_among_more c.args.classes world.units world.tables i c.loop-i.first c.in_ok-place.place c.loop-i.invariant.short own);
     }
 
 pub returns : goal.returns
 returns c =
     let all : c.loop-i.i ≡ length c.args.after.now.tables = omega (arith, c.loop-i-test.false, c.loop-i.auto.i-end, c.len-i-end.ensures, ap length c.tables-tables.ensures) in
     record {
-      least = λ r s before held read holds. first_of_all c.args.after.now s read holds c.loop-i.i c.loop-i.first all c.loop-i.invariant.least;
-      short = λ none r s before held read holds. all_short c.args.after.now s read holds c.loop-i.i all (c.loop-i.invariant.short none);
+      least = λ r s before held read holds. first_of_all c.args.after.now s read holds c.args.classes c.loop-i.i c.loop-i.first all c.loop-i.invariant.least;
+      short = λ none r s before held read holds. all_short c.args.after.now s read holds c.args.classes c.loop-i.i all (c.loop-i.invariant.short none);
     }

@@ -5,6 +5,6 @@ use Rattle.tidy_tables.proofs.declarations.first_declaration.Given as goal
 
 abbrev pub invariant-loop-i : goal.invariant-loop-i
 invariant-loop-i l = record {
-  least : IsLeastFound (IsUntidyAmong l.after.units l.after.tables l.i) l.first;
-  short : IsNone l.first → AreShortAmong l.after.units l.after.tables l.i;
+  least : IsLeastFound (IsUntidyAmong l.classes l.after.units l.after.tables l.i) l.first;
+  short : IsNone l.first → AreShortAmong l.classes l.after.units l.after.tables l.i;
 }

@@ -4,4 +4,4 @@ use Rattle.tidy_tables.specs.inside.UntidyDeclarations.{HoldsColumns, AreShortTo
 use Rattle.tidy_tables.proofs.declarations.has_long_column.Given as goal
 
 abbrev pub invariant-loop-j : goal.invariant-loop-j
-invariant-loop-j l = (units : List HeadAndForest) → HoldsColumns units l.table l.values → AreShortTo units l.table l.number l.j
+invariant-loop-j l = (units : List HeadAndForest) → HoldsColumns units l.table l.values → AreShortTo l.classes units l.table l.number l.j

@@ -50,10 +50,10 @@ push_value_sizes-requires-clause-stands c =
     let section : c.section-info.result.now ≡ c.args.unit.now.forest.section = c.section-info.ensures ∙ ap (λ (f : Arena). f.section) c.forest-forest.ensures in
     let columns : c.columns_of-columns.result.now ≡ (declaration_of (unit_by c.args.unit.now c.args.table.now) c.args.id).columns = c.columns_of-columns.ensures.columns ∙ ap (λ (e : Entry). (declared_at (declarations_of c.args.table.now) e.decl).columns) entry in
     let inside : c.loop-column.column-index < length (declaration_of (unit_by c.args.unit.now c.args.table.now) c.args.id).columns = subst (λ (z : List Spec). c.loop-column.column-index < length z) columns c.loop-column-test.true in
-    let ends : (meaning : Meaning) (next : ℕ) → SpellsBetween (SpellsValue (spec_at (declaration_of (unit_by c.args.unit.now c.args.table.now) c.args.id).columns c.loop-column.column-index).form (spec_at (declaration_of (unit_by c.args.unit.now c.args.table.now) c.args.id).columns c.loop-column.column-index).constant meaning) c.args.unit.now.forest.section c.loop-column.from next → c.value_end-to.result ≡ next =
-    λ meaning next stands. c.value_end-to.ensures meaning next (subst (λ (z : List Spec). SpellsBetween (SpellsValue (spec_at z c.loop-column.column-index).form (spec_at z c.loop-column.column-index).constant meaning) c.section-info.result.now c.loop-column.from next) (sym columns) (subst (λ (z : List ℕ). SpellsBetween (SpellsValue (spec_at (declaration_of (unit_by c.args.unit.now c.args.table.now) c.args.id).columns c.loop-column.column-index).form (spec_at (declaration_of (unit_by c.args.unit.now c.args.table.now) c.args.id).columns c.loop-column.column-index).constant meaning) z c.loop-column.from next) (sym section) stands)) in
+    let ends : (meaning : Meaning) (next : ℕ) → SpellsBetween (SpellsValue (spec_at (declaration_of (unit_by c.args.unit.now c.args.table.now) c.args.id).columns c.loop-column.column-index).name (spec_at (declaration_of (unit_by c.args.unit.now c.args.table.now) c.args.id).columns c.loop-column.column-index).form (spec_at (declaration_of (unit_by c.args.unit.now c.args.table.now) c.args.id).columns c.loop-column.column-index).constant meaning) c.args.unit.now.forest.section c.loop-column.from next → c.value_end-to.result ≡ next =
+    λ meaning next stands. c.value_end-to.ensures meaning next (subst (λ (z : List Spec). SpellsBetween (SpellsValue (spec_at z c.loop-column.column-index).name (spec_at z c.loop-column.column-index).form (spec_at z c.loop-column.column-index).constant meaning) c.section-info.result.now c.loop-column.from next) (sym columns) (subst (λ (z : List ℕ). SpellsBetween (SpellsValue (spec_at (declaration_of (unit_by c.args.unit.now c.args.table.now) c.args.id).columns c.loop-column.column-index).name (spec_at (declaration_of (unit_by c.args.unit.now c.args.table.now) c.args.id).columns c.loop-column.column-index).form (spec_at (declaration_of (unit_by c.args.unit.now c.args.table.now) c.args.id).columns c.loop-column.column-index).constant meaning) z c.loop-column.from next) (sym section) stands)) in
     let column : Spec = spec_at (declaration_of (unit_by c.args.unit.now c.args.table.now) c.args.id).columns c.loop-column.column-index in
-    rw (c.forest-forest.ensures, c.loop-column.invariant.counted) (column.form, column.constant, stands_here (unit_by c.args.unit.now c.args.table.now) c.requires.unit c.args.id c.requires.id c.loop-column.column-index c.loop-column.from inside c.loop-column.invariant.come.stand c.value_end-to.result ends)
+    rw (c.forest-forest.ensures, c.loop-column.invariant.counted) (column.name, column.form, column.constant, stands_here (unit_by c.args.unit.now c.args.table.now) c.requires.unit c.args.id c.requires.id c.loop-column.column-index c.loop-column.from inside c.loop-column.invariant.come.stand c.value_end-to.result ends)
 
 pub push_value_sizes-requires-clause-placed : goal.push_value_sizes-requires-clause-placed
 push_value_sizes-requires-clause-placed c =
@@ -61,8 +61,8 @@ push_value_sizes-requires-clause-placed c =
     let section : c.section-info.result.now ≡ c.args.unit.now.forest.section = c.section-info.ensures ∙ ap (λ (f : Arena). f.section) c.forest-forest.ensures in
     let columns : c.columns_of-columns.result.now ≡ (declaration_of (unit_by c.args.unit.now c.args.table.now) c.args.id).columns = c.columns_of-columns.ensures.columns ∙ ap (λ (e : Entry). (declared_at (declarations_of c.args.table.now) e.decl).columns) entry in
     let inside : c.loop-column.column-index < length (declaration_of (unit_by c.args.unit.now c.args.table.now) c.args.id).columns = subst (λ (z : List Spec). c.loop-column.column-index < length z) columns c.loop-column-test.true in
-    let ends : (meaning : Meaning) (next : ℕ) → SpellsBetween (SpellsValue (spec_at (declaration_of (unit_by c.args.unit.now c.args.table.now) c.args.id).columns c.loop-column.column-index).form (spec_at (declaration_of (unit_by c.args.unit.now c.args.table.now) c.args.id).columns c.loop-column.column-index).constant meaning) c.args.unit.now.forest.section c.loop-column.from next → c.value_end-to.result ≡ next =
-    λ meaning next stands. c.value_end-to.ensures meaning next (subst (λ (z : List Spec). SpellsBetween (SpellsValue (spec_at z c.loop-column.column-index).form (spec_at z c.loop-column.column-index).constant meaning) c.section-info.result.now c.loop-column.from next) (sym columns) (subst (λ (z : List ℕ). SpellsBetween (SpellsValue (spec_at (declaration_of (unit_by c.args.unit.now c.args.table.now) c.args.id).columns c.loop-column.column-index).form (spec_at (declaration_of (unit_by c.args.unit.now c.args.table.now) c.args.id).columns c.loop-column.column-index).constant meaning) z c.loop-column.from next) (sym section) stands)) in
+    let ends : (meaning : Meaning) (next : ℕ) → SpellsBetween (SpellsValue (spec_at (declaration_of (unit_by c.args.unit.now c.args.table.now) c.args.id).columns c.loop-column.column-index).name (spec_at (declaration_of (unit_by c.args.unit.now c.args.table.now) c.args.id).columns c.loop-column.column-index).form (spec_at (declaration_of (unit_by c.args.unit.now c.args.table.now) c.args.id).columns c.loop-column.column-index).constant meaning) c.args.unit.now.forest.section c.loop-column.from next → c.value_end-to.result ≡ next =
+    λ meaning next stands. c.value_end-to.ensures meaning next (subst (λ (z : List Spec). SpellsBetween (SpellsValue (spec_at z c.loop-column.column-index).name (spec_at z c.loop-column.column-index).form (spec_at z c.loop-column.column-index).constant meaning) c.section-info.result.now c.loop-column.from next) (sym columns) (subst (λ (z : List ℕ). SpellsBetween (SpellsValue (spec_at (declaration_of (unit_by c.args.unit.now c.args.table.now) c.args.id).columns c.loop-column.column-index).name (spec_at (declaration_of (unit_by c.args.unit.now c.args.table.now) c.args.id).columns c.loop-column.column-index).form (spec_at (declaration_of (unit_by c.args.unit.now c.args.table.now) c.args.id).columns c.loop-column.column-index).constant meaning) z c.loop-column.from next) (sym section) stands)) in
     rw (c.forest-forest.ensures, c.loop-column.invariant.counted) (placed_here (unit_by c.args.unit.now c.args.table.now) c.requires.unit c.args.id c.requires.id c.loop-column.column-index c.loop-column.from inside c.loop-column.invariant.come.stand c.value_end-to.result ends)
 
 pub overflow_add-number : goal.overflow_add-number
@@ -81,8 +81,8 @@ loop-column-preserved c =
     let section : c.section-info.result.now ≡ c.args.unit.now.forest.section = c.section-info.ensures ∙ ap (λ (f : Arena). f.section) c.forest-forest.ensures in
     let columns : c.columns_of-columns.result.now ≡ (declaration_of (unit_by c.args.unit.now c.args.table.now) c.args.id).columns = c.columns_of-columns.ensures.columns ∙ ap (λ (e : Entry). (declared_at (declarations_of c.args.table.now) e.decl).columns) entry in
     let inside : c.loop-column.column-index < length (declaration_of (unit_by c.args.unit.now c.args.table.now) c.args.id).columns = subst (λ (z : List Spec). c.loop-column.column-index < length z) columns c.loop-column-test.true in
-    let ends : (meaning : Meaning) (next : ℕ) → SpellsBetween (SpellsValue (spec_at (declaration_of (unit_by c.args.unit.now c.args.table.now) c.args.id).columns c.loop-column.column-index).form (spec_at (declaration_of (unit_by c.args.unit.now c.args.table.now) c.args.id).columns c.loop-column.column-index).constant meaning) c.args.unit.now.forest.section c.loop-column.from next → c.value_end-to.result ≡ next =
-    λ meaning next stands. c.value_end-to.ensures meaning next (subst (λ (z : List Spec). SpellsBetween (SpellsValue (spec_at z c.loop-column.column-index).form (spec_at z c.loop-column.column-index).constant meaning) c.section-info.result.now c.loop-column.from next) (sym columns) (subst (λ (z : List ℕ). SpellsBetween (SpellsValue (spec_at (declaration_of (unit_by c.args.unit.now c.args.table.now) c.args.id).columns c.loop-column.column-index).form (spec_at (declaration_of (unit_by c.args.unit.now c.args.table.now) c.args.id).columns c.loop-column.column-index).constant meaning) z c.loop-column.from next) (sym section) stands)) in
+    let ends : (meaning : Meaning) (next : ℕ) → SpellsBetween (SpellsValue (spec_at (declaration_of (unit_by c.args.unit.now c.args.table.now) c.args.id).columns c.loop-column.column-index).name (spec_at (declaration_of (unit_by c.args.unit.now c.args.table.now) c.args.id).columns c.loop-column.column-index).form (spec_at (declaration_of (unit_by c.args.unit.now c.args.table.now) c.args.id).columns c.loop-column.column-index).constant meaning) c.args.unit.now.forest.section c.loop-column.from next → c.value_end-to.result ≡ next =
+    λ meaning next stands. c.value_end-to.ensures meaning next (subst (λ (z : List Spec). SpellsBetween (SpellsValue (spec_at z c.loop-column.column-index).name (spec_at z c.loop-column.column-index).form (spec_at z c.loop-column.column-index).constant meaning) c.section-info.result.now c.loop-column.from next) (sym columns) (subst (λ (z : List ℕ). SpellsBetween (SpellsValue (spec_at (declaration_of (unit_by c.args.unit.now c.args.table.now) c.args.id).columns c.loop-column.column-index).name (spec_at (declaration_of (unit_by c.args.unit.now c.args.table.now) c.args.id).columns c.loop-column.column-index).form (spec_at (declaration_of (unit_by c.args.unit.now c.args.table.now) c.args.id).columns c.loop-column.column-index).constant meaning) z c.loop-column.from next) (sym section) stands)) in
     let counted = c.loop-column.invariant.counted in
     let adds = rw (c.forest-forest.ensures, counted) at c.in_ok-push_value_sizes.ensures.added in
     record {

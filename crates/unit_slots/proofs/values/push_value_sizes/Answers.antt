@@ -14,14 +14,14 @@ push_expression_sizes-requires-clause-counted c =
     let f = c.args.forest.now in
     let stands = c.requires.stands in
     subst (λ (z : List ℕ). Begins Uleb (drop c.args.from z)) (sym c.section.ensures)
-    (length_begins f c.args.operations.now c.args.number c.args.from c.args.to stands.0 stands.1 stands.2 c.requires.placed c.in-Expr.span (sym c.value.ensures ∙ c.in-Expr.is))
+    (length_begins f c.args.operations.now c.args.number c.args.from c.args.to stands.0 stands.1 stands.2 stands.3 c.requires.placed c.in-Expr.span (sym c.value.ensures ∙ c.in-Expr.is))
 
 pub returns-in-LocalRef-clause-added : goal.returns-in-LocalRef-clause-added
 returns-in-LocalRef-clause-added c =
     let f = c.args.forest.now in
     let stands = c.requires.stands in
     on_ok_weaker c.push_size.result
-    (reference_added f c.args.operations.now c.args.number c.args.from c.args.to stands.0 stands.1 stands.2 c.requires.placed c.in-LocalRef.field-0 c.args.sizes.now.items c.push_size.new.sizes.items (sym c.value.ensures ∙ c.in-LocalRef.is))
+    (reference_added f c.args.operations.now c.args.number c.args.from c.args.to stands.0 stands.1 stands.2 stands.3 c.requires.placed c.in-LocalRef.field-0 c.args.sizes.now.items c.push_size.new.sizes.items (sym c.value.ensures ∙ c.in-LocalRef.is))
     c.push_size.ensures.pushed
 
 pub returns-in-Expr-clause-added : goal.returns-in-Expr-clause-added
@@ -30,12 +30,12 @@ returns-in-Expr-clause-added c =
     let held = c.args.operations.now in
     let stands = c.requires.stands in
     let is : value_at f.values c.args.number ≡ value.Expr c.in-Expr.span = sym c.value.ensures ∙ c.in-Expr.is in
-    let are = operations_are f held c.args.number c.args.from c.args.to stands.0 stands.1 stands.2 c.requires.placed c.in-Expr.span is c.requires.operations c.requires.known c.of_value-ops.result.now c.of_value-ops.ensures in
+    let are = operations_are f held c.args.number c.args.from c.args.to stands.0 stands.1 stands.2 stands.3 c.requires.placed c.in-Expr.span is c.requires.operations c.requires.known c.of_value-ops.result.now c.of_value-ops.ensures in
     let ops = c.of_value-ops.result.now in
     let by_section : OnOk c.push_expression_sizes.result (AddsSizes (HasExpressionSizes (drop c.args.from f.section) (bytes_in f.section c.in-Expr.span) ops) c.args.sizes.now.items c.push_expression_sizes.new.sizes.items) =
     subst (λ (z : List ℕ). OnOk c.push_expression_sizes.result (AddsSizes (HasExpressionSizes (drop c.args.from z) (bytes_in z c.in-Expr.span) ops) c.args.sizes.now.items c.push_expression_sizes.new.sizes.items)) c.section.ensures c.push_expression_sizes.ensures.added in
     on_ok_weaker c.push_expression_sizes.result
-    (expression_added f held c.args.number c.args.from c.args.to stands.0 stands.1 stands.2 c.requires.placed c.in-Expr.span is ops c.args.sizes.now.items c.push_expression_sizes.new.sizes.items c.of_value-ops.ensures are)
+    (expression_added f held c.args.number c.args.from c.args.to stands.0 stands.1 stands.2 stands.3 c.requires.placed c.in-Expr.span is ops c.args.sizes.now.items c.push_expression_sizes.new.sizes.items c.of_value-ops.ensures are)
     by_section
 
 pub returns-in_default : goal.returns-in_default
@@ -43,6 +43,6 @@ returns-in_default c =
     let f = c.args.forest.now in
     let stands = c.requires.stands in
     record {
-      added = other_added f c.args.operations.now c.args.number c.args.from c.args.to stands.0 stands.1 stands.2 c.requires.placed c.args.sizes.now.items (λ n is. c.in_default.not-LocalRef n (c.value.ensures ∙ is)) (λ span is. c.in_default.not-Expr span (c.value.ensures ∙ is));
+      added = other_added f c.args.operations.now c.args.number c.args.from c.args.to stands.0 stands.1 stands.2 stands.3 c.requires.placed c.args.sizes.now.items (λ n is. c.in_default.not-LocalRef n (c.value.ensures ∙ is)) (λ span is. c.in_default.not-Expr span (c.value.ensures ∙ is));
       few = c.requires.few;
     }

@@ -34,6 +34,6 @@ returns-then-column-ne33 c = λ is section len few i.
     let kept = other_value section c.args.value.now c.in_default.not-Expr c.in_default.not-LocalRef c.in_default.not-SectionRef c.in_default.not-Offset in
     let a = (c.admits.ensures section i).0 is in
     let other : c.args.column.form ≢ 33 = c.if-column-ne33.true in
-    let s = any_constant c.args.column.form a.constant c.args.column.constant meaning a.bytes other a.spelled in
+    let s = any_constant c.args.column.name c.args.column.form a.constant c.args.column.constant meaning a.bytes other a.spelled in
     let w = c.spelled_size-size.ensures section few i a in
     (length w.0, shortest_have_sizes c.args.column meaning len w.0 a.bytes kept.0 (none_expr meaning kept.1) s w.1)

@@ -16,7 +16,7 @@ overflow_add-index_mut c =
     let read : c.index_mut.result.now ≡ get_or lens k 0 = c.index_mut.ensures.value ∙ get_or_default lens k c.index_mut.result.now 0 (omega (arith, inside, count)) in
     let left = c.loop-number.invariant.left k (omega arith) in
     let small : get_or fixed k 0 < 2 ^ 31 = c.requires.room k 0 inside in
-    let own = c.sum_of.ensures in
+    let own = c.total_of.ensures in
     let part = part_few sizes c.loop-number.slot (c.loop-number.slot + get_or c.args.slots.now k 0 - c.loop-number.slot) in
     let few = sizes_sum sizes c.requires.small in
     let room : length sizes ≤ most_slots = c.requires.few in
@@ -30,5 +30,5 @@ loop-number-preserved c =
     let inside : k < length fixed = search rules in
     let count = c.loop-number.invariant.count in
     let read : c.index_mut.result.now ≡ get_or lens k 0 = c.index_mut.ensures.value ∙ get_or_default lens k c.index_mut.result.now 0 (omega (arith, inside, count)) in
-    let more = more_added fixed c.args.slots.now c.args.sizes.now k c.loop-number.slot c.sum_of.result lens inside c.loop-number.invariant c.sum_of.ensures in
-    subst (λ (n : ℕ). AreSizesAdded fixed c.args.slots.now c.args.sizes.now (k + 1) (c.loop-number.slot + get_or c.args.slots.now k 0) (set lens k (n + c.sum_of.result))) (sym read) more
+    let more = more_added fixed c.args.slots.now c.args.sizes.now k c.loop-number.slot c.total_of.result lens inside c.loop-number.invariant c.total_of.ensures in
+    subst (λ (n : ℕ). AreSizesAdded fixed c.args.slots.now c.args.sizes.now (k + 1) (c.loop-number.slot + get_or c.args.slots.now k 0) (set lens k (n + c.total_of.result))) (sym read) more

@@ -70,4 +70,4 @@ returns-in_default-clause-ok c =
     let meaning = meant_in section c.args.value.now in
     let sized = c.requires.sized in
     let other = other_value section c.args.value.now c.in_default.not-Expr c.in_default.not-LocalRef c.in_default.not-SectionRef c.in_default.not-Offset in
-    on_ok_weaker c.write_value.result (λ (a : Appends (SpellsShortest c.args.column.form) meaning c.args.out.now.items c.write_value.new.out.items). (a.0, written_kept c.args.column meaning sized.0 sized.1 c.args.number c.args.made.now a.0 other.0 other.1 sized.2 a.1, a.2)) c.write_value.ensures.ok
+    on_ok_weaker c.write_value.result (λ (a : Appends (SpellsShortest c.args.column.name c.args.column.form) meaning c.args.out.now.items c.write_value.new.out.items). (a.0, written_kept c.args.column meaning sized.0 sized.1 c.args.number c.args.made.now a.0 other.0 other.1 sized.2 a.1, a.2)) c.write_value.ensures.ok

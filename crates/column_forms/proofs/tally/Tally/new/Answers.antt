@@ -8,4 +8,4 @@ pub returns-clause-tally : goal.returns-clause-tally
 returns-clause-tally c = λ section h.
     let fits : FitsSigned w64 c.constant_of-constant.result = record { sfits = c.constant_of-constant.type_inv } in
     let found = simp to_z-of_z at c.in_ok-candidates.ensures in
-    rw to_z-of_z (tally_one section c.args.value.now c.constant_of-constant.result c.in_ok-candidates.candidates.items c.constant_of-constant.ensures found h)
+    rw to_z-of_z (tally_one c.args.name section c.args.value.now c.constant_of-constant.result c.in_ok-candidates.candidates.items c.constant_of-constant.ensures found h)

@@ -1,5 +1,0 @@
-use Rattle.std.proofs.Common.{◌≡◌, sum, take}
-use Rattle.unit_write.proofs.layout.sum_of.Given as goal
-
-abbrev pub invariant-loop-size : goal.invariant-loop-size
-invariant-loop-size l = l.sum ≡ sum (take l.size-index l.sizes)
