@@ -8,17 +8,14 @@ Three rows for each file: the bytes of .debug_info, .debug_abbrev, .debug_line, 
 each compressed by zlib, as dh_strip does it: the debug file that objcopy --only-keep-debug --compress-debug-sections=zlib makes; and
 the debug file uncompressed, by xz -6, as in a package of uncompressed debug files. A cell is followed by its part of the input's.
 """
-import argparse
 import os
-import shutil
 import subprocess
 import tempfile
 from typing import List
 
 from compare_dwz import SECTIONS, sizes_of
-from shrinking import shrink
+from shrinking import TOOLS_HEADING, shrink, tools_parser
 
-TOP = os.path.dirname(os.path.dirname(os.path.abspath(__file__)))
 ROWS = ("five sections", "all by zlib", "all by xz")
 
 
@@ -54,13 +51,8 @@ def lines(path: str, program: str, packages: str, dwz: str) -> List[str]:
 
 
 def main() -> None:
-    parser = argparse.ArgumentParser(description=__doc__.split("\n")[0])
-    parser.add_argument("files", nargs="+")
-    parser.add_argument("--program", default=os.path.join(TOP, "crates/shrink_app/out/shrink_app"))
-    parser.add_argument("--packages", default=os.path.join(TOP, "crates/packages_app/out/packages_app"))
-    parser.add_argument("--dwz", default=shutil.which("dwz") or "dwz")
-    options = parser.parse_args()
-    print("| program | | input | dwz | for bytes | for packages | dwz, then for packages |\n|---|---|---:|---:|---:|---:|---:|")
+    options = tools_parser(__doc__.split("\n")[0]).parse_args()
+    print(TOOLS_HEADING)
     for path in options.files:
         print("\n".join(lines(path, options.program, options.packages, options.dwz)), flush=True)
 

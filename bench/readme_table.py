@@ -8,17 +8,14 @@ Bytes are those of the five sections that these programs write, as they are and 
 processor, the fastest of N runs (3), the tools in turn; memory is the peak, in MB of 10^6 bytes. Behind dwz both tools' seconds are
 added, and the greater peak is told. Run it with nothing beside.
 """
-import argparse
 import os
-import shutil
 import subprocess
 import tempfile
 import zlib
 from typing import List, Optional
 
 from compare_dwz import SECTIONS, Run, added, measured, sizes_of
-
-TOP = os.path.dirname(os.path.dirname(os.path.abspath(__file__)))
+from shrinking import TOOLS_HEADING, tools_parser
 
 
 def compressed(path: str) -> int:
@@ -64,14 +61,10 @@ def lines(path: str, program: str, packages: str, dwz: str, runs: int) -> List[s
 
 
 def main() -> None:
-    parser = argparse.ArgumentParser(description=__doc__.split("\n")[0])
-    parser.add_argument("files", nargs="+")
-    parser.add_argument("--program", default=os.path.join(TOP, "mikadocherry"))
-    parser.add_argument("--packages", default=os.path.join(TOP, "crates/packages_app/out/packages_app"))
-    parser.add_argument("--dwz", default=shutil.which("dwz") or "dwz")
+    parser = tools_parser(__doc__.split("\n")[0])
     parser.add_argument("--runs", type=int, default=3)
     arguments = parser.parse_args()
-    print("| program | | input | `dwz` | for bytes | for packages | `dwz`, then for packages |\n|---|---|---:|---:|---:|---:|---:|")
+    print(TOOLS_HEADING)
     for path in arguments.files:
         print("\n".join(lines(path, arguments.program, arguments.packages, arguments.dwz, arguments.runs)), flush=True)
 
