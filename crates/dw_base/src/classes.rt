@@ -6,15 +6,16 @@ ghost use Rattle.dw_base.specs.Classes.{every, packaged};
 /// member of its class is shorter.
 #[derive(Clone, Copy, Debug, PartialEq, Eq)]
 pub struct Classes {
-    /// A column of indices of addresses may have DW_FORM_addrx1 to DW_FORM_addrx4 (DWARF 5 section 7.5.5).
+    /// A column of indices of addresses may have DW_FORM_addrx1 to DW_FORM_addrx4 (DWARF 5 sections 7.5.5 and 7.5.6).
     pub indexes: bool,
-    /// A column may have DW_FORM_sdata where DW_FORM_udata spells each of its values too.
+    /// A column may have DW_FORM_sdata where DW_FORM_udata spells each of its values too (sections 7.5.5 and 7.5.6).
     pub signed: bool,
-    /// A column of DW_AT_high_pc or of DW_AT_const_value may have DW_FORM_implicit_const.
+    /// A column of DW_AT_high_pc or of DW_AT_const_value may have DW_FORM_implicit_const (sections 7.5.3 and 7.5.6).
     pub implicit: bool,
-    /// A line number program may have any opcodes that give its rows. Where it may not, .debug_line stays as it is.
+    /// A line number program may have any opcodes that give its rows (section 6.2). Where it may not, .debug_line stays as it is.
     pub lines: bool,
-    /// A list may have any entries that give its items. Where it may not, it keeps the kinds of its entries and their operands.
+    /// A list may have any entries that give its items (sections 2.6.2 and 2.17.3). Where it may not, it keeps the kinds of its entries and
+    /// their operands.
     pub lists: bool,
 }
 

@@ -9,8 +9,6 @@ mod host;
 mod mem_host;
 mod quiet_host;
 mod record;
-#[cfg(test)]
-mod tests;
 
 pub use classes::Classes;
 pub use fault::{Fault, Kind, NoMemory, Reach, Refusal, Span};

@@ -12,6 +12,3 @@ pub use bodies::NewBody;
 pub use order::moving_order;
 pub use placing::place;
 pub use spots::next_multiple;
-
-#[cfg(test)]
-mod tests;

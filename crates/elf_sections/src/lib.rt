@@ -18,6 +18,3 @@ pub use image::Image;
 pub use laws::{headers_are_the_abis, images_whole};
 pub use names::{is_listed, is_written};
 pub use section::Section;
-
-#[cfg(test)]
-mod tests;

@@ -12,8 +12,6 @@ mod lines;
 mod lists;
 mod make;
 mod numbers;
-#[cfg(test)]
-mod tests;
 mod units;
 
 pub use make::sample;

@@ -1,6 +1,6 @@
 // A small file whose sections are known from elsewhere, and what becomes of it by changes of a few bytes.
-use crate::{Image, Section};
 use dw_base::{Fault, Kind, Reach, Refusal, Span};
+use elf_sections::{Image, Section};
 use std::alloc::{AllocError, Global};
 
 // An executable for x86-64 with section 0, .debug_str, which holds a zero byte at 64, and .shstrtab.

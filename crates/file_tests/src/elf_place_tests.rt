@@ -2,8 +2,8 @@
 ghost use Rattle.std.specs.Prelude.{◌<◌, ◌^◌, length};
 ghost use Rattle.elf_place.specs.Bodies.{IsReplaceable};
 
-use crate::{NewBody, place};
 use dw_base::{NoMemory, Reach};
+use elf_place::{NewBody, place};
 use elf_sections::Image;
 use std::alloc::Global;
 

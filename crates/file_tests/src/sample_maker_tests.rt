@@ -1,6 +1,6 @@
 // Generated files, compared with a plain program of its own.
-use crate::sample;
 use dw_base::NoMemory;
+use sample_maker::sample;
 
 // A number that tells bytes: each takes part, and so does its place.
 fn told(bytes: &Vec<u8>) -> u32 {

@@ -1,0 +1,11 @@
+//! Tests of what is read of a whole file, what is made of it, and the hosts in memory, by public calls alone.
+#![tactic(auto)]
+
+#[cfg(test)]
+mod dw_base_tests;
+#[cfg(test)]
+mod elf_place_tests;
+#[cfg(test)]
+mod elf_sections_tests;
+#[cfg(test)]
+mod sample_maker_tests;
