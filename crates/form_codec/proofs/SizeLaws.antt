@@ -33,8 +33,8 @@ data_size w n half size small h few e =
     let written = fixed_fits w role.Data (value.Int (pos n)) n (below_half w n below) (λ section. means) (λ section m. number_least section (value.Int (pos n)) role.Data w n m refl) in
     shape_size (Number w role.Data) (value.Int (pos n)) (encoding.Fixed w n) size size small written (λ section bytes short lies is. e ∙ sym (ap length is ∙ low_len w n)) (λ section. refl)
 
-pub whole_size : (w : Width) (n greatest size : ℕ) → size < 2 ^ 64 → greatest + 1 ≡ 256 ^ size_of w → n ≤ greatest → size ≡ size_of w → IsShapeSize (Number w role.Unsigned) (value.Int (pos n)) size
-whole_size w n greatest size small g few e =
+pub fixed_unsigned_size : (w : Width) (n greatest size : ℕ) → size < 2 ^ 64 → greatest + 1 ≡ 256 ^ size_of w → n ≤ greatest → size ≡ size_of w → IsShapeSize (Number w role.Unsigned) (value.Int (pos n)) size
+fixed_unsigned_size w n greatest size small g few e =
     let written = fixed_fits w role.Unsigned (value.Int (pos n)) n (omega arith) (λ section. refl) (λ section m. number_least section (value.Int (pos n)) role.Unsigned w n m refl) in
     shape_size (Number w role.Unsigned) (value.Int (pos n)) (encoding.Fixed w n) size size small written (λ section bytes short lies is. e ∙ sym (ap length is ∙ low_len w n)) (λ section. refl)
 
@@ -42,8 +42,8 @@ pub whole_too_large : (w : Width) (n greatest : ℕ) → greatest + 1 ≡ 256 ^ 
 whole_too_large w n greatest g large =
     fixed_too_large w role.Unsigned (value.Int (pos n)) n greatest g large (λ section m. number_least section (value.Int (pos n)) role.Unsigned w n m refl)
 
-pub unsigned_size : (n size : ℕ) → n < 2 ^ 64 → size < 2 ^ 64 → size ≡ least_unsigned_len n → IsShapeSize (ByUleb role.Unsigned) (value.Int (pos n)) size
-unsigned_size n size fits small e =
+pub uleb_size : (n size : ℕ) → n < 2 ^ 64 → size < 2 ^ 64 → size ≡ least_unsigned_len n → IsShapeSize (ByUleb role.Unsigned) (value.Int (pos n)) size
+uleb_size n size fits small e =
     shape_size (ByUleb role.Unsigned) (value.Int (pos n)) (encoding.Uleb n) size size small (uleb_fits role.Unsigned (value.Int (pos n)) n fits (λ section. refl) (λ section m. number_least section (value.Int (pos n)) role.Unsigned Eight n m refl)) (λ section bytes short lies is. e ∙ sym is.1) (λ section. refl)
 
 pub signed_size : (v : ℤ) (size : ℕ) → FitsSigned w64 v → size < 2 ^ 64 → size ≡ least_signed_len v → IsShapeSize BySleb (value.Int v) size

@@ -16,4 +16,4 @@ pub use read::{known, read_value};
 pub use signs::unsigned;
 pub use value::{ReadValue, Value};
 pub use whole::Whole;
-pub use write::{admits, put_low, size_in, size_of, spelled_size, write_value};
+pub use write::{admits, constant_of, put_low, size_in, size_of, spelled_size, write_value};

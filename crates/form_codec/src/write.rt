@@ -23,8 +23,9 @@ use leb_codec::{len_s, len_u, put_s, put_u};
 // No attribute has this name.
 const NO_NAME: u64 = 0;
 
-// The constant of a value, or 0 where it has none.
-fn constant_of(value: &Value) -> i64
+/// The constant with which DW_FORM_implicit_const can spell a value, where the value is a constant that fits a signed number of 64 bits; it stands
+/// in the declaration (DWARF 5 sections 7.5.3 and 7.5.6). Of any other value it says nothing.
+pub fn constant_of(value: &Value) -> i64
     ensures { (section : List ℕ) (v : ℤ) → FitsSigned w64 v → meant_in section value.now ≡ WholeMeaning v → v ≡ result }
 {
     match constant_in(value) {
@@ -155,7 +156,7 @@ fn data_size(width: Width, whole: Whole) -> Option<u64>
 }
 
 // How many bytes a constant without a sign has in a form of a width, if it fits.
-fn whole_size(width: Width, whole: Whole) -> Option<u64>
+fn fixed_unsigned_size(width: Width, whole: Whole) -> Option<u64>
     ensures { MatchOption result (HasNoEncoding (shape.Number width role.Unsigned) (IntValue whole)) (IsShapeSize (shape.Number width role.Unsigned) (IntValue whole)) }
 {
     match u64::try_from(whole.get()) {
@@ -165,7 +166,7 @@ fn whole_size(width: Width, whole: Whole) -> Option<u64>
 }
 
 // How many bytes a constant has as an unsigned LEB128, if it is one.
-fn unsigned_size(whole: Whole) -> Option<u64>
+fn uleb_size(whole: Whole) -> Option<u64>
     ensures { MatchOption result (HasNoEncoding (shape.Uleb role.Unsigned) (IntValue whole)) (IsShapeSize (shape.Uleb role.Unsigned) (IntValue whole)) }
 {
     match u64::try_from(whole.get()) {
@@ -218,8 +219,8 @@ pub fn size_in(shape: Shape, value: &Value) -> Option<u64>
     match (shape, *value) {
         // Constants are what columns are most asked for: they are told without what would be written.
         (Shape::Number(width, Role::Data), Value::Int(whole)) => data_size(width, whole),
-        (Shape::Number(width, Role::Unsigned), Value::Int(whole)) => whole_size(width, whole),
-        (Shape::Uleb(Role::Unsigned), Value::Int(whole)) => unsigned_size(whole),
+        (Shape::Number(width, Role::Unsigned), Value::Int(whole)) => fixed_unsigned_size(width, whole),
+        (Shape::Uleb(Role::Unsigned), Value::Int(whole)) => uleb_size(whole),
         (Shape::Sleb, Value::Int(whole)) => signed_size(whole),
         (Shape::Constant(constant), Value::Int(whole)) => constant_size(constant, whole),
         _ => any_size(shape, value),

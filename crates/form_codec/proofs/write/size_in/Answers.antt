@@ -9,7 +9,7 @@ use Rattle.form_codec.proofs.write.size_in.Goals as goal
 pub returns-in-Uleb-Unsigned-Int : goal.returns-in-Uleb-Unsigned-Int
 returns-in-Uleb-Unsigned-Int c =
     let is : c.args.shape ≡ shape.Uleb role.Unsigned = search rules in
-    rw (is, c.in-Uleb-Unsigned-Int.is-1) c.unsigned_size.ensures
+    rw (is, c.in-Uleb-Unsigned-Int.is-1) c.uleb_size.ensures
 
 pub returns-in-Sleb-Int : goal.returns-in-Sleb-Int
 returns-in-Sleb-Int c = rw (c.in-Sleb-Int.is-0, c.in-Sleb-Int.is-1) c.signed_size.ensures

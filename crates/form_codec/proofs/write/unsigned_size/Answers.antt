@@ -1,9 +1,0 @@
-use Rattle.std.proofs.Common.{◌∙◌, ◌≡◌, arith, rules}
-use Rattle.std.specs.Prelude.{pos}
-use Rattle.form_codec.proofs.SizeLaws.{unsigned_size}
-use Rattle.form_codec.proofs.write.unsigned_size.Goals as goal
-
-pub returns-in-Ok : goal.returns-in-Ok
-returns-in-Ok c =
-    let same : c.args.whole ≡ pos c.in-Ok.number = search rules in
-    rw same (unsigned_size c.in-Ok.number c.from.result (omega arith) (omega arith) (c.from.ensures ∙ c.len_u.ensures.least))
