@@ -9,3 +9,7 @@ mod elf_place_tests;
 mod elf_sections_tests;
 #[cfg(test)]
 mod sample_maker_tests;
+#[cfg(test)]
+mod value_links_unit_tests;
+#[cfg(test)]
+mod value_links_world_tests;

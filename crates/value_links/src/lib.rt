@@ -22,13 +22,9 @@ mod parts;
 mod roots;
 mod sections;
 mod tables;
-#[cfg(test)]
-mod tests;
 mod units;
 mod views;
 mod world;
-#[cfg(test)]
-mod world_tests;
 
 pub use check::check_links;
 pub use laws::{

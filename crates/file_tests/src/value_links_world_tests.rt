@@ -3,7 +3,6 @@ ghost use Rattle.std.specs.Prelude.{◌<◌, length};
 ghost use Rattle.list_model.specs.declared.entry.ListKind.TheVariants.{Ranges};
 ghost use Rattle.value_links.specs.World.{lists_held};
 
-use crate::{Link, OpLink, World};
 use dw_base::{Fault, Kind, Reach, Refusal};
 use entry_arena::Target;
 use form_codec::Value;
@@ -12,6 +11,7 @@ use loc_lists::ViewPair;
 use std::alloc::{AllocError, Global};
 use std::process::Abort;
 use std::test::Fail;
+use value_links::{Link, OpLink, World};
 
 // An executable with .debug_abbrev at 64, .debug_info at 72, .debug_line at 89, .debug_aranges at 142 and .shstrtab at 174. The
 // one unit is a root with DW_AT_stmt_list, and the one set of address ranges names it. The headers of sections stand from
@@ -55,7 +55,7 @@ fn changed(alloc: Global, changes: &[(usize, u8)]) -> Result<Vec<u8>, AllocError
 }
 
 // The file with other bytes at some places, and with these behind it.
-pub(crate) fn extended(
+fn extended(
     alloc: Global,
     changes: &[(usize, u8)],
     pieces: &[&[u8]],
@@ -76,12 +76,21 @@ fn fault_of(alloc: Global, file: &[u8]) -> Result<Option<Fault>, Fail> {
     }
 }
 
-#[test]
-fn a_small_file_is_held(rt: HostRuntime) -> Result<(), Fail> {
-    let alloc = rt.alloc();
-    let world = World::read(alloc, &FILE, Reach::Narrow)
-        .ok()
-        .ok_or("refused")?;
+// Stops where a file isn't refused with a fault of this kind at this place.
+fn is_refused(
+    rt: &impl Abort,
+    alloc: Global,
+    file: &[u8],
+    kind: Kind,
+    place: u64,
+) -> Result<(), Fail> {
+    let fault = fault_of(alloc, file)?;
+    assert!(rt; fault == Some(Fault { kind, place }));
+    Ok(())
+}
+
+// Stops where another world than that of the small file is held.
+fn holds_small_file(rt: &impl Abort, world: &World<'_>) -> Result<(), Fail> {
     let counts = (
         world.programs().len(),
         world.units().len(),
@@ -100,6 +109,14 @@ fn a_small_file_is_held(rt: HostRuntime) -> Result<(), Fail> {
         Err("another count of entries")?;
     }
     Ok(())
+}
+
+#[test]
+fn a_small_file_is_held(rt: HostRuntime) -> Result<(), Fail> {
+    match World::read(rt.alloc(), &FILE, Reach::Narrow) {
+        Ok(world) => holds_small_file(&rt, &world),
+        Err(_) => Err("refused")?,
+    }
 }
 
 // Abbreviations behind the file: 1 is a root with children, DW_AT_stmt_list and DW_AT_str_offsets_base; 2 has no attribute; 3 has
@@ -131,13 +148,7 @@ fn with_units(alloc: Global) -> Result<Vec<u8>, AllocError> {
 }
 
 // The unit of a value, the number of the value, and what it refers to.
-#[test]
-fn links_by_number(rt: HostRuntime) -> Result<(), Fail> {
-    let alloc = rt.alloc();
-    let file = with_units(alloc)?;
-    let world = World::read(alloc, &file, Reach::Narrow)
-        .ok()
-        .ok_or("refused")?;
+fn have_links(rt: &impl Abort, world: &World<'_>) -> Result<(), Fail> {
     let rows = [
         (0, 0, Link::Lines(0)),
         (0, 1, Link::Kept(8)),
@@ -158,6 +169,15 @@ fn links_by_number(rt: HostRuntime) -> Result<(), Fail> {
         }
     }
     Ok(())
+}
+
+#[test]
+fn links_by_number(rt: HostRuntime) -> Result<(), Fail> {
+    let file = with_units(rt.alloc())?;
+    match World::read(rt.alloc(), &file, Reach::Narrow) {
+        Ok(world) => have_links(&rt, &world),
+        Err(_) => Err("refused")?,
+    }
 }
 
 // Abbreviations behind the file: 1 is a root with children, 2 has DW_AT_location in the form exprloc, and 3 is a base type.
@@ -195,13 +215,7 @@ fn with_expression(alloc: Global, changes: &[(usize, u8)]) -> Result<Vec<u8>, Al
 }
 
 // Of each operation of the expression its place, its opcode, its reference, and what it names.
-#[test]
-fn operations_are_held(rt: HostRuntime) -> Result<(), Fail> {
-    let alloc = rt.alloc();
-    let file = with_expression(alloc, &[])?;
-    let world = World::read(alloc, &file, Reach::Narrow)
-        .ok()
-        .ok_or("refused")?;
+fn holds_operations(rt: &impl Abort, world: &World<'_>) -> Result<(), Fail> {
     let rows = [
         (0, 0x99, 14, Some(OpLink::Entry(0, 2))),
         (5, 0xa8, 13, Some(OpLink::Entry(0, 1))),
@@ -224,6 +238,15 @@ fn operations_are_held(rt: HostRuntime) -> Result<(), Fail> {
     Ok(())
 }
 
+#[test]
+fn operations_are_held(rt: HostRuntime) -> Result<(), Fail> {
+    let file = with_expression(rt.alloc(), &[])?;
+    match World::read(rt.alloc(), &file, Reach::Narrow) {
+        Ok(world) => holds_operations(&rt, &world),
+        Err(_) => Err("refused")?,
+    }
+}
+
 // Faults of the expression: an opcode that isn't known, an operand that is cut off, and references that name nothing.
 #[test]
 fn refused_expressions(rt: HostRuntime) -> Result<(), Fail> {
@@ -244,14 +267,7 @@ fn refused_expressions(rt: HostRuntime) -> Result<(), Fail> {
     ];
     for (changes, kind, place) in rows.iter() {
         let file = with_expression(alloc, changes)?;
-        let fault = fault_of(alloc, &file)?;
-        assert!(rt;
-            fault
-                == Some(Fault {
-                    kind: *kind,
-                    place: *place
-                })
-        );
+        is_refused(&rt, alloc, &file, *kind, *place)?;
     }
     Ok(())
 }
@@ -315,13 +331,7 @@ fn is_list_frozen(world: &World<'_>, number: usize) -> bool
 }
 
 // The place of each list, its owner, how many entries it has, and whether it is frozen.
-#[test]
-fn range_lists_are_held(rt: HostRuntime) -> Result<(), Fail> {
-    let alloc = rt.alloc();
-    let file = with_ranges(alloc, &[])?;
-    let world = World::read(alloc, &file, Reach::Narrow)
-        .ok()
-        .ok_or("refused")?;
+fn holds_range_lists(rt: &impl Abort, world: &World<'_>) -> Result<(), Fail> {
     let part = Contribution {
         at: 0,
         len: 39,
@@ -352,21 +362,24 @@ fn range_lists_are_held(rt: HostRuntime) -> Result<(), Fail> {
         }
     }
     if lists.len() == 3 {
-        assert!(rt; !is_list_frozen(&world, 0));
-        assert!(rt; is_list_frozen(&world, 1));
-        assert!(rt; !is_list_frozen(&world, 2));
+        assert!(rt; !is_list_frozen(world, 0));
+        assert!(rt; is_list_frozen(world, 1));
+        assert!(rt; !is_list_frozen(world, 2));
     }
     Ok(())
 }
 
-// The number of a value of the unit, and what it refers to.
 #[test]
-fn values_name_range_lists(rt: HostRuntime) -> Result<(), Fail> {
-    let alloc = rt.alloc();
-    let file = with_ranges(alloc, &[])?;
-    let world = World::read(alloc, &file, Reach::Narrow)
-        .ok()
-        .ok_or("refused")?;
+fn range_lists_are_held(rt: HostRuntime) -> Result<(), Fail> {
+    let file = with_ranges(rt.alloc(), &[])?;
+    match World::read(rt.alloc(), &file, Reach::Narrow) {
+        Ok(world) => holds_range_lists(&rt, &world),
+        Err(_) => Err("refused")?,
+    }
+}
+
+// The number of a value of the unit, and what it refers to.
+fn name_range_lists(rt: &impl Abort, world: &World<'_>) -> Result<(), Fail> {
     let rows = [
         (0, Link::Plain),
         (1, Link::Base(ListKind::Ranges, 0)),
@@ -389,6 +402,15 @@ fn values_name_range_lists(rt: HostRuntime) -> Result<(), Fail> {
         Err("another count of units")?;
     }
     Ok(())
+}
+
+#[test]
+fn values_name_range_lists(rt: HostRuntime) -> Result<(), Fail> {
+    let file = with_ranges(rt.alloc(), &[])?;
+    match World::read(rt.alloc(), &file, Reach::Narrow) {
+        Ok(world) => name_range_lists(&rt, &world),
+        Err(_) => Err("refused")?,
+    }
 }
 
 // Faults of range lists, of what names them, and of which of these is named.
@@ -416,14 +438,7 @@ fn refused_range_lists(rt: HostRuntime) -> Result<(), Fail> {
     ];
     for (changes, kind, place) in rows.iter() {
         let file = with_ranges(alloc, changes)?;
-        let fault = fault_of(alloc, &file)?;
-        assert!(rt;
-            fault
-                == Some(Fault {
-                    kind: *kind,
-                    place: *place as u64
-                })
-        );
+        is_refused(&rt, alloc, &file, *kind, *place as u64)?;
     }
     Ok(())
 }
@@ -475,13 +490,7 @@ fn with_views(alloc: Global, changes: &[(usize, u8)]) -> Result<Vec<u8>, AllocEr
 }
 
 // The place of the list, that of its view pairs, and the pairs; and what the values of the root refer to.
-#[test]
-fn view_pairs_are_held(rt: HostRuntime) -> Result<(), Fail> {
-    let alloc = rt.alloc();
-    let file = with_views(alloc, &[])?;
-    let world = World::read(alloc, &file, Reach::Narrow)
-        .ok()
-        .ok_or("refused")?;
+fn holds_view_pairs(rt: &impl Abort, world: &World<'_>) -> Result<(), Fail> {
     let pair = ViewPair { first: 0, last: 1 };
     assert_eq!(rt; world.views().len(), 1);
     let views = world.views();
@@ -501,6 +510,15 @@ fn view_pairs_are_held(rt: HostRuntime) -> Result<(), Fail> {
     Ok(())
 }
 
+#[test]
+fn view_pairs_are_held(rt: HostRuntime) -> Result<(), Fail> {
+    let file = with_views(rt.alloc(), &[])?;
+    match World::read(rt.alloc(), &file, Reach::Narrow) {
+        Ok(world) => holds_view_pairs(&rt, &world),
+        Err(_) => Err("refused")?,
+    }
+}
+
 // View pairs that end past their contribution, a place of them before its lists, and an entry without a list in DW_AT_location.
 #[test]
 fn refused_view_pairs(rt: HostRuntime) -> Result<(), Fail> {
@@ -514,14 +532,7 @@ fn refused_view_pairs(rt: HostRuntime) -> Result<(), Fail> {
     ];
     for (changes, kind, place) in rows.iter() {
         let file = with_views(alloc, changes)?;
-        let fault = fault_of(alloc, &file)?;
-        assert!(rt;
-            fault
-                == Some(Fault {
-                    kind: *kind,
-                    place: *place as u64
-                })
-        );
+        is_refused(&rt, alloc, &file, *kind, *place as u64)?;
     }
     Ok(())
 }
@@ -562,14 +573,7 @@ fn the_first_pass_with_a_fault_decides(rt: HostRuntime) -> Result<(), Fail> {
     ];
     for (changes, kind, place) in rows.iter() {
         let file = changed(alloc, changes)?;
-        let fault = fault_of(alloc, &file)?;
-        assert!(rt;
-            fault
-                == Some(Fault {
-                    kind: *kind,
-                    place: *place
-                })
-        );
+        is_refused(&rt, alloc, &file, *kind, *place)?;
     }
     Ok(())
 }

@@ -3,7 +3,7 @@ use Rattle.std.specs.List.{Contains}
 use Rattle.std.proofs.lemmas.List.Elements.{Contains-get_or}
 use Rattle.list_arena.specs.Held.{HeldList}
 use Rattle.value_links.proofs.ViewTotals.{no_list}
-use Rattle.value_links.proofs.world_tests.is_list_frozen.Goals as goal
+use Rattle.file_tests.proofs.value_links_world_tests.is_list_frozen.Goals as goal
 
 -- the list with a number is one of those that are held
 pub is_frozen-requires : goal.is_frozen-requires

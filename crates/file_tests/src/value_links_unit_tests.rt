@@ -1,10 +1,10 @@
 // Units with their tables, by hand, and units that are refused.
-use crate::{Units, read_units};
 use dw_base::{Fault, Kind, Refusal};
 use form_codec::Value;
 use std::alloc::Global;
 use std::process::Abort;
 use std::test::Fail;
+use value_links::{Units, read_units};
 
 // Where .debug_info and .debug_abbrev stand in the file.
 const INFO_ORIGIN: u64 = 64;
@@ -46,10 +46,8 @@ fn fault_of(alloc: Global, info: &[u8], abbrevs: &[u8]) -> Result<Option<Fault>,
     }
 }
 
-#[test]
-fn units_with_their_tables(rt: HostRuntime) -> Result<(), Fail> {
-    let alloc = rt.alloc();
-    let held = read(alloc, &UNITS, &TABLES).ok().ok_or("refused")?;
+// Stops where other units than those of the three with two tables are held.
+fn have_two_tables(rt: &impl Abort, held: &Units<'_>) -> Result<(), Fail> {
     assert_eq!(rt; held.table_of.as_slice(), &[1, 0, 1][..]);
     // the place of each table, its declarations, and its end
     let tables = [(0, 1, 6), (6, 2, 19)];
@@ -71,10 +69,15 @@ fn units_with_their_tables(rt: HostRuntime) -> Result<(), Fail> {
 }
 
 #[test]
-fn tables_that_overlap(rt: HostRuntime) -> Result<(), Fail> {
-    let held = read(rt.alloc(), &ROOTS, &OVERLAPPING)
-        .ok()
-        .ok_or("refused")?;
+fn units_with_their_tables(rt: HostRuntime) -> Result<(), Fail> {
+    match read(rt.alloc(), &UNITS, &TABLES) {
+        Ok(held) => have_two_tables(&rt, &held),
+        Err(_) => Err("refused")?,
+    }
+}
+
+// Stops where other units than those with tables that overlap are held.
+fn have_tables_that_overlap(rt: &impl Abort, held: &Units<'_>) -> Result<(), Fail> {
     assert_eq!(rt; held.table_of.as_slice(), &[0, 1, 0][..]);
     // the place of each table, how many declarations it has, and where the last of these stands
     let tables = [(0, 3, 12), (12, 1, 12)];
@@ -96,10 +99,24 @@ fn tables_that_overlap(rt: HostRuntime) -> Result<(), Fail> {
 }
 
 #[test]
+fn tables_that_overlap(rt: HostRuntime) -> Result<(), Fail> {
+    match read(rt.alloc(), &ROOTS, &OVERLAPPING) {
+        Ok(held) => have_tables_that_overlap(&rt, &held),
+        Err(_) => Err("refused")?,
+    }
+}
+
+#[test]
 fn no_units(rt: HostRuntime) -> Result<(), Fail> {
-    let held = read(rt.alloc(), &[], &TABLES).ok().ok_or("refused")?;
-    assert!(rt; held.units.is_empty() && held.tables.is_empty() && held.table_of.is_empty());
-    Ok(())
+    match read(rt.alloc(), &[], &TABLES) {
+        Ok(held) => {
+            assert!(rt;
+                held.units.is_empty() && held.tables.is_empty() && held.table_of.is_empty()
+            );
+            Ok(())
+        }
+        Err(_) => Err("refused")?,
+    }
 }
 
 // The bytes of .debug_info and of .debug_abbrev, and the kind and the place of their fault.
