@@ -27,7 +27,7 @@ pub struct NamedList {
     pub part: u32,
     /// Where it begins.
     pub at: u64,
-    /// Its entries. Those of a list that is frozen are its own.
+    /// Its entries. Those of a list that is kept, as a frozen one is in all classes, are its own.
     pub plan: Plan,
     /// The expressions of its items, in their order; a range list has none.
     pub expressions: NewExpressions,

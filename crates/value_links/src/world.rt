@@ -389,6 +389,23 @@ impl<'a> World<'a> {
         debug_section(self.image.whole(), &self.image, name).bytes
     }
 
+    /// The body of the section of lists of a kind, .debug_rnglists (DWARF 5 section 7.28) or .debug_loclists (section 7.29); none where
+    /// the file has no such section.
+    pub fn lists_section(&self, kind: ListKind) -> &[u8]
+        ensures { result.now ≡ debug_lists self.now.image kind }
+    {
+        lists_section(self.image.whole(), &self.image, kind).bytes
+    }
+
+    /// The offset in the file of a place in the section of lists of a kind, or of that section's end (DWARF 5 sections 7.28 and 7.29). A
+    /// section that is missing stands at 0.
+    pub fn lists_offset(&self, kind: ListKind, place: u64) -> u64
+        requires { place ≤ length (debug_lists self.now.image kind) }
+        ensures { result ≡ offset_named self.now.image (lists_name kind) + place }
+    {
+        lists_section(self.image.whole(), &self.image, kind).origin + place
+    }
+
     /// The headers of the line number programs of .debug_line, in their order.
     pub fn programs(&self) -> &Vec<Head>
         ensures { result.now.items ≡ self.now.programs }
