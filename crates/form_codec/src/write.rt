@@ -219,7 +219,9 @@ pub fn size_in(shape: Shape, value: &Value) -> Option<u64>
     match (shape, *value) {
         // Constants are what columns are most asked for: they are told without what would be written.
         (Shape::Number(width, Role::Data), Value::Int(whole)) => data_size(width, whole),
-        (Shape::Number(width, Role::Unsigned), Value::Int(whole)) => fixed_unsigned_size(width, whole),
+        (Shape::Number(width, Role::Unsigned), Value::Int(whole)) => fixed_unsigned_size(
+            width, whole,
+        ),
         (Shape::Uleb(Role::Unsigned), Value::Int(whole)) => uleb_size(whole),
         (Shape::Sleb, Value::Int(whole)) => signed_size(whole),
         (Shape::Constant(constant), Value::Int(whole)) => constant_size(constant, whole),
