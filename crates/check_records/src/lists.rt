@@ -4,7 +4,7 @@ ghost use Rattle.dw_base.specs.declared.fault.Reach.{Reach};
 ghost use Rattle.leb_codec.specs.Records.{OfList};
 ghost use Rattle.list_model.specs.declared.item.Meaning.TheVariants.{Dead};
 ghost use Rattle.list_arena.specs.Held.{HeldList};
-ghost use Rattle.value_links.specs.Sections.{debug_addr, debug_lists};
+ghost use Rattle.value_links.specs.Sections.{debug_addr};
 ghost use Rattle.value_links.specs.World.{IsWorldOf, lists_held};
 ghost use Rattle.list_lookup.specs.Maps.{AreMapsFor};
 ghost use Rattle.check_records.specs.Parts.{AList};
@@ -32,16 +32,6 @@ fn bare_size(section: &[u8], kind: ListKind, list: &ListRead) -> u64
     size
 }
 
-// The section of lists of a kind.
-fn section_of<'a>(written: &'a World<'_>, kind: ListKind) -> &'a [u8]
-    ensures { result.now ≡ debug_lists written.now.image kind }
-{
-    match kind {
-        ListKind::Ranges => written.section(b".debug_rnglists".as_slice()),
-        ListKind::Locations => written.section(b".debug_loclists".as_slice()),
-    }
-}
-
 /// Whether the potentials of the list of a kind with a number, which isn't frozen, are accepted: None, or the first item by which they
 /// aren't (DWARF 5 sections 2.6.2 and 2.17.3). `maps` are those of the file's address tables.
 pub(crate) fn judge_list(
@@ -65,7 +55,7 @@ pub(crate) fn judge_list(
     };
     let addr = written.section(b".debug_addr".as_slice());
     let context = written.context(owner);
-    let size = bare_size(section_of(written, kind), kind, &list);
+    let size = bare_size(written.lists_section(kind), kind, &list);
     accept_list(
         alloc,
         items.as_slice(),

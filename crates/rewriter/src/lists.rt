@@ -8,7 +8,7 @@ ghost use Rattle.leb_codec.specs.Records.{OfList, SpellsRecord};
 ghost use Rattle.fixed_width.specs.InitialLengths.{least_reserved};
 ghost use Rattle.list_arena.specs.Held.{HeldViews};
 ghost use Rattle.list_model.specs.declared.item.Meaning.TheVariants.{Live, Dead};
-ghost use Rattle.value_links.specs.Sections.{debug_addr, debug_lists};
+ghost use Rattle.value_links.specs.Sections.{debug_addr};
 ghost use Rattle.value_links.specs.Reading.{Reading};
 ghost use Rattle.value_links.specs.World.{World as AnyWorld, IsWorldOf, Holds, lists_held};
 ghost use Rattle.list_lookup.specs.Maps.{AreMapsFor};
@@ -197,7 +197,7 @@ fn write_pieces(
     ensures recorded { IfOk result (λ pieces. AreRecordedTo classes world.now kind (length (lists_held world.now kind)) records.new.items) }
 {
     let addr = world.section(b".debug_addr");
-    let section = section_of(world, kind);
+    let section = world.lists_section(kind);
     let lists = world.lists(kind);
     let count = run_count(world, kind);
     let mut next = 0;
@@ -219,16 +219,6 @@ fn write_pieces(
         pieces.push(kind, &named)?;
     }
     Ok(pieces)
-}
-
-// The section of lists of a kind.
-fn section_of<'a>(world: &'a World<'_>, kind: ListKind) -> &'a [u8]
-    ensures { result.now ≡ debug_lists world.now.image kind }
-{
-    match kind {
-        ListKind::Ranges => world.section(b".debug_rnglists"),
-        ListKind::Locations => world.section(b".debug_loclists"),
-    }
 }
 
 /// The lists of a kind written anew.
@@ -261,7 +251,7 @@ pub fn write_kind(
 {
     let mut records = Vec::new(alloc);
     let pieces = write_pieces(alloc, classes, &mut records, world, maps, places, kind)?;
-    let section = section_of(world, kind);
+    let section = world.lists_section(kind);
     let parts = world.contributions(kind);
     let image = assemble(alloc, kind, section, parts, &pieces)?;
     Ok(WrittenLists { image, records })

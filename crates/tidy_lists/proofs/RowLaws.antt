@@ -1,11 +1,6 @@
 -- Rows of what may be amiss with lists, by offsets in the file.
-use Rattle.std.proofs.Common.{◌≡◌, ◌≤◌, ◌<◌, ◌+◌, ◌^◌, ◌∙◌, ◌⊎◌, inl, inr, ℕ, List, length, sym, ap, subst, refl, arith}
+use Rattle.std.proofs.Common.{◌≡◌, ◌≤◌, ◌<◌, ◌+◌, ◌∙◌, ◌⊎◌, inl, inr, ℕ, List, length, sym, ap, subst, refl, arith}
 use Rattle.std.specs.Prelude.{Option, Some, None, IfSome, option_map, Result, Ok, Err, IfOk}
-use Rattle.dw_base.specs.declared.fault.Reach.TheVariants.{Wide}
-use Rattle.elf_sections.specs.Elf.{offset_of, body_of}
-use Rattle.elf_sections.specs.Faults.{IsRead}
-use Rattle.elf_sections.specs.Sections.{IsFirstNamed, HasNone}
-use Rattle.elf_sections.proofs.Reaches.{read-wide}
 use Rattle.list_model.specs.declared.entry.ListKind.{ListKind}
 use Rattle.list_model.specs.declared.entry.ListKind.TheVariants.{Ranges, Locations}
 use Rattle.value_links.specs.Sections.{offset_named, lists_name, debug_lists}
@@ -13,8 +8,6 @@ use Rattle.value_links.specs.Reading.{Reading, of_kind, part_at}
 use Rattle.value_links.specs.Whole.{IsReading}
 use Rattle.value_links.specs.World.{World}
 use Rattle.value_links.specs.Laws.{OneReading}
-use Rattle.value_links.proofs.SectionBytes.{none_named, first_named, body_room}
-use Rattle.value_links.proofs.ValidImages.{image_in_order}
 use Rattle.tidy_places.specs.Firsts.{IsLeastFound, IsFirstIn, IsFirstFoundIn}
 use Rattle.tidy_lists.specs.Due.{Row, HoldsAt, IsListElsewhere, IsRunElsewhere, IsElsewhere, IsLoose, order_of}
 use Rattle.tidy_lists.specs.Due.Row.{OfList, OfLooseByte}
@@ -25,40 +18,6 @@ use Rattle.tidy_lists.proofs.HeldThings.{IsSomeWorld}
 use Rattle.tidy_lists.proofs.OldOrder.{list_inside, part_ends}
 use Rattle.tidy_lists.proofs.SectionSizes.{run_inside}
 use Rattle.tidy_lists.proofs.LeastLaws.{least_same, least_either}
-
--- WHERE A SECTION STANDS
-
-module _ (world : World) (some : IsSomeWorld world) (kind : ListKind) (image name : List ℕ) (same : image ≡ world.image) (named : name ≡ lists_name kind) where
-  read_wide : IsRead world.image Wide
-  read_wide = let (reach, is) = some in read-wide world.image reach (image_in_order world.image reach is.valid)
-
-  module _ (i offset : ℕ) (found : IsFirstNamed image name i) (is : offset ≡ offset_of image i) where
-    first : IsFirstNamed world.image (lists_name kind) i
-    first = subst (λ (z : List ℕ). IsFirstNamed z (lists_name kind) i) same (subst (λ (z : List ℕ). IsFirstNamed image z i) named found)
-
-    offset_is : offset ≡ offset_of world.image i
-    offset_is = is ∙ ap (λ (z : List ℕ). offset_of z i) same
-
-    pub offset_found : offset ≡ offset_named world.image (lists_name kind)
-    offset_found = offset_is ∙ sym (first_named world.image (lists_name kind) i first).1
-
-    pub room_found : offset < 2 ^ 64 → offset + length (debug_lists world.image kind) < 2 ^ 64
-    room_found fits =
-        let room : offset_of world.image i + length (body_of world.image i) < 2 ^ 64 = body_room world.image i read_wide first.inside (omega (arith, fits, offset_is)) in
-        let size : length (debug_lists world.image kind) ≡ length (body_of world.image i) = ap (λ (z : List ℕ). length z) (first_named world.image (lists_name kind) i first).0 in
-        omega (arith, room, size, offset_is)
-
-  module _ (none : HasNone image name) where
-    missing : HasNone world.image (lists_name kind)
-    missing = subst (λ (z : List ℕ). HasNone z (lists_name kind)) same (subst (λ (z : List ℕ). HasNone image z) named none)
-
-    pub none_offset : 0 ≡ offset_named world.image (lists_name kind)
-    none_offset = sym (none_named world.image (lists_name kind) missing).1
-
-    pub none_room : 0 + length (debug_lists world.image kind) < 2 ^ 64
-    none_room =
-        let size : length (debug_lists world.image kind) ≡ 0 = ap (λ (z : List ℕ). length z) (none_named world.image (lists_name kind) missing).0 in
-        omega (arith, size)
 
 -- WHAT IS FOUND LIES IN ITS SECTION
 

@@ -83,16 +83,6 @@ fn list_end(kind: ListKind, bytes: &[u8], lists: &Lists, number: usize) -> u64
     entry_end(kind, bytes, &lists.entry(number, count - 1)) + 1
 }
 
-// The body of the section of lists of a kind.
-fn section_of<'a>(world: &'a World<'_>, kind: ListKind) -> &'a [u8]
-    ensures { result.now ≡ debug_lists world.now.image kind }
-{
-    match kind {
-        ListKind::Ranges => world.section(b".debug_rnglists"),
-        ListKind::Locations => world.section(b".debug_loclists"),
-    }
-}
-
 // The bytes of the section of lists of a kind from its first one to the end of the contribution with a number.
 fn bytes_to<'a>(world: &'a World<'_>, kind: ListKind, part: u32) -> &'a [u8]
     requires world { (reach : Reach) × IsWorldOf world.now.image reach world.now }
@@ -101,7 +91,7 @@ fn bytes_to<'a>(world: &'a World<'_>, kind: ListKind, part: u32) -> &'a [u8]
     ensures small { length result.now < 2 ^ 63 }
 {
     let part = world.contributions(kind)[part as usize];
-    &section_of(world, kind)[..(part.at + part.len) as usize]
+    &world.lists_section(kind)[..(part.at + part.len) as usize]
 }
 
 /// The bytes of the list of a kind with a number.
@@ -126,7 +116,7 @@ pub(crate) fn run_len(world: &World<'_>, number: u32) -> u64
 {
     let views = world.views();
     let number = number as usize;
-    let section = section_of(world, ListKind::Locations);
+    let section = world.lists_section(ListKind::Locations);
     let at = views.at(number) as usize;
     (numbers_end(section, at, 2 * views.pair_count(number)) - at) as u64
 }

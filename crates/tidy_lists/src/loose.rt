@@ -1,8 +1,7 @@
 // Bytes of contributions that no list has and no view pairs. A span of bytes is a pair: the place of the first byte, and how many there are.
-ghost use Rattle.std.specs.Prelude.{◌≡◌, ◌<◌, length, IfOk, OnOk};
+ghost use Rattle.std.specs.Prelude.{◌<◌, length, IfOk, OnOk};
 ghost use Rattle.dw_base.specs.declared.fault.Reach.{Reach};
 ghost use Rattle.list_model.specs.declared.entry.ListKind.TheVariants.{Locations as OfLocations};
-ghost use Rattle.value_links.specs.Sections.{debug_lists};
 ghost use Rattle.value_links.specs.World.{IsWorldOf, lists_held};
 ghost use Rattle.tidy_places.specs.Firsts.{IsLeastFound};
 ghost use Rattle.tidy_lists.specs.Due.{IsLoose};
@@ -24,16 +23,6 @@ const HEADER_SIZE: u64 = 12;
 
 // The bytes of an offset.
 const OFFSET_SIZE: u64 = 4;
-
-// The section of lists of a kind.
-fn section_of<'a>(world: &'a World<'_>, kind: ListKind) -> &'a [u8]
-    ensures { result.now ≡ debug_lists world.now.image kind }
-{
-    match kind {
-        ListKind::Ranges => world.section(b".debug_rnglists"),
-        ListKind::Locations => world.section(b".debug_loclists"),
-    }
-}
 
 // Appends a span of bytes.
 fn push_span(spans: &mut Vec<(u64, u64)>, start: u64, len: u64) -> Result<(), NoMemory>
@@ -178,5 +167,5 @@ pub(crate) fn first_loose_byte(
 {
     // Contributions fill the section, so that a loose byte is one that nothing has, their headers and offsets among what does.
     let spans = taken_spans(alloc, after, kind)?;
-    Ok(first_gap(&spans, section_of(after, kind).len() as u64))
+    Ok(first_gap(&spans, after.lists_section(kind).len() as u64))
 }

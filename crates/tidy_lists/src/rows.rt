@@ -1,5 +1,5 @@
 // The least places of a file at which something is amiss with its lists, by offsets in the file.
-ghost use Rattle.std.specs.Prelude.{◌≡◌, ◌≤◌, ◌<◌, ◌+◌, ◌^◌, length, IfOk, IfSome, option_map};
+ghost use Rattle.std.specs.Prelude.{◌≡◌, ◌≤◌, ◌+◌, length, IfOk, IfSome, option_map};
 ghost use Rattle.dw_base.specs.declared.fault.Reach.{Reach};
 ghost use Rattle.value_links.specs.Same.{Same};
 ghost use Rattle.value_links.specs.Sections.{offset_named, lists_name, debug_lists};
@@ -17,37 +17,13 @@ use list_model::ListKind;
 use std::alloc::Global;
 use value_links::World;
 
-// The name of the section of lists of a kind.
-fn section_name(kind: ListKind) -> &'static [u8]
-    ensures { result.now ≡ lists_name kind }
-{
-    match kind {
-        ListKind::Ranges => b".debug_rnglists".as_slice(),
-        ListKind::Locations => b".debug_loclists".as_slice(),
-    }
-}
-
-// The file offset of the section of lists of a kind; 0 where the file has none.
-fn section_offset(world: &World<'_>, kind: ListKind) -> u64
-    requires { (reach : Reach) × IsWorldOf world.now.image reach world.now }
-    ensures offset { result ≡ offset_named world.now.image (lists_name kind) }
-    ensures room { result + length (debug_lists world.now.image kind) < 2 ^ 64 }
-{
-    let image = world.image();
-    match image.find(section_name(kind)) {
-        Some(number) => image.offset(number),
-        None => 0,
-    }
-}
-
 // A place of the section of lists of a kind, where there is one, as an offset in the file.
 fn in_file(world: &World<'_>, kind: ListKind, place: Option<u64>) -> Option<u64>
-    requires world { (reach : Reach) × IsWorldOf world.now.image reach world.now }
-    requires inside { IfSome place (λ at. at ≤ length (debug_lists world.now.image kind)) }
+    requires { IfSome place (λ at. at ≤ length (debug_lists world.now.image kind)) }
     ensures { result ≡ option_map (λ at. offset_named world.now.image (lists_name kind) + at) place }
 {
     match place {
-        Some(at) => Some(section_offset(world, kind) + at),
+        Some(at) => Some(world.lists_offset(kind, at)),
         None => None,
     }
 }

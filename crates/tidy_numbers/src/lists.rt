@@ -1,11 +1,10 @@
 // The numbers of lists and of their expressions.
-ghost use Rattle.std.specs.Prelude.{◌≡◌, IfOk, OnOk};
+ghost use Rattle.std.specs.Prelude.{IfOk, OnOk};
 ghost use Rattle.std.specs.List.{All};
 ghost use Rattle.dw_base.specs.declared.fault.Reach.{Reach as AnyReach};
 ghost use Rattle.dw_base.specs.declared.fault.Reach.TheVariants.{Wide};
 ghost use Rattle.list_model.specs.declared.entry.ListKind.TheVariants.{Locations};
 ghost use Rattle.value_links.specs.Operations.{IsSomeExpression};
-ghost use Rattle.value_links.specs.Sections.{debug_lists};
 ghost use Rattle.value_links.specs.World.{IsWorldOf};
 ghost use Rattle.tidy_places.specs.Firsts.{IsLeastFound};
 ghost use Rattle.tidy_numbers.specs.LongLists.{AreLongOperandsOf, IsLongLength, HoldsBehindCode, is_owned, IsLongInLists};
@@ -157,16 +156,6 @@ fn first_in_list(
     }
 }
 
-// The section of lists of a kind.
-fn section_of<'a>(world: &'a World<'_>, kind: ListKind) -> &'a [u8]
-    ensures { result.now ≡ debug_lists world.now.image kind }
-{
-    match kind {
-        ListKind::Ranges => world.section(b".debug_rnglists".as_slice()),
-        ListKind::Locations => world.section(b".debug_loclists".as_slice()),
-    }
-}
-
 /// The first number of the lists of a kind with a byte too many, by its place in their section.
 pub(crate) fn first_in_lists(
     alloc: Global,
@@ -177,7 +166,7 @@ pub(crate) fn first_in_lists(
     requires { (reach : AnyReach) × IsWorldOf world.now.image reach world.now }
     ensures { IfOk result (λ place. OfReading world.now (λ s. IsLeastFound (IsLongInLists classes s kind) place)) }
 {
-    let section = section_of(world, kind);
+    let section = world.lists_section(kind);
     let mut ops = Vec::new(alloc);
     let mut found = None;
     let lists = world.lists(kind);

@@ -1,7 +1,7 @@
 // The first number of each section, as an offset in the file.
 ghost use Rattle.std.specs.Prelude.{◌≡◌, ◌<◌, ◌+◌, length, IfOk, IfSome, IsNone, MatchOption, Some};
 ghost use Rattle.dw_base.specs.declared.fault.Reach.{Reach};
-ghost use Rattle.value_links.specs.Sections.{body_named, offset_named, debug_abbrev, abbrev_name, info_name, lists_name};
+ghost use Rattle.value_links.specs.Sections.{body_named, offset_named, debug_abbrev, debug_lists, abbrev_name, info_name, lists_name};
 ghost use Rattle.value_links.specs.World.{IsWorldOf};
 ghost use Rattle.tidy_places.specs.Firsts.{IsLeastFound};
 ghost use Rattle.tidy_numbers.specs.LongNumbers.{HoldsIn, IsLongInTables, IsLongInInfo, IsLongInSection};
@@ -33,6 +33,14 @@ fn in_file(world: &World<'_>, name: &[u8], place: Option<u64>) -> Option<u64>
     }
 }
 
+// The file offset of a place in the section of lists of a kind, where there is one.
+fn in_lists(world: &World<'_>, kind: ListKind, place: Option<u64>) -> Option<u64>
+    requires { IfSome place (λ p. p < length (debug_lists world.now.image kind)) }
+    ensures { MatchOption place (IsNone result) (λ p. result ≡ Some (offset_named world.now.image (lists_name kind) + p)) }
+{
+    Some(world.lists_offset(kind, place?))
+}
+
 /// The first number of abbreviation tables with a byte too many, as an offset in the file.
 pub(crate) fn first_in_abbrev(world: &World<'_>) -> Option<u64>
     requires { (reach : Reach) × IsWorldOf world.now.image reach world.now }
@@ -62,11 +70,11 @@ pub(crate) fn first_in_section(
 {
     let lists = first_in_lists(alloc, classes, world, kind)?;
     match kind {
-        ListKind::Ranges => Ok(in_file(world, b".debug_rnglists".as_slice(), lists)),
+        ListKind::Ranges => Ok(in_lists(world, kind, lists)),
         ListKind::Locations => {
             // Only location lists have view pairs.
             let place = earlier(lists, first_in_views(world));
-            Ok(in_file(world, b".debug_loclists".as_slice(), place))
+            Ok(in_lists(world, kind, place))
         }
     }
 }

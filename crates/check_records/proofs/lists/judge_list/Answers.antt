@@ -34,7 +34,7 @@ context-context-requires c =
 pub bare_size-size-requires : goal.bare_size-size-requires
 bare_size-size-requires c =
     let held = holds_list c.args.written.now c.requires.world.0 c.requires.world.1 c.args.kind c.args.number c.requires.known c.lists.result.now c.lists.ensures.lists c.in_ok-list.list (c.in_ok-list.ensures c.in_ok-list.list) in
-    held_stands c.args.written.now c.requires.world.0 c.requires.world.1 c.args.kind c.args.number c.requires.known c.in_ok-list.list held c.section_of.result.now c.section_of.ensures
+    held_stands c.args.written.now c.requires.world.0 c.requires.world.1 c.args.kind c.args.number c.requires.known c.in_ok-list.list held c.lists_section.result.now c.lists_section.ensures
 
 pub of-requires : goal.of-requires
 of-requires c =
@@ -68,6 +68,6 @@ returns c =
     let held = holds_list c.args.written.now c.requires.world.0 c.requires.world.1 c.args.kind c.args.number c.requires.known c.lists.result.now c.lists.ensures.lists c.in_ok-list.list (c.in_ok-list.ensures c.in_ok-list.list) in
     let addr : c.section-addr.result.now ≡ debug_addr c.args.written.now.image = bytes_are c.args.written.now.image c.as_slice.result.now addr_name c.section-addr.result.now c.as_slice.ensures c.section-addr.ensures in
     verdicts_of c.args.written.now c.requires.world.0 c.requires.world.1 c.args.kind c.args.number c.requires.known c.in_ok-list.list held c.in-Live-Some.items (sym c.meaning.ensures ∙ c.in-Live-Some.is-0) c.in-Live-Some.owner (sym c.owner.ensures ∙ c.in-Live-Some.is-1) c.context-context.result c.context-context.ensures
-    c.section-addr.result.now addr c.section_of.result.now c.section_of.ensures c.bare_size-size.result c.bare_size-size.ensures c.accept_list.result c.args.potentials.now
+    c.section-addr.result.now addr c.lists_section.result.now c.lists_section.ensures c.bare_size-size.result c.bare_size-size.ensures c.accept_list.result c.args.potentials.now
     (subst (λ (z : List Item). IfOk c.accept_list.result (λ refused. IsNone refused ↔ AcceptsList c.section-addr.result.now c.context-context.result (map bounds_of z) c.args.potentials.now c.bare_size-size.result)) c.as_slice-2.ensures c.accept_list.ensures.accepted)
     (subst (λ (z : List Item). IfOk c.accept_list.result (λ refused. IfSome refused (IsFirstRefused c.section-addr.result.now c.context-context.result (map bounds_of z) c.args.potentials.now c.bare_size-size.result))) c.as_slice-2.ensures c.accept_list.ensures.first)

@@ -3,11 +3,11 @@ use Rattle.tidy_lists.specs.Due.Row.{OfList}
 use Rattle.tidy_lists.proofs.RowLaws.{found_inside, row_found}
 use Rattle.tidy_lists.proofs.rows.first_list.Goals as goal
 
-pub in_file-requires-clause-inside : goal.in_file-requires-clause-inside
-in_file-requires-clause-inside c = found_inside c.args.before.now c.args.after.now c.requires.before c.requires.after OfList Ranges c.in_ok-ranges.ranges c.in_ok-ranges.ensures
+pub in_file-requires : goal.in_file-requires
+in_file-requires c = found_inside c.args.before.now c.args.after.now c.requires.before c.requires.after OfList Ranges c.in_ok-ranges.ranges c.in_ok-ranges.ensures
 
-pub in_file-requires-2-clause-inside : goal.in_file-requires-2-clause-inside
-in_file-requires-2-clause-inside c = found_inside c.args.before.now c.args.after.now c.requires.before c.requires.after OfList Locations c.in_ok-locations.locations c.in_ok-locations.ensures
+pub in_file-requires-2 : goal.in_file-requires-2
+in_file-requires-2 c = found_inside c.args.before.now c.args.after.now c.requires.before c.requires.after OfList Locations c.in_ok-locations.locations c.in_ok-locations.ensures
 
 pub returns : goal.returns
 returns c =

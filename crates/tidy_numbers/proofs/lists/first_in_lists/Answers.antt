@@ -15,7 +15,7 @@ first_in_list-requires c =
     let k : ℕ = c.loop-number.number in
     let count : c.len-number-end.result ≡ length lists = c.len-number-end.ensures ∙ ap length c.lists-lists.ensures.lists in
     let here : c.in_ok-list.list ≡ get_or lists k c.in_ok-list.list = c.in_ok-list.ensures c.in_ok-list.list ∙ ap (λ (z : List HeldList). get_or z k c.in_ok-list.list) c.lists-lists.ensures.lists in
-    list_stands c.args.world.now c.requires.0 c.requires.1 c.args.kind c.section_of-section.result.now c.section_of-section.ensures k (omega (arith, c.loop-number-test.true, count)) c.in_ok-list.list here
+    list_stands c.args.world.now c.requires.0 c.requires.1 c.args.kind c.lists_section-section.result.now c.lists_section-section.ensures k (omega (arith, c.loop-number-test.true, count)) c.in_ok-list.list here
 
 pub loop-number-preserved : goal.loop-number-preserved
 loop-number-preserved c =
@@ -25,7 +25,7 @@ loop-number-preserved c =
     let found = c.in_ok-first_in_list.field-0 in
     let count : c.len-number-end.result ≡ length lists = c.len-number-end.ensures ∙ ap length c.lists-lists.ensures.lists in
     let here : c.in_ok-list.list ≡ get_or lists k c.in_ok-list.list = c.in_ok-list.ensures c.in_ok-list.list ∙ ap (λ (z : List HeldList). get_or z k c.in_ok-list.list) c.lists-lists.ensures.lists in
-    let least : IsLeastFound (IsLongInHeld c.args.classes c.args.kind section c.in_ok-list.list) found = subst (λ (z : List ℕ). IsLeastFound (IsLongInHeld c.args.classes c.args.kind z c.in_ok-list.list) found) c.section_of-section.ensures c.in_ok-first_in_list.ensures in
+    let least : IsLeastFound (IsLongInHeld c.args.classes c.args.kind section c.in_ok-list.list) found = subst (λ (z : List ℕ). IsLeastFound (IsLongInHeld c.args.classes c.args.kind z c.in_ok-list.list) found) c.lists_section-section.ensures c.in_ok-first_in_list.ensures in
     below_next (IsLongNumbered c.args.classes c.args.kind section lists) k c.loop-number.found found c.earlier-found.result c.loop-number.invariant
     (numbered_found c.args.classes c.args.kind section lists k c.in_ok-list.list found (omega (arith, c.loop-number-test.true, count)) here least)
     c.earlier-found.ensures
