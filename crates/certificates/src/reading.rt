@@ -14,7 +14,7 @@ use std::alloc::Global;
 pub const MAGIC: [u8; 8] = [0x44, 0x57, 0x4d, 0x49, 0x4e, 0x30, 0x31, 0x0a];
 
 /// The first bytes of a record file for these classes: [`MAGIC`], or "DWMINP1" and the end of a line where line number programs stay as
-/// they are.
+/// they are. They tell this one switch of the classes alone: those that differ in the others have the same.
 pub fn magic(classes: Classes) -> [u8; 8]
     ensures { result ≡ magic classes }
 {

@@ -83,13 +83,13 @@ fn encoded_size(encoding: Encoding) -> u64
     }
 }
 
-// How many bytes the shortest spelling of a value in this shape has. Of a shape that doesn't spell the value it says nothing.
+// How many bytes the shortest spelling of a value in this shape has, if the shape spells the value: else it says nothing.
 #[inline(always)]
 fn shaped_size(shape: Shape, value: &Value) -> u64
     ensures { (section bytes : List ℕ) → length section < 2 ^ 63 → IsValueIn section value.now → AreBytes bytes → SpellsShape shape (meant_in section value.now) bytes → HasShortest shape (meant_in section value.now) result }
 {
     match shape {
-        // The bytes of most values are counted by their form alone.
+        // Each value that one of these spells has as many bytes, so that it need not be looked at.
         Shape::Constant(_) | Shape::Present => 0,
         Shape::Number(width, _) => u64::from(width.size()),
         _ => match encoding_of(shape, value) {
