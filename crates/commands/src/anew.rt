@@ -17,7 +17,7 @@ use verdict::written_are_accepted;
 /// The bytes to be written for a file that was read, in some classes, and their certificate: what [`rewrite_world`] gives. Two laws add that
 /// slots have in the written file the bytes that their numbers need (`layouts` in `whole`), and that it is accepted with its certificate by the
 /// definition by which `check` goes (`accepted`). Nothing is checked here. The only error is want of memory.
-pub fn rewrite_held(
+pub(crate) fn rewrite_held(
     alloc: Global,
     classes: Classes,
     world: World<'_>,

@@ -198,6 +198,9 @@ fn line_of(alloc: Global, classes: Classes, file: &[u8]) -> Result<String, Refus
 
 /// Reads the input, and tells in a line of JSON what writing it anew in some classes would win: how many bytes the sections that are written anew have
 /// in it and in the output, and how many entries, rows of line number programs and units it has. Nothing is written.
+///
+/// Refused comes where the input isn't valid, with a fault of the first pass that has one, and where it has more bytes than an input may have,
+/// as Limit at 0; ReadFault comes exactly where the host fails to read the input; NoMemory may come wherever memory is wanting, and WriteFault never comes.
 pub fn summarise<H: Host>(
     alloc: Global,
     classes: Classes,
