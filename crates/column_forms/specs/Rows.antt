@@ -22,7 +22,7 @@ column_of values width column (suc rows) = column_of values width column rows ++
 abbrev pub AreHere : List ℕ → List Value → Type 0
 AreHere section values = (k : ℕ) → k < length values → IsHere section (value_at values k)
 
--- each of the first so many new columns is the old one in its least form, where the old form spells its values
+-- there are so many new columns, and each is the old one in the form that is least in the classes with all members, where the old form spells its values
 pub record AreChosen (columns : List Spec) (rows count : ℕ) (values : List Value) (chosen : List Spec) : Type 0 where
   pub many : length chosen ≡ count
   pub each : (section : List ℕ) (j : ℕ) → j < count → AreHere section values → AreSpelled (spec_at columns j).name (spec_at columns j).form (spec_at columns j).constant (meanings_in section (column_of values (length columns) j rows)) → IsChosen every (spec_at columns j) (meanings_in section (column_of values (length columns) j rows)) (spec_at chosen j)

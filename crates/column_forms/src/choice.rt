@@ -75,7 +75,8 @@ fn admits_unsigned(candidates: &[Candidate]) -> bool
     false
 }
 
-// Whether the classes leave out the form with a code, under a name and of values that DW_FORM_udata admits or doesn't.
+// Whether the classes leave out the form with a code under a name. `unsigned` tells whether DW_FORM_udata admits all values: then classes
+// without signed numbers leave out DW_FORM_sdata.
 fn is_passed_over(classes: Classes, name: u64, unsigned: bool, code: u64) -> bool
     ensures { (candidates : List Candidate) → (IsTrue unsigned ↔ AdmitsUnsigned candidates) → IsTrue result ↔ IsPassedOver classes name candidates code }
 {
@@ -88,8 +89,9 @@ fn is_passed_over(classes: Classes, name: u64, unsigned: bool, code: u64) -> boo
     }
 }
 
-/// The form of the classes that takes the fewest bytes for the attribute with a name, among the candidates that admit all values: of several the
-/// one of the input, or else the one with the lowest code. None: no such candidate admits all values.
+/// Of the candidates that admit all values, and that the classes don't leave out under this name, the one that takes the fewest bytes: those in the
+/// entries and, for DW_FORM_implicit_const, those of the constant in the declaration. Among equals it is the one with the form `input`, or else the
+/// one with the lowest code. None: there is no such candidate.
 pub fn best_of(
     candidates: &[Candidate],
     classes: Classes,

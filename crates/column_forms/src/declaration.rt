@@ -31,9 +31,9 @@ fn tally_of(
     Ok(tally)
 }
 
-/// The columns of one declaration, each in the form that takes the fewest bytes: those of its values in the entries and,
-/// for DW_FORM_implicit_const, those of the constant in the declaration (DWARF 5 sections 7.5.3 and 7.5.6). Among equals a
-/// column keeps its form, or else has the one with the lowest code. Names stay, and a column whose form isn't
+/// The columns of one declaration, each in the form that takes the fewest bytes in the classes with all members: those of its
+/// values in the entries and, for DW_FORM_implicit_const, those of the constant in the declaration (DWARF 5 sections 7.5.3 and
+/// 7.5.6). Among equals a column keeps its form, or else has the one with the lowest code. Names stay, and a column whose form isn't
 /// DW_FORM_implicit_const has the constant 0. References within a unit get DW_FORM_ref_udata, whose bytes don't count here: each
 /// has as many as the layout of its unit gives it.
 ///

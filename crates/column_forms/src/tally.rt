@@ -1,9 +1,7 @@
 // What the values of a column take in each form.
-ghost use Rattle.std.specs.Prelude.{◌≡◌, ◌≤◌, ◌<◌, ◌+◌, ◌*◌, ◌^◌, ◌++◌, ◌∷◌, ◌↔◌, [], ℕ, ℤ, List, length, Contains, IsTrue, IfOk, IfSome, OnOk, MatchOption, FitsSigned};
-ghost use Rattle.std.specs.Int.{w64};
+ghost use Rattle.std.specs.Prelude.{◌≡◌, ◌≤◌, ◌<◌, ◌+◌, ◌*◌, ◌^◌, ◌++◌, ◌∷◌, ◌↔◌, [], ℕ, List, length, Contains, IsTrue, IfOk, IfSome, OnOk, MatchOption};
 ghost use Rattle.form_codec.specs.declared.value.Value.{Value as AValue};
 ghost use Rattle.form_codec.specs.Forms.{Meaning};
-ghost use Rattle.form_codec.specs.Forms.Meaning.{Whole};
 ghost use Rattle.form_codec.specs.Values.{meant_in, IsValueIn};
 ghost use Rattle.form_codec.specs.Columns.{AreSpelled, IsChoice, IsLeastForm};
 ghost use Rattle.column_forms.specs.Columns.{IsChosen};
@@ -24,7 +22,7 @@ use dw_base::constants::{
     DW_FORM_UDATA,
 };
 use dw_base::{Classes, NoMemory};
-use form_codec::{Form, Shape, Value, size_in, some_form};
+use form_codec::{Form, Shape, Value, constant_of, size_in, some_form};
 use std::alloc::Global;
 use std::marker::Model;
 
@@ -39,19 +37,6 @@ pub struct Candidate {
     pub size: u128,
     /// Whether it admits all values so far.
     pub admits: bool,
-}
-
-// The constant of a value, or 0 where it has none that implicit_const can have.
-fn constant_of(value: &Value) -> i64
-    ensures { (section : List ℕ) (v : ℤ) → FitsSigned w64 v → meant_in section value.now ≡ Whole v → v ≡ result }
-{
-    match *value {
-        Value::Int(number) => match i64::try_from(number.get()) {
-            Ok(constant) => constant,
-            Err(_) => 0,
-        },
-        _ => 0,
-    }
 }
 
 // Counts one more value in a form.
@@ -130,7 +115,8 @@ fn push_candidate(
 
 // The codes of the forms that can be chosen for some values of the kind of this one, by their classes (DWARF 5 section 7.5.5).
 fn codes_for(value: &Value) -> &'static [u64]
-    ensures { HasCodesFor value.now result.now }
+    ensures codes { HasCodesFor value.now result.now }
+    ensures few { length result.now ≤ 7 }
 {
     match *value {
         Value::Addr(_) => &[DW_FORM_ADDR],

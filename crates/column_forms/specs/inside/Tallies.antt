@@ -48,7 +48,7 @@ pub record IsFirst (name code : ℕ) (constant : ℤ) (v : Value) (new : Candida
 abbrev pub HasCodesFor : Value → List ℕ → Type 0
 HasCodesFor v codes = (section : List ℕ) (name code : ℕ) (constant : ℤ) → CanSpell name code constant (meant_in section v) → Contains codes code
 
--- of the forms whose codes were tried those that spell a first value, each with its bytes
+-- forms that spell a first value, each with its bytes; among them all that were tried and do
 pub record AreFound (name : ℕ) (constant : ℤ) (v : Value) (IsTried : ℕ → Type 0) (candidates : List Candidate) : Type 0 where
   pub bounded : AreBounded candidates 1
   pub shaped : AreShaped name constant candidates

@@ -23,4 +23,4 @@ returns c =
     let items = c.loop-code.candidates.items in
     let tried = simp to_z-of_z at c.loop-code.invariant in
     let found = subst (λ (z : List ℕ). AreFound c.args.name c.args.constant c.args.value.now (Contains z) items) (take_all c.loop-code.code-index codes c.loop-code-test.false) tried in
-    found_all c.args.name c.args.constant c.args.value.now codes items c.codes_for-codes.ensures found
+    found_all c.args.name c.args.constant c.args.value.now codes items c.codes_for-codes.ensures.codes found
