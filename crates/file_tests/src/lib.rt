@@ -8,7 +8,15 @@ mod elf_place_tests;
 #[cfg(test)]
 mod elf_sections_tests;
 #[cfg(test)]
+mod rewriter_certificate_tests;
+#[cfg(test)]
+mod rewriter_tests;
+#[cfg(test)]
+mod same_meaning_tests;
+#[cfg(test)]
 mod sample_maker_tests;
+#[cfg(test)]
+mod tidy_files_tests;
 #[cfg(test)]
 mod value_links_unit_tests;
 #[cfg(test)]

@@ -5,8 +5,6 @@ mod anew;
 mod assemble;
 #[cfg(test)]
 mod assemble_tests;
-#[cfg(test)]
-mod certificate_tests;
 mod columns;
 mod file;
 mod inside_columns;
@@ -34,6 +32,3 @@ mod units;
 mod uses;
 
 pub use file::{Rewritten, rewrite, rewrite_in, rewrite_world};
-
-#[cfg(test)]
-mod tests;

@@ -19,8 +19,6 @@ mod parts;
 mod programs;
 mod reason;
 mod same_lists;
-#[cfg(test)]
-mod tests;
 mod units;
 mod values;
 

@@ -11,8 +11,6 @@ ghost use Rattle.tidy_files.specs.Tidy.{IsTidy, IsFirstUntidy};
 mod laws;
 mod lists;
 mod programs;
-#[cfg(test)]
-mod tests;
 mod units;
 
 pub use crate::laws::{tidy_files_are_whole, written_classes};

@@ -1,6 +1,7 @@
 // Small files whose outcome was worked out by hand.
-use crate::rewrite;
 use dw_base::{Fault, Kind, Refusal};
+use rewriter::rewrite;
+use std::alloc::Global;
 use std::test::Fail;
 
 // An executable for x86-64 with section 0, .debug_abbrev at 64, .debug_info at 71 and .shstrtab. The table declares the code
@@ -40,14 +41,16 @@ const NEW: [u8; 376] = [
     0, 0, 0, 0, 0, 0, 0, 0, 0, 0, 0, 0, 0,
 ];
 
+// The bytes to be written for a file.
+fn file_anew(alloc: Global, file: &[u8]) -> Result<Vec<u8>, Refusal> {
+    Ok(rewrite(alloc, file)?.file)
+}
+
 #[test]
 fn files_are_rewritten(rt: HostRuntime) -> Result<(), Fail> {
     for file in [OLD.as_slice(), NEW.as_slice()] {
-        let written = match rewrite(rt.alloc(), file) {
-            Ok(written) => written,
-            Err(_) => return Err("refused")?,
-        };
-        assert_eq!(rt; written.file.as_slice(), NEW.as_slice());
+        let written = file_anew(rt.alloc(), file)?;
+        assert_eq!(rt; written.as_slice(), NEW.as_slice());
     }
     Ok(())
 }
@@ -259,13 +262,27 @@ fn parts_are_rewritten(rt: HostRuntime) -> Result<(), Fail> {
         (EXPRESSIONS_ANEW.as_slice(), EXPRESSIONS_ANEW.as_slice()),
     ];
     for (file, new) in table {
-        let written = match rewrite(rt.alloc(), file) {
-            Ok(written) => written,
-            Err(_) => return Err("refused")?,
-        };
-        assert_eq!(rt; written.file.as_slice(), new);
+        let written = file_anew(rt.alloc(), file)?;
+        assert_eq!(rt; written.as_slice(), new);
     }
     Ok(())
+}
+
+// The file with another byte at a place.
+fn changed(at: usize, byte: u8) -> [u8; 384] {
+    let mut file = OLD;
+    if let Some(old) = file.get_mut(at) {
+        *old = byte;
+    }
+    file
+}
+
+// Why a file is refused.
+fn refusal_of(alloc: Global, file: &[u8]) -> Result<Refusal, &'static str> {
+    match rewrite(alloc, file) {
+        Ok(_) => Err("not refused"),
+        Err(refusal) => Ok(refusal),
+    }
 }
 
 #[test]
@@ -279,16 +296,8 @@ fn files_are_refused(rt: HostRuntime) -> Result<(), Fail> {
         (84, 2, Kind::CodeMissing, 83),
     ];
     for (at, byte, kind, place) in table {
-        let mut file = OLD;
-        if let Some(changed) = file.get_mut(at) {
-            *changed = byte;
-        }
-        match rewrite(rt.alloc(), &file) {
-            Ok(_) => return Err("not refused")?,
-            Err(refusal) => {
-                assert_eq!(rt; refusal, Refusal::Refused(Fault { kind, place }));
-            }
-        }
+        let refusal = refusal_of(rt.alloc(), &changed(at, byte))?;
+        assert_eq!(rt; refusal, Refusal::Refused(Fault { kind, place }));
     }
     Ok(())
 }

@@ -1,9 +1,12 @@
 // A file with one unit and one abbreviation table, the file that is written for it, and files that differ from the latter.
-use crate::accept_classes;
+ghost use Rattle.dw_base.specs.declared.fault.Reach.TheVariants.{Narrow, Wide};
+ghost use Rattle.value_links.specs.World.{IsWorldOf};
+
 use dw_base::{Classes, Reach};
 use same_meaning::first_difference;
 use std::alloc::{AllocError, Global};
 use std::test::Fail;
+use tidy_files::accept_classes;
 use value_links::World;
 
 // .debug_info has a unit of three entries, of which the second names the third by four bytes; .debug_abbrev begins at place 196.
@@ -64,20 +67,39 @@ fn changed(alloc: Global, change: Option<(usize, u8)>, more: usize) -> Result<Ve
     Ok(file)
 }
 
-// The first place at which a file that means the same as BEFORE isn't tidy.
-fn place_of(alloc: Global, file: &[u8]) -> Result<Option<u64>, Fail> {
-    let Ok(before) = World::read(alloc, &BEFORE, Reach::Narrow) else {
-        return Err("the file before is refused")?;
+// The first place at which a file isn't tidy that means the same as another.
+fn place_between(
+    alloc: Global,
+    before: &World<'_>,
+    after: &World<'_>,
+) -> Result<Option<u64>, &'static str>
+    requires before { IsWorldOf before.now.image Narrow before.now }
+    requires after { IsWorldOf after.now.image Wide after.now }
+{
+    let Ok(None) = first_difference(alloc, before, after) else {
+        return Err("the files differ in meaning");
     };
-    let Ok(after) = World::read(alloc, file, Reach::Wide) else {
-        return Err("the file after is refused")?;
-    };
-    let Ok(None) = first_difference(alloc, &before, &after) else {
-        return Err("the files differ in meaning")?;
-    };
-    match accept_classes(alloc, Classes::every(), &before, &after) {
+    match accept_classes(alloc, Classes::every(), before, after) {
         Ok(place) => Ok(place),
-        Err(_) => Err("no memory")?,
+        Err(_) => Err("no memory"),
+    }
+}
+
+// The first place at which the bytes of a file aren't tidy that mean the same as a file that was read.
+fn place_after(alloc: Global, before: &World<'_>, file: &[u8]) -> Result<Option<u64>, &'static str>
+    requires { IsWorldOf before.now.image Narrow before.now }
+{
+    match World::read(alloc, file, Reach::Wide) {
+        Ok(after) => place_between(alloc, before, &after),
+        Err(_) => Err("the file after is refused"),
+    }
+}
+
+// The first place at which a file that means the same as BEFORE isn't tidy.
+fn place_of(alloc: Global, file: &[u8]) -> Result<Option<u64>, &'static str> {
+    match World::read(alloc, &BEFORE, Reach::Narrow) {
+        Ok(before) => place_after(alloc, &before, file),
+        Err(_) => Err("the file before is refused"),
     }
 }
 

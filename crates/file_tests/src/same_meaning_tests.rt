@@ -1,7 +1,10 @@
 // A file in the manner of clang, the file that is written for it, and files that differ from the latter in a byte.
-use crate::{Reason, first_difference};
+ghost use Rattle.dw_base.specs.declared.fault.Reach.TheVariants.{Narrow, Wide};
+ghost use Rattle.value_links.specs.World.{IsWorldOf};
+
 use dw_base::Reach;
 use list_model::ListKind;
+use same_meaning::{Reason, first_difference};
 use std::alloc::{AllocError, Global};
 use std::test::Fail;
 use value_links::World;
@@ -98,17 +101,40 @@ fn changed(alloc: Global, change: Option<(usize, u8)>) -> Result<Vec<u8>, AllocE
     Ok(file)
 }
 
-// The first reason why a file doesn't mean the same as the one before.
-fn reason_of(alloc: Global, file: &[u8]) -> Result<Option<Reason>, Fail> {
-    let Ok(before) = World::read(alloc, &BEFORE, Reach::Narrow) else {
-        return Err("the file before is refused")?;
-    };
-    let Ok(after) = World::read(alloc, file, Reach::Wide) else {
-        return Err("the file after is refused")?;
-    };
-    match first_difference(alloc, &before, &after) {
+// The first reason why two files don't mean the same.
+fn reason_between(
+    alloc: Global,
+    before: &World<'_>,
+    after: &World<'_>,
+) -> Result<Option<Reason>, &'static str>
+    requires before { IsWorldOf before.now.image Narrow before.now }
+    requires after { IsWorldOf after.now.image Wide after.now }
+{
+    match first_difference(alloc, before, after) {
         Ok(reason) => Ok(reason),
-        Err(_) => Err("no memory")?,
+        Err(_) => Err("no memory"),
+    }
+}
+
+// The first reason why the bytes of a file don't mean the same as a file that was read.
+fn reason_after(
+    alloc: Global,
+    before: &World<'_>,
+    file: &[u8],
+) -> Result<Option<Reason>, &'static str>
+    requires { IsWorldOf before.now.image Narrow before.now }
+{
+    match World::read(alloc, file, Reach::Wide) {
+        Ok(after) => reason_between(alloc, before, &after),
+        Err(_) => Err("the file after is refused"),
+    }
+}
+
+// The first reason why a file doesn't mean the same as the one before.
+fn reason_of(alloc: Global, file: &[u8]) -> Result<Option<Reason>, &'static str> {
+    match World::read(alloc, &BEFORE, Reach::Narrow) {
+        Ok(before) => reason_after(alloc, &before, file),
+        Err(_) => Err("the file before is refused"),
     }
 }
 
