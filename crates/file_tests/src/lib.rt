@@ -4,6 +4,8 @@
 #[cfg(test)]
 mod dw_base_tests;
 #[cfg(test)]
+mod elf_files;
+#[cfg(test)]
 mod elf_place_tests;
 #[cfg(test)]
 mod elf_sections_tests;
@@ -17,6 +19,10 @@ mod same_meaning_tests;
 mod sample_maker_tests;
 #[cfg(test)]
 mod tidy_files_tests;
+#[cfg(test)]
+mod value_links_context_tests;
+#[cfg(test)]
+mod value_links_link_tests;
 #[cfg(test)]
 mod value_links_unit_tests;
 #[cfg(test)]

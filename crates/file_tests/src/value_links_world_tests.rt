@@ -3,7 +3,8 @@ ghost use Rattle.std.specs.Prelude.{◌<◌, length};
 ghost use Rattle.list_model.specs.declared.entry.ListKind.TheVariants.{Ranges};
 ghost use Rattle.value_links.specs.World.{lists_held};
 
-use dw_base::{Fault, Kind, Reach, Refusal};
+use crate::elf_files::fault_of;
+use dw_base::{Fault, Kind, Reach};
 use entry_arena::Target;
 use form_codec::Value;
 use list_model::{Contribution, ListKind};
@@ -67,15 +68,6 @@ fn extended(
     Ok(file)
 }
 
-// The fault of a file, or none.
-fn fault_of(alloc: Global, file: &[u8]) -> Result<Option<Fault>, Fail> {
-    match World::read(alloc, file, Reach::Narrow) {
-        Ok(_) => Ok(None),
-        Err(Refusal::Refused(fault)) => Ok(Some(fault)),
-        Err(Refusal::NoMemory) => Err("no memory")?,
-    }
-}
-
 // Stops where a file isn't refused with a fault of this kind at this place.
 fn is_refused(
     rt: &impl Abort,
@@ -84,7 +76,7 @@ fn is_refused(
     kind: Kind,
     place: u64,
 ) -> Result<(), Fail> {
-    let fault = fault_of(alloc, file)?;
+    let fault = fault_of(alloc, file, Reach::Narrow)?;
     assert!(rt; fault == Some(Fault { kind, place }));
     Ok(())
 }

@@ -3,13 +3,9 @@
 #![tactic(auto)]
 
 mod check;
-#[cfg(test)]
-mod context_tests;
 mod contexts;
 mod laws;
 mod link;
-#[cfg(test)]
-mod link_tests;
 mod list_bases;
 mod list_expressions;
 mod list_places;

@@ -1,30 +1,17 @@
 // What values refer to, by hand, and values that refer to nothing.
-ghost use Rattle.std.specs.Prelude.{◌≡◌, ◌<◌, ◌^◌, length, IfOk};
-ghost use Rattle.dw_base.specs.declared.fault.Reach.TheVariants.{Wide};
-ghost use Rattle.value_links.specs.declared.link_tests.TheConstants.{TABLE};
-ghost use Rattle.value_links.specs.Parts.{AreUnitsHeld, HoldsLists};
-ghost use Rattle.value_links.specs.World.{HaveOperations};
-ghost use Rattle.value_links.specs.inside.Checks.{AreSomeUnits, IsNoExpr};
-ghost use Rattle.value_links.specs.inside.ListPlaces.{AreContributions};
-
-use crate::contexts::contexts_of;
-use crate::list_bases::bases_of;
-use crate::operations::read_operations;
-use crate::{
-    Contributions, Link, OpLink, Parts, Units, check_links, read_units, resolve, resolve_op,
-};
+use crate::elf_files::{compile_unit, elf_file, fault_of};
 use dw_base::{Fault, Kind, Reach, Span};
-use entry_arena::{Operations, Target};
+use entry_arena::Target;
 use expr_ops::Op;
 use form_codec::{Value, Whole};
-use line_machine::Head;
-use list_model::{ListKind, addr_tables, contributions};
-use std::alloc::Global;
+use list_model::ListKind;
+use std::alloc::{AllocError, Global};
 use std::process::Abort;
 use std::test::Fail;
+use value_links::{Link, OpLink, World};
 
-// Where .debug_info stands in the file.
-const ORIGIN: u64 = 64;
+// Where .debug_info stands in a file with six sections.
+const ORIGIN: u64 = 576;
 
 // Declarations 1 to 8: a root with children; entries with DW_AT_type in the forms ref4 and ref_addr, and with DW_AT_location in
 // the forms exprloc and loclistx; a root with DW_AT_loclists_base; and roots without children, with DW_AT_stmt_list, and with
@@ -48,11 +35,11 @@ const UNITS: [u8; 56] = [
     0, 0, 1, 3, 12, 0, 0, 0, 0, 0x0e, 0, 0, 0, 5, 0, 1, 8, 0, 0, 0, 0, 9, 12, 0, 0, 0, 0,
 ];
 
-// Units whose roots have view pairs at 17: with a location list at 16; with the first slot of the base 12; and with no location list.
-const VIEWED: [u8; 60] = [
+// Units whose roots have view pairs at 17: with a location list at 16, and with the first slot of the base 12; and one whose root has no
+// location list.
+const VIEWED: [u8; 57] = [
     0x11, 0, 0, 0, 5, 0, 1, 8, 0, 0, 0, 0, 14, 16, 0, 0, 0, 17, 0, 0, 0, 0x12, 0, 0, 0, 5, 0, 1, 8,
-    0, 0, 0, 0, 16, 12, 0, 0, 0, 0, 17, 0, 0, 0, 0x0d, 0, 0, 0, 5, 0, 1, 8, 0, 0, 0, 0, 15, 17, 0,
-    0, 0,
+    0, 0, 0, 0, 16, 12, 0, 0, 0, 0, 17, 0, 0, 0, 0x0a, 0, 0, 0, 5, 0, 1, 8, 0, 0, 0, 0, 1, 0,
 ];
 
 // Contributions at 0 and 17: one slot at 12 and a list at 16, and a list at 29.
@@ -68,90 +55,24 @@ const LOCATIONS: [u8; 31] = [
 // An address table of one address, which stands at 8.
 const ADDRESSES: [u8; 16] = [12, 0, 0, 0, 5, 0, 8, 0, 0, 0x10, 0, 0, 0, 0, 0, 0];
 
-fn program(at: u64) -> Head {
-    Head {
-        at,
-        len: 30,
-        min: 1,
-        stmt: true,
-        base: 0,
-        range: 1,
-        opcode_base: 13,
-        tables: Span { at: 27, len: 0 },
-        program: Span { at: 27, len: 3 },
-    }
-}
+// Line number programs without an opcode, at 0 and at 34.
+const PROGRAMS: [u8; 68] = [
+    0x1e, 0, 0, 0, 5, 0, 8, 0, 0x16, 0, 0, 0, 1, 1, 1, 0xfb, 14, 13, 0, 1, 1, 1, 1, 0, 0, 0, 1, 0,
+    0, 1, 0, 0, 0, 0, 0x1e, 0, 0, 0, 5, 0, 8, 0, 0x16, 0, 0, 0, 1, 1, 1, 0xfb, 14, 13, 0, 1, 1, 1,
+    1, 0, 0, 0, 1, 0, 0, 1, 0, 0, 0, 0,
+];
 
-// Line number programs at 0 and at 30.
-fn programs(alloc: Global) -> Result<Vec<Head>, Fail> {
-    let mut heads = Vec::new(alloc);
-    heads.push(program(0)).ok().ok_or("no memory")?;
-    heads.push(program(30)).ok().ok_or("no memory")?;
-    Ok(heads)
-}
-
-// The contributions to a section, at most two.
-fn contributions_to(alloc: Global, section: &[u8]) -> Result<Contributions<'_>, Fail>
-    ensures { IfOk result AreContributions }
-{
-    let parts = contributions(alloc, section, 0).ok().ok_or("refused")?;
-    if parts.len() > 2 {
-        Err("more contributions")?;
-    }
-    Ok(Contributions { section, parts })
-}
-
-// The operations of the expressions of units.
-fn operations_of(alloc: Global, units: &Units<'_>, info: &[u8]) -> Result<Vec<Operations>, Fail>
-    requires held { AreUnitsHeld info.now TABLE units.now }
-    requires room { length info.now < 2 ^ 32 }
-    ensures count { IfOk result (λ held. length held.items ≡ length units.now.units.items) }
-    ensures each { IfOk result (λ held. HaveOperations Wide units.now.units.items held.items) }
-{
-    match read_operations(alloc, units, info, ORIGIN, Reach::Wide) {
-        Ok(held) => Ok(held),
-        Err(_) => Err("no expression")?,
-    }
-}
-
-// The parts of a file with these bytes of .debug_info.
-fn read<'a>(alloc: Global, info: &'a [u8]) -> Result<Parts<'a>, Fail>
-    requires { length info.now < 2 ^ 32 }
-    ensures lists { IfOk result HoldsLists }
-    ensures units { IfOk result (λ parts. AreUnitsHeld info.entry.now TABLE parts.units) }
-    ensures operations { IfOk result (λ parts. HaveOperations Wide parts.units.units.items parts.operations.items) }
-{
-    let units = read_units(alloc, info, &TABLE, ORIGIN, 1000)
-        .ok()
-        .ok_or("refused")?;
-    let tables = addr_tables(alloc, &ADDRESSES, 0)
-        .ok()
-        .ok_or("no memory")?
-        .tables;
-    let contexts = contexts_of(alloc, &ADDRESSES, &tables, &units)
-        .ok()
-        .ok_or("no memory")?;
-    let ranges = contributions_to(alloc, &RANGES)?;
-    let locations = contributions_to(alloc, &LOCATIONS)?;
-    let range_bases = bases_of(alloc, ListKind::Ranges, &ranges, &units)
-        .ok()
-        .ok_or("no memory")?;
-    let location_bases = bases_of(alloc, ListKind::Locations, &locations, &units)
-        .ok()
-        .ok_or("no memory")?;
-    let operations = operations_of(alloc, &units, info)?;
-    Ok(Parts {
-        programs: programs(alloc)?,
-        units,
-        contexts,
-        addr: &ADDRESSES,
-        tables,
-        ranges,
-        locations,
-        operations,
-        range_bases,
-        location_bases,
-    })
+// The file with these bytes of .debug_info.
+fn file_of(alloc: Global, info: &[u8]) -> Result<Vec<u8>, AllocError> {
+    let sections: [(&str, &[u8]); 6] = [
+        (".debug_info", info),
+        (".debug_abbrev", &TABLE),
+        (".debug_line", &PROGRAMS),
+        (".debug_rnglists", &RANGES),
+        (".debug_loclists", &LOCATIONS),
+        (".debug_addr", &ADDRESSES),
+    ];
+    elf_file(alloc, &sections)
 }
 
 // An entry of a unit, both by their numbers.
@@ -175,26 +96,41 @@ fn base(part: u32) -> Link {
 }
 
 // What a value of the root of the unit with a number refers to, where there is such a unit. No value is an expression.
-fn link_of(parts: &Parts<'_>, unit: u32, name: u64, value: &Value) -> Result<Option<Link>, Fail>
-    requires lists { HoldsLists parts.now }
-    requires held { AreSomeUnits parts.now.units }
-{
+fn link_of(world: &World<'_>, unit: u32, name: u64, value: &Value) -> Result<Option<Link>, Fail> {
     if let Value::Expr(_) = *value {
         Err("an expression")?;
     }
-    if (unit as usize) < parts.units.units.len() {
-        Ok(resolve(parts, unit, 0, name, value))
+    let units = world.units();
+    if (unit as usize) < units.len() && units[unit as usize].forest().len() > 0 {
+        Ok(world.resolve(unit, 0, name, value))
     } else {
         Err("fewer units")?
     }
 }
 
-// What an operation of the unit with a number names, where there is such a unit.
-fn op_link_of(parts: &Parts<'_>, unit: u32, op: &Op) -> Result<Option<OpLink>, Fail> {
-    if (unit as usize) < parts.units.units.len() {
-        Ok(resolve_op(parts, unit, op))
-    } else {
-        Err("fewer units")?
+// Stops where a value refers to anything else than its row says: the unit and the name of the value, the value, and what it refers to.
+fn refer(
+    rt: &impl Abort,
+    world: &World<'_>,
+    rows: &[(u32, u64, Value, Option<Link>)],
+) -> Result<(), Fail> {
+    for (unit, name, value, link) in rows.iter() {
+        assert_eq!(rt; link_of(world, *unit, *name, value)?, *link);
+    }
+    Ok(())
+}
+
+// The same of the file with these bytes of .debug_info.
+fn values_refer(
+    rt: &impl Abort,
+    alloc: Global,
+    info: &[u8],
+    rows: &[(u32, u64, Value, Option<Link>)],
+) -> Result<(), Fail> {
+    let file = file_of(alloc, info)?;
+    match World::read(alloc, &file, Reach::Wide) {
+        Ok(world) => refer(rt, &world, rows),
+        Err(_) => Err("refused")?,
     }
 }
 
@@ -211,11 +147,8 @@ fn op(code: u8, a: u64) -> Op {
     }
 }
 
-// The unit and the name of a value, the value, and what it refers to.
 #[test]
 fn links_of_values(rt: HostRuntime) -> Result<(), Fail> {
-    let alloc = rt.alloc();
-    let parts = read(alloc, &UNITS)?;
     let chain_end = Link::Place(0, Target::ChainEnd(0));
     let rows = [
         (1, 0x49, Value::LocalRef(13), Some(entry(1, 1))),
@@ -225,8 +158,8 @@ fn links_of_values(rt: HostRuntime) -> Result<(), Fail> {
         (0, 0x49, Value::SectionRef(31), Some(entry(1, 0))),
         (1, 0x49, Value::SectionRef(19), None),
         (1, 0x49, Value::SectionRef(38), None),
-        (0, 0x10, Value::Offset(30), Some(Link::Lines(1))),
-        (0, 0x10, Value::Offset(29), None),
+        (0, 0x10, Value::Offset(34), Some(Link::Lines(1))),
+        (0, 0x10, Value::Offset(33), None),
         (0, 0x73, Value::Offset(8), Some(Link::Kept(8))),
         (0, 0x73, Value::Offset(16), None),
         (0, 0x72, Value::Offset(16), Some(Link::Kept(16))),
@@ -234,17 +167,11 @@ fn links_of_values(rt: HostRuntime) -> Result<(), Fail> {
         (0, 0x02, Value::LocIndex(0), None),
         (0, 0x0b, Value::Int(Whole::unsigned(12)), Some(Link::Plain)),
     ];
-    for (unit, name, value, link) in rows.iter() {
-        assert_eq!(rt; link_of(&parts, *unit, *name, value)?, *link);
-    }
-    Ok(())
+    values_refer(&rt, rt.alloc(), &UNITS, &rows)
 }
 
-// The same of values that name lists.
 #[test]
 fn links_to_lists(rt: HostRuntime) -> Result<(), Fail> {
-    let alloc = rt.alloc();
-    let parts = read(alloc, &UNITS)?;
     let rows = [
         (0, 0x55, Value::Offset(16), Some(list(16))),
         (0, 0x2c, Value::Offset(29), Some(list(29))),
@@ -273,44 +200,39 @@ fn links_to_lists(rt: HostRuntime) -> Result<(), Fail> {
         ),
         (2, 0x02, Value::LocIndex(0), None),
     ];
-    for (unit, name, value, link) in rows.iter() {
-        assert_eq!(rt; link_of(&parts, *unit, *name, value)?, *link);
-    }
-    Ok(())
+    values_refer(&rt, rt.alloc(), &UNITS, &rows)
 }
 
-// The unit in whose root view pairs are named, their place, and what they go with.
 #[test]
 fn links_to_views(rt: HostRuntime) -> Result<(), Fail> {
-    let alloc = rt.alloc();
-    let parts = read(alloc, &VIEWED)?;
     let rows = [
-        (0, 16, Some(Link::Views(16, 16))),
-        (0, 17, Some(Link::Views(16, 17))),
+        (0, 0x2137, Value::Offset(16), Some(Link::Views(16, 16))),
+        (0, 0x2137, Value::Offset(17), Some(Link::Views(16, 17))),
         // an offset of the contribution, the byte past its end, and a place in another contribution
-        (0, 15, None),
-        (0, 18, None),
-        (0, 30, None),
+        (0, 0x2137, Value::Offset(15), None),
+        (0, 0x2137, Value::Offset(18), None),
+        (0, 0x2137, Value::Offset(30), None),
         // what the slot tells
-        (1, 17, Some(Link::Views(16, 17))),
-        (1, 30, None),
+        (1, 0x2137, Value::Offset(17), Some(Link::Views(16, 17))),
+        (1, 0x2137, Value::Offset(30), None),
         // no location list
-        (2, 17, None),
+        (2, 0x2137, Value::Offset(17), None),
     ];
-    for (unit, place, link) in rows.iter() {
-        assert_eq!(rt;
-            link_of(&parts, *unit, 0x2137, &Value::Offset(*place))?,
-            *link
-        );
-    }
-    Ok(())
+    values_refer(&rt, rt.alloc(), &VIEWED, &rows)
 }
 
-// The unit, the opcode and the reference of an operation, and what it names.
-#[test]
-fn links_of_operations(rt: HostRuntime) -> Result<(), Fail> {
-    let alloc = rt.alloc();
-    let parts = read(alloc, &UNITS)?;
+// What an operation of the unit with a number names, where there is such a unit.
+fn op_link_of(world: &World<'_>, unit: u32, op: &Op) -> Result<Option<OpLink>, Fail> {
+    if (unit as usize) < world.units().len() {
+        Ok(world.resolve_op(unit, op))
+    } else {
+        Err("fewer units")?
+    }
+}
+
+// Stops where an operation names anything else than its row says: the unit, the opcode and the reference of the operation, and what it
+// names.
+fn operations_refer(rt: &impl Abort, world: &World<'_>) -> Result<(), Fail> {
     let rows = [
         // DW_OP_lit0 has no reference
         (0, 0x30, 12, Some(OpLink::Plain)),
@@ -337,30 +259,30 @@ fn links_of_operations(rt: HostRuntime) -> Result<(), Fail> {
         (2, 0xfa, 13, None),
     ];
     for (unit, code, a, link) in rows.iter() {
-        assert_eq!(rt; op_link_of(&parts, *unit, &op(*code, *a))?, *link);
+        assert_eq!(rt; op_link_of(world, *unit, &op(*code, *a))?, *link);
     }
     Ok(())
 }
 
-// The fault of the values of units, or none.
-fn fault_of(alloc: Global, info: &[u8]) -> Result<Option<Fault>, Fail>
-    requires { length info.now < 2 ^ 32 }
-{
-    let parts = read(alloc, info)?;
-    Ok(check_links(&parts, info, &TABLE, ORIGIN).err())
+#[test]
+fn links_of_operations(rt: HostRuntime) -> Result<(), Fail> {
+    let file = file_of(rt.alloc(), &UNITS)?;
+    match World::read(rt.alloc(), &file, Reach::Wide) {
+        Ok(world) => operations_refer(&rt, &world),
+        Err(_) => Err("refused")?,
+    }
 }
 
-// The fault of the values of a compile unit, whose entries begin at 12, or none.
-fn fault_in(alloc: Global, entries: &[u8]) -> Result<Option<Fault>, Fail>
-    requires { length entries.now < 100 }
-{
-    let mut info = Vec::new(alloc);
-    info.push(8 + entries.len() as u8).ok().ok_or("no memory")?;
-    info.extend_from_slice(&[0, 0, 0, 5, 0, 1, 8, 0, 0, 0, 0])
-        .ok()
-        .ok_or("no memory")?;
-    info.extend_from_slice(entries).ok().ok_or("no memory")?;
-    fault_of(alloc, &info)
+// The fault of the file with these bytes of .debug_info, or none.
+fn fault_with(alloc: Global, info: &[u8]) -> Result<Option<Fault>, Fail> {
+    let file = file_of(alloc, info)?;
+    fault_of(alloc, &file, Reach::Wide)
+}
+
+// The fault of the file with a compile unit whose entries begin at 12, or none.
+fn fault_in(alloc: Global, entries: &[u8]) -> Result<Option<Fault>, Fail> {
+    let info = compile_unit(alloc, entries)?;
+    fault_with(alloc, &info)
 }
 
 // A type unit with a root at 24, whose type is at a place below 256.
@@ -382,17 +304,17 @@ fn fault(kind: Kind, at: u8) -> Fault {
 #[test]
 fn linked_units(rt: HostRuntime) -> Result<(), Fail> {
     let alloc = rt.alloc();
-    assert_eq!(rt; fault_of(alloc, &[])?, None);
-    assert_eq!(rt; fault_of(alloc, &UNITS)?, None);
+    assert_eq!(rt; fault_with(alloc, &[])?, None);
+    assert_eq!(rt; fault_with(alloc, &UNITS)?, None);
     // the type is the root
-    assert_eq!(rt; fault_of(alloc, &type_unit(24))?, None);
+    assert_eq!(rt; fault_with(alloc, &type_unit(24))?, None);
     let rows: [&[u8]; 10] = [
         // DW_OP_lit0; DW_OP_convert to the generic type; and DW_OP_call4, which names the entry itself
         &[1, 4, 1, 0x30, 0],
         &[1, 4, 2, 0xa8, 0, 0],
         &[1, 4, 5, 0x99, 13, 0, 0, 0, 0],
         // the second program
-        &[7, 30, 0, 0, 0],
+        &[7, 34, 0, 0, 0],
         // the address with the number 0 as the first base
         &[10, 8, 0, 0, 0, 0],
         // the list of the second contribution
@@ -429,7 +351,7 @@ fn faulty_links(rt: HostRuntime) -> Result<(), Fail> {
         (&[6, 16, 0, 0, 0, 5, 0, 0], fault(Kind::Pointer, 13)),
         (&[6, 12, 0, 0, 0, 5, 1, 0], fault(Kind::Pointer, 18)),
         // no program begins there
-        (&[7, 31, 0, 0, 0], fault(Kind::Pointer, 13)),
+        (&[7, 35, 0, 0, 0], fault(Kind::Pointer, 13)),
         // view pairs of an entry without a location list, and view pairs in another contribution than the list
         (&[15, 17, 0, 0, 0], fault(Kind::Pointer, 13)),
         (&[14, 16, 0, 0, 0, 30, 0, 0, 0], fault(Kind::Pointer, 17)),
@@ -438,7 +360,7 @@ fn faulty_links(rt: HostRuntime) -> Result<(), Fail> {
         assert_eq!(rt; fault_in(alloc, entries)?, Some(*fault));
     }
     // a type that is the end of a chain
-    let end = fault_of(alloc, &type_unit(25))?;
+    let end = fault_with(alloc, &type_unit(25))?;
     assert_eq!(rt; end, Some(fault(Kind::Target, 20)));
     Ok(())
 }
