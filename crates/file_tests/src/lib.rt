@@ -12,6 +12,8 @@ mod elf_sections_tests;
 #[cfg(test)]
 mod rewriter_certificate_tests;
 #[cfg(test)]
+mod rewriter_place_tests;
+#[cfg(test)]
 mod rewriter_tests;
 #[cfg(test)]
 mod same_meaning_tests;

@@ -20,9 +20,6 @@ use entry_arena::trees_are_walks;
 use std::alloc::Global;
 use value_links::World;
 
-#[cfg(test)]
-mod tests;
-
 /// How an abbreviation table is written anew.
 #[derive(Drop)]
 pub struct NewTable {
