@@ -20,6 +20,8 @@ mod same_meaning_tests;
 #[cfg(test)]
 mod sample_maker_tests;
 #[cfg(test)]
+mod system_host_tests;
+#[cfg(test)]
 mod tidy_files_tests;
 #[cfg(test)]
 mod value_links_context_tests;

@@ -3,8 +3,6 @@
 
 mod command_line;
 mod real_host;
-#[cfg(test)]
-mod tests;
 
 pub use command_line::words;
 pub use real_host::RealHost;

@@ -1,7 +1,7 @@
 // Files on the disk.
-use crate::real_host::RealHost;
 use dw_base::Host;
 use std::test::Fail;
+use system_host::RealHost;
 
 #[test]
 fn real_files(rt: HostRuntime) -> Result<(), Fail> {
