@@ -137,6 +137,12 @@ const BASES: [u8; 38] = [
 // Two declarations without columns, of which the first has children.
 const BASES_TABLE: [u8; 11] = [1, 0x11, 1, 0, 0, 2, 0x24, 0, 0, 0, 0];
 
+// Where the root and the base types stand where each base type has five bytes.
+const BASES_PLACES: [u32; 25] = [
+    12, 13, 18, 23, 28, 33, 38, 43, 48, 53, 58, 63, 68, 73, 78, 83, 88, 93, 98, 103, 108, 113, 118,
+    123, 128,
+];
+
 fn uleb(fixed: u64, from: u32, to: u32) -> Slot {
     Slot {
         kind: SlotKind::Uleb,
@@ -149,7 +155,8 @@ fn uleb(fixed: u64, from: u32, to: u32) -> Slot {
 #[test]
 fn slots_of_lists_are_laid_out(rt: HostRuntime) -> Result<(), Fail> {
     // the root stands at 12 and has one byte, and with the code 2^28 each base type has five: the last one stands at 128, and the one
-    // before it at 123. A reference to 128 needs two bytes from the start; then its expression has 128 too, and its length needs two
+    // before it at 123. The code 0 that ends them stands at 133, and the unit ends at 134. A reference to 128 needs two bytes from the start;
+    // then its expression has 128 too, and its length needs two
     let rows: [(u32, u64, &[u64]); 2] = [(24, 128, &[1, 0]), (23, 123, &[])];
     for (target, place, ranks) in rows {
         let drawn = Drawn { fixed: 126, target };
@@ -158,6 +165,11 @@ fn slots_of_lists_are_laid_out(rt: HostRuntime) -> Result<(), Fail> {
         assert_eq!(rt; laid.slots.as_slice(), slots.as_slice());
         assert_eq!(rt; laid.out.ranks.as_slice(), ranks);
         assert_eq!(rt; laid.out.lens.len(), 0);
+        let places = &laid.out.places;
+        assert_eq!(rt; places.start, 0);
+        assert_eq!(rt; places.entries.as_slice(), BASES_PLACES.as_slice());
+        assert_eq!(rt; places.ends.as_slice(), &[133][..]);
+        assert_eq!(rt; places.end, 134);
     }
     Ok(())
 }

@@ -56,7 +56,7 @@ fn add_sizes(lens: &mut Vec<u32>, slots: &[u32], sizes: &[u8])
 /// How the slots of a unit are laid out.
 #[derive(Drop)]
 pub struct LaidOut {
-    /// Where its entries and codes 0 stand, counted from its first byte.
+    /// Where its entries and codes 0 stand, counted from its first byte, so that `start` is 0.
     pub places: Places,
     /// How many bytes each value gets that is an expression, with its length, or a reference within the unit; none for another value.
     pub lens: Vec<u32>,
@@ -70,7 +70,11 @@ pub struct LaidOut {
 /// The slots, which `slots_of` names, have the least sizes under which each holds its own number, counted from the unit's
 /// first byte (DWARF 5 sections 2.5.1.1 to 2.5.1.7, 2.6.2, 7.5.5 and 7.6): these depend on each other, and no other sizes have a smaller
 /// sum. `spots` says for each slot of the unit what it names, and `lists` what those of the lists tell. There are at most 17 * 2^24
-/// together, as every unit within the narrow limits has. The only error is want of memory.
+/// together, as every unit within the narrow limits has. In the answer `places` has the unit's entries and codes 0 with these sizes, counted
+/// from its first byte: `moved_to` moves them to where the unit stands.
+///
+/// The caller shows that the unit would end below 2^31 even if each code took 4 bytes more than the old one, each expression three times its
+/// old bytes and 10 for its length, and each other value 10 bytes more than its old ones. The only error is want of memory.
 pub fn lay_out(
     alloc: Global,
     unit: &Unit<'_>,
@@ -89,6 +93,7 @@ pub fn lay_out(
     requires lists { (more : List Aim) × AreListSlots unit.now more lists.now }
     ensures laid_out { IfOk result (λ laid. (more : List Aim) → AreListSlots unit.now more lists.now → IsLaidOut unit.now decls.now specs.now.items numbers.now.items (operations_in unit.now.forest operations.now) more (all_spots spots.now.items lists.now) laid.lens.items laid.ranks.items) }
     ensures lens { IfOk result (λ laid. AreLensFor unit.now.forest laid.lens.items) }
+    ensures start { IfOk result (λ laid. laid.places.start ≡ 0) }
     ensures placed { IfOk result (λ laid. IsPlacedAt unit.now decls.now specs.now.items numbers.now.items laid.lens.items 0 laid.places.entries.items laid.places.ends.items laid.places.end) }
     ensures most { IfOk result (λ laid. laid.places.end ≤ most_bytes unit.now) }
 {

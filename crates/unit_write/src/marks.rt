@@ -119,7 +119,7 @@ impl Marks {
         })
     }
 
-    /// The places that all have with these sizes of the slots.
+    /// The places that all have with these sizes of the slots: to each mark the sizes of the slots that stand before it are added.
     pub(crate) fn with_sizes(self, sizes: &[u8]) -> Places
         requires sizes { TakesSizes self sizes.now }
         requires small { All (λ size. size ≤ 5) sizes.now }

@@ -1,5 +1,5 @@
 // Where the entries of a unit stand when it is written anew.
-ghost use Rattle.std.specs.Prelude.{◌≡◌, ◌≤◌, ◌<◌, ◌+◌, ◌^◌, ℕ, List, length, slice_index, IfOk, OnOk};
+ghost use Rattle.std.specs.Prelude.{◌≡◌, ◌≤◌, ◌<◌, ◌+◌, ◌^◌, ℕ, List, length, map, slice_index, IfOk, OnOk};
 ghost use Rattle.std.specs.List.{All};
 ghost use Rattle.leb_codec.specs.Leb.{least_unsigned_len};
 ghost use Rattle.form_codec.specs.Values.{IsValueIn};
@@ -27,7 +27,8 @@ use form_codec::Value;
 use leb_codec::len_u;
 use std::alloc::Global;
 
-/// Where a unit, its entries and the codes 0 that end chains stand in a new .debug_info, counted from its first byte.
+/// Where a unit, its entries and the codes 0 that end chains stand: those of `lay_out` are counted from the unit's first byte, with `start` 0, and
+/// those of `place_unit` from the section's.
 #[derive(Drop)]
 pub struct Places {
     /// The first byte of the unit.
@@ -41,13 +42,15 @@ pub struct Places {
 }
 
 impl Places {
-    /// The places of the same unit where it begins at `start`; these are counted from its first byte. It has to end below 0xffff_fff0,
-    /// as a section of the 32-bit format does (DWARF 5 section 7.4).
+    /// The places of the same unit where it begins at `start`: these are counted from its first byte, and `start` is added to each. It has to end
+    /// below 0xffff_fff0, as a section of the 32-bit format does (DWARF 5 section 7.4).
     pub fn moved_to(self, start: u64) -> Places
         requires placed { (unit : HeadAndForest) × (table : Listing) × (columns : List Spec) × (numbers : List ℕ) × (lens : List ℕ) × IsPlacedAt unit table columns numbers lens 0 self.entries.items self.ends.items self.end }
         requires room { start + self.end < least_reserved }
         ensures start { result.start ≡ start }
         ensures end { result.end ≡ start + self.end }
+        ensures entries { result.entries.items ≡ map (λ (place : ℕ). place + start) self.entries.items }
+        ensures ends { result.ends.items ≡ map (λ (place : ℕ). place + start) self.ends.items }
         ensures placed { (unit : HeadAndForest) (table : Listing) (columns : List Spec) (numbers lens : List ℕ) → IsPlacedAt unit table columns numbers lens 0 self.entries.items self.ends.items self.end → IsPlacedAt unit table columns numbers lens start result.entries.items result.ends.items result.end }
     {
         let Places {

@@ -86,6 +86,7 @@ AreEntriesCounted f counts =
 pub record AreMarks (unit : HeadAndForest) (table : Listing) (columns : List Spec) (numbers : List ℕ) (ops : ℕ → List Operation) (marks : Marks) : Type 0 where
   pub lens : List ℕ
   pub fixed : (k : ℕ) → k < length unit.forest.values → slice_index lens k ≡ fixed_length (ops k)
+  pub start : marks.places.start ≡ 0
   pub placed : IsPlacedAt unit table columns numbers lens 0 marks.places.entries.items marks.places.ends.items marks.places.end
   pub small : marks.places.end < 2 ^ 31
   pub slots : AreSlotsCounted unit.forest ops marks.slots_before.items

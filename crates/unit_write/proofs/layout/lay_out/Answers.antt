@@ -134,6 +134,9 @@ with_sizes-requires-clause-few c =
     let few = c.requires.few in
     omega (arith, rows, long, lent, spots, lists, few)
 
+pub returns-clause-start : goal.returns-clause-start
+returns-clause-start c = c.with_sizes.ensures.start ∙ c.in_ok-marks.ensures.marks.start
+
 pub returns-clause-placed : goal.returns-clause-placed
 returns-clause-placed c =
     let unit = c.args.unit.now in

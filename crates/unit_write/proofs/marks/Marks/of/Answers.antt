@@ -16,6 +16,7 @@ returns c = λ ops measured.
     record {
       lens = c.args.measured.now.fixed.items;
       fixed = measured.fixed;
+      start = c.in_ok-places.ensures.start;
       placed = c.in_ok-places.ensures.placed;
       small = omega arith;
       slots = subst (λ (z : Arena). AreSlotsCounted z ops c.in_ok-slots_before_entries.field-0.items) c.forest-forest.ensures (c.in_ok-slots_before_entries.ensures ops numbered);

@@ -32,6 +32,16 @@ overflow_add-index_mut-in-loop-number c =
     let room : c.args.start + c.args.self.end < least_reserved = c.requires.room in
     omega arith
 
+pub returns-clause-entries : goal.returns-clause-entries
+returns-clause-entries c =
+    let all : length c.args.self.entries.items ≤ c.loop-id.id = search rules in
+    all_set (λ (place : ℕ). place + c.args.start) c.args.self.entries.items c.loop-id.id c.loop-id.entries.items all c.loop-id.invariant
+
+pub returns-clause-ends : goal.returns-clause-ends
+returns-clause-ends c =
+    let all : length c.args.self.ends.items ≤ c.loop-number.number = search rules in
+    all_set (λ (place : ℕ). place + c.args.start) c.args.self.ends.items c.loop-number.number c.loop-number.ends.items all c.loop-number.invariant
+
 pub returns-clause-placed : goal.returns-clause-placed
 returns-clause-placed c = λ unit table columns numbers lens placed.
     let start : ℕ = c.args.start in
