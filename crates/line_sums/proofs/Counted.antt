@@ -1,10 +1,10 @@
 -- Laws of counting steps.
-use Rattle.std.proofs.Common.{◌≡◌, ◌≤◌, ◌<◌, ◌+◌, ◌-◌, ◌*◌, ◌∙◌, ℕ, zero, suc, List, [], ◌∷◌, drop, get_or, set, length, map, refl, sym, ap, subst, arith, add-one, slice_get, Some, Bool, true, false}
-use Rattle.std.specs.Prelude.{ℤ, pos, IsPermutation, not, nat_eq, if◌then◌else◌}
+use Rattle.std.proofs.Common.{◌≡◌, ◌≤◌, ◌<◌, ◌+◌, ◌-◌, ◌*◌, ◌∙◌, ℕ, zero, suc, List, [], ◌∷◌, drop, get_or, set, length, map, refl, sym, ap, subst, arith, add-one, true}
+use Rattle.std.specs.Prelude.{ℤ, pos, IsPermutation, nat_eq}
 use Rattle.std.specs.Ordering.{int_eq}
 use Rattle.std.proofs.lemmas.Bool.{and_parts}
 use Rattle.std.proofs.lemmas.Bool.Decides.{Decides-eqb, Decides-int_eq}
-use Rattle.std.proofs.lemmas.List.{length-map, length-drop, drop_all}
+use Rattle.std.proofs.lemmas.List.{length-drop, drop_all}
 use Rattle.std.proofs.lemmas.List.Recursion.{is_sum_by}
 use Rattle.std.proofs.lemmas.List.Sorted.{sum_by-IsPermutation}
 use Rattle.line_machine.specs.declared.registers.Row.{Row}
@@ -43,19 +43,6 @@ pub steps_set : (cs : List CountedStep) (i : ℕ) (x : CountedStep) (count : ℕ
 steps_set [] i x count at = refl
 steps_set (y ∷ cs) zero x count at = ap (λ (z : CountedStep). z.step ∷ map step_in cs) at
 steps_set (y ∷ cs) (suc i) x count at = ap (λ ks. y.step ∷ ks) (steps_set cs i x count at)
-
--- a key that was there leaves the keys as they are
-pub kept_keys : (keys more new : List Step) (found is_new : Bool) → new ≡ (if found then keys else more) → is_new ≡ not found → is_new ≡ false → new ≡ keys
-kept_keys keys more new true is_new is told old = is
-kept_keys keys more new false is_new is told old = cc
-
-pub place_within : (cs : List CountedStep) (keys : List Step) (i : ℕ) → i < length keys → keys ≡ map step_in cs → i < length cs
-place_within cs keys i h is = omega (arith, ap length is, length-map cs step_in)
-
-pub step_at : (cs : List CountedStep) (i : ℕ) (d : CountedStep) (step : Step) → slice_get (map step_in cs) i ≡ Some step → (get_or cs i d).step ≡ step
-step_at [] i d step is = cc
-step_at (x ∷ cs) zero d step is = cc
-step_at (x ∷ cs) (suc i) d step is = step_at cs i d step is
 
 pub permuted : (price : Step → ℕ) (cs ds : List CountedStep) → IsPermutation cs ds → counted_price price ds ≡ counted_price price cs
 permuted price cs ds same =

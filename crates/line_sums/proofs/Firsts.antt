@@ -1,6 +1,6 @@
 -- Different steps in the order in which they first appear.
 use Rattle.std.proofs.Common.{◌≡◌, ◌≤◌, ◌<◌, ◌+◌, ◌++◌, ◌∙◌, ℕ, suc, List, [], ◌∷◌, drop, get_or, set, length, map, refl, sym, ap, subst, arith, Bool, true, false, inl, inr}
-use Rattle.std.specs.Prelude.{◌||◌, ℤ, not}
+use Rattle.std.specs.Prelude.{◌||◌, ℤ}
 use Rattle.std.specs.List.{list_any, position_or_len}
 use Rattle.std.proofs.lemmas.Bool.{cases_Bool}
 use Rattle.std.proofs.lemmas.List.{drop_all}
@@ -14,13 +14,9 @@ use Rattle.line_sums.specs.Ordered.{counted_once, counted_from}
 use Rattle.line_sums.proofs.Counted.{steps_more}
 
 -- a test of a head that fails for all fails for the head and the rest
-or_parts : (a b : Bool) → (a || b) ≡ false → (a ≡ false) × (b ≡ false)
+pub or_parts : (a b : Bool) → (a || b) ≡ false → (a ≡ false) × (b ≡ false)
 or_parts true b e = absurd (cc)
 or_parts false b e = (refl, e)
-
-pub none_told : (found is_new : Bool) → is_new ≡ not found → is_new ≡ true → found ≡ false
-none_told true is_new e f = cc
-none_told false is_new e f = refl
 
 pub once_new : (cs : List CountedStep) (s : Step) → list_any (eq-value.it s) (map step_in cs) ≡ false → counted_once cs s ≡ cs ++ record { step = s; count = 1 } ∷ []
 once_new [] s e = refl

@@ -8,6 +8,7 @@ pub mod LineRuns
 pub mod NearRuns
 pub mod Nearness
 pub mod Ordering
+pub mod Placing
 pub mod Prices
 pub mod RowSums
 pub mod RunningLaws

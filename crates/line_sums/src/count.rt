@@ -1,15 +1,16 @@
 // The different steps of a program, and how often each comes.
-ghost use Rattle.std.specs.Prelude.{◌≡◌, ◌<◌, ◌+◌, ◌-◌, ◌^◌, ℕ, pos, length, map, All, IfOk, OnOk};
+ghost use Rattle.std.specs.Prelude.{◌≡◌, ◌<◌, ◌+◌, ◌-◌, ◌^◌, ℕ, pos, length, All, IfOk, OnOk};
 ghost use Rattle.line_machine.specs.Class.{AreRows, IsRow};
 ghost use Rattle.line_sums.specs.Steps.{steps_of, step_to, line_left_by, address_left_by};
-ghost use Rattle.line_sums.specs.Counting.{IsCounted, HasLine, HasCountedLine, step_in, counted_price, count_of};
+ghost use Rattle.line_sums.specs.Counting.{IsCounted, HasLine, HasCountedLine, counted_price, count_of};
 ghost use Rattle.line_sums.specs.Ordered.{AreOrdered, counted_once, first_counts as first_counts_of};
+ghost use Rattle.line_sums.specs.inside.Places.{ArePlaces};
 
 use crate::step::Step;
 use dw_base::NoMemory;
-use indexmap::IndexSet;
 use line_machine::Row;
 use std::alloc::Global;
+use std::collections::BTreeMap;
 
 /// A step, and how often it comes.
 #[derive(Clone, Copy, Debug, PartialEq, Eq)]
@@ -65,24 +66,24 @@ fn place_after(row: &Row) -> Place
     }
 }
 
-// Counts a step: the steps that were seen are those that are counted.
+// Counts a step. The map tells of each step that is counted its place among them.
 fn count_step(
-    seen: &mut IndexSet<Step>,
+    places: &mut BTreeMap<Step, usize>,
     counted: &mut Vec<CountedStep>,
     step: Step,
 ) -> Result<(), NoMemory>
-    requires seen { seen.old.keys ≡ map step_in counted.old.items }
+    requires places { ArePlaces places.old counted.old.items }
     requires room { count_of counted.old.items + 1 < 2 ^ 32 }
-    ensures seen { OnOk result (seen.new.keys ≡ map step_in counted.new.items) }
+    ensures places { OnOk result (ArePlaces places.new counted.new.items) }
     ensures once { OnOk result (counted.new.items ≡ counted_once counted.old.items step) }
     ensures prices { OnOk result ((price : Step → ℕ) → counted_price price counted.new.items ≡ counted_price price counted.old.items + price step) }
     ensures lines { OnOk result (All HasCountedLine counted.old.items → HasLine step → All HasCountedLine counted.new.items) }
 {
-    let (index, is_new) = seen.insert_full(step)?;
-    if !is_new {
-        counted[index].count += 1;
+    if let Some(place) = places.get(&step).copied() {
+        counted[place].count += 1;
         return Ok(());
     }
+    places.insert(step, counted.len())?;
     counted.push(CountedStep { step, count: 1 })?;
     Ok(())
 }
@@ -95,11 +96,11 @@ fn first_counts(alloc: Global, rows: &[Row]) -> Result<Vec<CountedStep>, NoMemor
     ensures firsts { IfOk result (λ counted. counted.items ≡ first_counts_of (steps_of rows.now)) }
     ensures lines { IfOk result (λ counted. All HasCountedLine counted.items) }
 {
-    let mut seen = IndexSet::new(alloc);
+    let mut places = BTreeMap::new(alloc);
     let mut counted = Vec::new(alloc);
     let mut place = START;
     for row in rows {
-        count_step(&mut seen, &mut counted, step_to_row(place, row))?;
+        count_step(&mut places, &mut counted, step_to_row(place, row))?;
         place = place_after(row);
     }
     Ok(counted)

@@ -2,7 +2,7 @@
 
 /// What changes from one row to the next, other than what costs the same under every pair of line_base and line_range
 /// (DWARF 5 section 6.2.5).
-#[derive(Clone, Copy, Debug, PartialEq, Eq, Hash)]
+#[derive(Clone, Copy, Debug, PartialEq, Eq, PartialOrd, Ord)]
 pub enum Step {
     /// The line, in lines, and the address, in bytes modulo 2^64.
     Row(i64, u64),
