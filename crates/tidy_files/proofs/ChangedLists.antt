@@ -2,7 +2,6 @@
 use Rattle.std.proofs.Common.{◌≡◌, ◌≤◌, ◌<◌, ◌+◌, ◌⊎◌, ◌∙◌, inl, inr, ℕ, List, [], length, get_or, sym, ap, subst, refl, arith}
 use Rattle.std.specs.Prelude.{Option, Some, None, true, false}
 use Rattle.std.proofs.lemmas.Bool.{cases_lt, true≢false}
-use Rattle.std.proofs.lemmas.List.{get_or_default}
 use Rattle.dw_base.specs.declared.classes.Classes.{Classes}
 use Rattle.dw_base.specs.declared.fault.Reach.{Reach}
 use Rattle.list_model.specs.declared.entry.ListKind.{ListKind}
@@ -19,11 +18,14 @@ use Rattle.tidy_places.specs.Firsts.{IsLeastPlace, IsLeastFound}
 use Rattle.tidy_lists.proofs.OldOrder.{list_inside}
 use Rattle.tidy_numbers.proofs.EarlierPlaces.{least_same, least_of_both}
 use Rattle.tidy_numbers.proofs.WrittenOperands.{said_of}
-use Rattle.tidy_files.specs.Tidy.{SayTheSame, IsChangedList}
-use Rattle.tidy_files.specs.inside.Changed.{IsChangedOf}
+use Rattle.tidy_files.specs.Tidy.{SayTheSame, IsChangedOf, IsChangedList}
 use Rattle.tidy_files.proofs.FirstPlaces.{first_least}
 
 -- A LIST THAT IS HELD
+
+-- a list to stand for those past the end
+abbrev pub no_list : HeldList
+no_list = record { at = 0; part = 0; owner = None; raw = []; meaning = Dead }
 
 module _ (world : World) (some : (reach : Reach) × IsWorldOf world.image reach world) (kind : ListKind) where
   abbrev read : Reading
@@ -45,18 +47,18 @@ module _ (world : World) (some : (reach : Reach) × IsWorldOf world.image reach 
   at_held k d known = (there k d known).at
 
   -- it says some entries
-  pub some_said : (k : ℕ) (list : HeldList) → k < length (lists_held world kind) → list ≡ held k list → (entries : List Entry) × AreSaid kind list.raw entries
-  some_said k list inside is =
+  pub some_said : (k : ℕ) (d : HeldList) → k < length (lists_held world kind) → (entries : List Entry) × AreSaid kind (held k d).raw entries
+  some_said k d inside =
       let known : k < length (lists_of read kind) = omega (arith, inside, held_count) in
       let own = list_at (lists_of read kind) k in
       let (entries, said) = said_of kind (of_kind read.links kind).section (part_at (of_kind read.links kind) own.part) own.at own.raws ((some.1.read.lists kind).each k known).read in
-      (entries, subst (λ (z : List RawEntry). AreSaid kind z entries) (sym (raws_held k list known) ∙ ap (λ (z : HeldList). z.raw) (sym is)) said)
+      (entries, subst (λ (z : List RawEntry). AreSaid kind z entries) (sym (raws_held k d known)) said)
 
   -- and begins in its section
-  pub begins_inside : (k : ℕ) (list : HeldList) → k < length (lists_held world kind) → list ≡ held k list → list.at ≤ length (debug_lists world.image kind)
-  begins_inside k list inside is =
+  pub begins_inside : (k : ℕ) (d : HeldList) → k < length (lists_held world kind) → (held k d).at ≤ length (debug_lists world.image kind)
+  begins_inside k d inside =
       let known : k < length (lists_of read kind) = omega (arith, inside, held_count) in
-      let at : list.at ≡ (list_at (lists_of read kind) k).at = ap (λ (z : HeldList). z.at) is ∙ at_held k list known in
+      let at : (held k d).at ≡ (list_at (lists_of read kind) k).at = at_held k d known in
       let within : (list_at (lists_of read kind) k).at < length (of_kind read.links kind).section = list_inside world.image read some.1.read kind k known in
       let size : length (of_kind read.links kind).section ≡ length (debug_lists world.image kind) = ap (λ (z : List ℕ). length z) (some.1.holds.sections kind) in
       omega arith
@@ -100,60 +102,54 @@ module _ (before after : World) (some : (reach : Reach) × IsWorldOf before.imag
   rising i j less inside = let more : place_of i < place_of j = (again.1.read.lists kind).rising i j less inside in omega arith
 
   -- the lists with a number, as they are held, say the same
-  abbrev pub SayAlike : ℕ → HeldList → HeldList → Type 0
-  SayAlike k d e = SayTheSame kind (held before some kind k d).raw (held after again kind k e).raw
+  abbrev pub SayAlike : ℕ → HeldList → Type 0
+  SayAlike k d = SayTheSame kind (held before some kind k d).raw (held after again kind k d).raw
 
-  not_amiss : (k : ℕ) (d e : HeldList) → k < count → SayAlike k d e → IsAmiss k → ⊥
-  not_amiss k d e inside same (known, changed) =
-      changed (subst (λ (z : List RawEntry). SayTheSame kind z (list_at (lists_of s kind) k).raws) (raws_held before some kind k d known) (subst (λ (z : List RawEntry). SayTheSame kind (held before some kind k d).raw z) (raws_held after again kind k e inside) same))
+  not_amiss : (k : ℕ) (d : HeldList) → k < count → SayAlike k d → IsAmiss k → ⊥
+  not_amiss k d inside same (known, changed) =
+      changed (subst (λ (z : List RawEntry). SayTheSame kind z (list_at (lists_of s kind) k).raws) (raws_held before some kind k d known) (subst (λ (z : List RawEntry). SayTheSame kind (held before some kind k d).raw z) (raws_held after again kind k d inside) same))
 
-  amiss : (k : ℕ) (d e : HeldList) → (known : k < length (lists_of r kind)) → (inside : k < count) → ¬ SayAlike k d e → IsAmiss k
-  amiss k d e known inside other = (
+  amiss : (k : ℕ) (d : HeldList) → (known : k < length (lists_of r kind)) → (inside : k < count) → ¬ SayAlike k d → IsAmiss k
+  amiss k d known inside other = (
     known,
-    λ same. other (subst (λ (z : List RawEntry). SayTheSame kind z (held after again kind k e).raw) (sym (raws_held before some kind k d known)) (subst (λ (z : List RawEntry). SayTheSame kind (list_at (lists_of r kind) k).raws z) (sym (raws_held after again kind k e inside)) same)),
+    λ same. other (subst (λ (z : List RawEntry). SayTheSame kind z (held after again kind k d).raw) (sym (raws_held before some kind k d known)) (subst (λ (z : List RawEntry). SayTheSame kind (list_at (lists_of r kind) k).raws z) (sym (raws_held after again kind k d inside)) same)),
   )
 
   -- where those up to a number do, and so many there are in one of the files, no list has changed
-  pub none_changed : (n : ℕ) → (length (lists_held before kind) ≤ n) ⊎ (length (lists_held after kind) ≤ n) → ((k : ℕ) (d : HeldList) → k < n → SayAlike k d d) → (p : ℕ) → IsChangedOf before.image after.image kind p → ⊥
+  pub none_changed : (n : ℕ) → (length (lists_held before kind) ≤ n) ⊎ (length (lists_held after kind) ≤ n) → ((k : ℕ) (d : HeldList) → k < n → SayAlike k d) → (p : ℕ) → IsChangedOf before.image after.image kind p → ⊥
   none_changed n all same p x =
       let (k, inside, bad, place) = from p x in
-      let d : HeldList = record { at = 0; part = 0; owner = None; raw = []; meaning = Dead } in
       let less : k < n = elim all [
         | inl few ↦ omega (arith, few, bad.0, held_count before some kind)
         | inr few ↦ omega (arith, few, inside, held_count after again kind)
       ] in
-      not_amiss k d d inside (same k d less) bad
+      not_amiss k no_list inside (same k no_list less) bad
 
   -- one more does
-  pub say_next : (k : ℕ) (was is : HeldList) → k < length (lists_held before kind) → k < length (lists_held after kind) → was ≡ held before some kind k was → is ≡ held after again kind k is → ((j : ℕ) (d : HeldList) → j < k → SayAlike j d d) → SayTheSame kind was.raw is.raw → (j : ℕ) (d : HeldList) → j < k + 1 → SayAlike j d d
-  say_next k was is in_old in_new old new earlier same j d less = elim (cases_lt j k) [
+  pub say_next : (k : ℕ) → ((j : ℕ) (d : HeldList) → j < k → SayAlike j d) → ((d : HeldList) → SayAlike k d) → (j : ℕ) (d : HeldList) → j < k + 1 → SayAlike j d
+  say_next k earlier same j d less = elim (cases_lt j k) [
     | inl before_it ↦ earlier j d before_it
-    | inr late ↦
-        let here : k ≡ j = omega (arith, less, late) in
-        let first : was ≡ held before some kind k d = old ∙ get_or_default (lists_held before kind) k was d in_old in
-        let second : is ≡ held after again kind k d = new ∙ get_or_default (lists_held after kind) k is d in_new in
-        subst (λ (i : ℕ). SayAlike i d d) here (subst (λ (z : HeldList). SayTheSame kind (held before some kind k d).raw z.raw) second (subst (λ (z : HeldList). SayTheSame kind z.raw is.raw) first same))
+    | inr late ↦ (let here : k ≡ j = omega (arith, less, late) in subst (λ (i : ℕ). SayAlike i d) here (same d))
   ]
 
   -- and the first that doesn't stands at the least place
-  pub changed_first : (k : ℕ) (was is : HeldList) → k < length (lists_held before kind) → k < length (lists_held after kind) → was ≡ held before some kind k was → is ≡ held after again kind k is → ((j : ℕ) (d : HeldList) → j < k → SayAlike j d d) → ¬ SayTheSame kind was.raw is.raw → (p : ℕ) → p ≡ offset + is.at → IsLeastPlace (IsChangedOf before.image after.image kind) p
-  changed_first k was is in_old in_new old new earlier other p place =
+  pub changed_first : (k : ℕ) → k < length (lists_held before kind) → k < length (lists_held after kind) → ((j : ℕ) (d : HeldList) → j < k → SayAlike j d) → ¬ SayAlike k no_list → (p : ℕ) → p ≡ offset + (held after again kind k no_list).at → IsLeastPlace (IsChangedOf before.image after.image kind) p
+  changed_first k in_old in_new earlier other p place =
       let known : k < length (lists_of r kind) = omega (arith, in_old, held_count before some kind) in
       let inside : k < count = omega (arith, in_new, held_count after again kind) in
-      let here : p ≡ offset + place_of k = place ∙ ap (λ (z : HeldList). offset + z.at) new ∙ ap (λ (n : ℕ). offset + n) (at_held after again kind k is inside) in
-      let bad : IsAmiss k = amiss k was is known inside (λ same. other (subst (λ (z : HeldList). SayTheSame kind z.raw is.raw) (sym old) (subst (λ (z : HeldList). SayTheSame kind (held before some kind k was).raw z.raw) (sym new) same))) in
-      first_least offset count place_of IsAmiss (IsChangedOf before.image after.image kind) to from rising k inside bad
-      (λ j less. not_amiss j was was (omega (arith, less, inside)) (earlier j was less)) p here
+      let here : p ≡ offset + place_of k = place ∙ ap (λ (n : ℕ). offset + n) (at_held after again kind k no_list inside) in
+      first_least offset count place_of IsAmiss (IsChangedOf before.image after.image kind) to from rising k inside (amiss k no_list known inside other)
+      (λ j less. not_amiss j no_list (omega (arith, less, inside)) (earlier j no_list less)) p here
+
+  -- what two lists say that were lent for those that are held
+  module _ (old new : List HeldList) (first : old ≡ lists_held before kind) (second : new ≡ lists_held after kind) (k : ℕ) (d : HeldList) where
+    pub held_alike : SayTheSame kind (get_or old k d).raw (get_or new k d).raw → SayAlike k d
+    held_alike same = subst (λ (z : List HeldList). SayTheSame kind (held before some kind k d).raw (get_or z k d).raw) second (subst (λ (z : List HeldList). SayTheSame kind (get_or z k d).raw (get_or new k d).raw) first same)
+
+    pub lent_alike : SayAlike k d → SayTheSame kind (get_or old k d).raw (get_or new k d).raw
+    lent_alike same = subst (λ (z : List HeldList). SayTheSame kind (get_or z k d).raw (get_or new k d).raw) (sym first) (subst (λ (z : List HeldList). SayTheSame kind (held before some kind k d).raw (get_or z k d).raw) (sym second) same)
 
 -- LISTS OF BOTH KINDS
-
-changed_list : (file written : List ℕ) (kind : ListKind) (p : ℕ) → IsChangedOf file written kind p → IsChangedList file written p
-changed_list file written kind p x =
-    record { r = x.r; s = x.s; read = x.read; again = x.again; kind = kind; k = x.k; known = x.known; inside = x.inside; changed = x.changed; place = x.place }
-
-changed_of : (file written : List ℕ) (p : ℕ) → (x : IsChangedList file written p) → IsChangedOf file written x.kind p
-changed_of file written p x =
-    record { r = x.r; s = x.s; read = x.read; again = x.again; k = x.k; known = x.known; inside = x.inside; changed = x.changed; place = x.place }
 
 -- the first of both kinds
 pub changed_found : (file written : List ℕ) (ranges locations found : Option ℕ) → IsLeastFound (IsChangedOf file written Ranges) ranges → IsLeastFound (IsChangedOf file written Locations) locations → IsLeastFound (λ p. (ranges ≡ Some p) ⊎ (locations ≡ Some p)) found → IsLeastFound (IsChangedList file written) found
@@ -162,15 +158,15 @@ changed_found file written ranges locations found first second least =
     (least_of_both (IsChangedOf file written Ranges) (IsChangedOf file written Locations) ranges locations found first second least)
   where
     up : (p : ℕ) → IsChangedOf file written Ranges p ⊎ IsChangedOf file written Locations p → IsChangedList file written p
-    up p (inl changed) = changed_list file written Ranges p changed
-    up p (inr changed) = changed_list file written Locations p changed
+    up p (inl changed) = (Ranges, changed)
+    up p (inr changed) = (Locations, changed)
 
     either : (kind : ListKind) (p : ℕ) → IsChangedOf file written kind p → IsChangedOf file written Ranges p ⊎ IsChangedOf file written Locations p
     either Ranges p changed = inl changed
     either Locations p changed = inr changed
 
     down : (p : ℕ) → IsChangedList file written p → IsChangedOf file written Ranges p ⊎ IsChangedOf file written Locations p
-    down p changed = either changed.kind p (changed_of file written p changed)
+    down p (kind, changed) = either kind p changed
 
 -- which counts only where the entries of lists are kept
 pub kept_found : (classes : Classes) (file written : List ℕ) (found : Option ℕ) → classes.lists ≡ false → IsLeastFound (IsChangedList file written) found → IsLeastFound (λ p. (classes.lists ≡ false) × IsChangedList file written p) found

@@ -1,7 +1,7 @@
 -- What is read of two lists says the same entries exactly where it has the same codes and operands.
-use Rattle.std.proofs.Common.{◌≡◌, ◌≢◌, ◌<◌, ◌∙◌, ℕ, zero, suc, List, [], ◌∷◌, length, get_or, sym, ap, refl, arith}
+use Rattle.std.proofs.Common.{◌≡◌, ◌≢◌, ◌<◌, ◌+◌, ◌∙◌, inl, inr, ℕ, zero, suc, List, [], ◌∷◌, length, get_or, sym, ap, subst, refl, arith}
 use Rattle.std.specs.Prelude.{◌↔◌, Some, IsTrue, true, false}
-use Rattle.std.proofs.lemmas.Bool.{false≢true}
+use Rattle.std.proofs.lemmas.Bool.{cases_lt, false≢true}
 use Rattle.std.proofs.lemmas.Option.{same_Some}
 use Rattle.list_model.specs.declared.entry.ListKind.{ListKind}
 use Rattle.list_model.specs.declared.entry.RawEntry.{RawEntry}
@@ -58,6 +58,15 @@ alike_said kind (one ∷ old) [] (entry ∷ entries) said count alike = absurd (
 alike_said kind (one ∷ old) (other ∷ new) (entry ∷ entries) (says, said) count alike =
     (alike_says kind one other entry says (alike 0 one (omega arith)), alike_said kind old new entries said (omega (arith, count)) (λ k d less. alike (suc k) d (omega (arith, less))))
 
+-- one more is alike
+pub alike_next : (n : ℕ) (old new : List RawEntry) (was is : RawEntry) → ((d : RawEntry) → was ≡ get_or old n d) → ((d : RawEntry) → is ≡ get_or new n d) → AreAlikeBelow n old new → IsAlike was is → (k : ℕ) (d : RawEntry) → k < n + 1 → IsAlike (get_or old k d) (get_or new k d)
+alike_next n old new was is first second earlier here k d less = elim (cases_lt k n) [
+  | inl before ↦ earlier k d before
+  | inr late ↦
+      let same : n ≡ k = omega (arith, less, late) in
+      subst (λ (i : ℕ). IsAlike (get_or old i d) (get_or new i d)) same (subst (λ (z : RawEntry). IsAlike z (get_or new n d)) (first d) (subst (λ (z : RawEntry). IsAlike was z) (second d) here))
+]
+
 -- WHAT IS ANSWERED
 
 -- an entry to stand for those past the end
@@ -71,6 +80,6 @@ module _ (kind : ListKind) (old new : List RawEntry) where
   pub other_count : length old ≢ length new → IsTrue false ↔ SayTheSame kind old new
   other_count other = (λ e. absurd (false≢true e), λ same. absurd (other (said_alike kind old new same.0 same.1 same.2).0))
 
-  pub other_entry : (k : ℕ) → k < length old → (IsAlike (get_or old k no_raw) (get_or new k no_raw) → ⊥) → IsTrue false ↔ SayTheSame kind old new
-  other_entry k inside other =
-      (λ e. absurd (false≢true e), λ same. absurd (other ((said_alike kind old new same.0 same.1 same.2).1 k no_raw inside)))
+  pub other_entry : (k : ℕ) → k < length old → (was is : RawEntry) → was ≡ get_or old k no_raw → is ≡ get_or new k no_raw → (IsAlike was is → ⊥) → IsTrue false ↔ SayTheSame kind old new
+  other_entry k inside was is first second other =
+      (λ e. absurd (false≢true e), λ same. absurd (other (subst (λ (z : RawEntry). IsAlike z is) (sym first) (subst (λ (z : RawEntry). IsAlike (get_or old k no_raw) z) (sym second) ((said_alike kind old new same.0 same.1 same.2).1 k no_raw inside)))))

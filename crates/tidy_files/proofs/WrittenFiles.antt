@@ -74,4 +74,4 @@ module _ (classes : Classes) (file written : List ℕ) (anew : IsWrittenAnew cla
 
   -- and where the classes keep the entries of lists, each list has those that it had
   pub lists_stay : classes.lists ≡ false → (p : ℕ) → IsChangedList file written p → ⊥
-  lists_stay kept p x = x.changed (same_entries classes file written anew kept x.r x.s x.read x.again x.kind x.k x.known x.inside)
+  lists_stay kept p (kind, x) = x.changed (same_entries classes file written anew kept x.r x.s x.read x.again kind x.k x.known x.inside)

@@ -98,18 +98,21 @@ IsLineAmiss classes file written p = ((classes.lines ≡ true) × IsOtherProgram
 abbrev pub SayTheSame : ListKind → List RawEntry → List RawEntry → Type 0
 SayTheSame kind raws others = (entries : List Entry) × AreSaid kind raws entries × AreSaid kind others entries
 
--- A list has other kinds of entries, or other operands, than the one with its number in the old file.
-pub record IsChangedList (file written : List ℕ) (p : ℕ) : Type 0 where
+-- A list of this kind, which begins at a place, has other kinds of entries, or other operands, than the one with its number in the old file.
+pub record IsChangedOf (file written : List ℕ) (kind : ListKind) (p : ℕ) : Type 0 where
   pub r : Reading
   pub s : Reading
   pub read : IsReading file r
   pub again : IsReading written s
-  pub kind : ListKind
   pub k : ℕ
   pub known : k < length (lists_of r kind)
   pub inside : k < length (lists_of s kind)
   pub changed : ¬ SayTheSame kind (list_at (lists_of r kind) k).raws (list_at (lists_of s kind) k).raws
   pub place : p ≡ offset_named written (lists_name kind) + (list_at (lists_of s kind) k).at
+
+-- so has one of either kind
+abbrev pub IsChangedList : List ℕ → List ℕ → ℕ → Type 0
+IsChangedList file written p = (kind : ListKind) × IsChangedOf file written kind p
 
 -- THE FILE
 

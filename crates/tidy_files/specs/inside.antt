@@ -1,3 +1,2 @@
 -- What inner functions and proofs need, and no public clause says.
 pub mod Paddings
-pub mod Changed

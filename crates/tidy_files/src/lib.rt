@@ -65,7 +65,7 @@ pub fn accept_classes(
     if let Some(place) = first_misplaced_list(alloc, before, after)? {
         return Ok(Some(place));
     }
-    if let Some(place) = first_changed_list(alloc, classes, before, after)? {
+    if let Some(place) = first_changed_list(classes, before, after) {
         return Ok(Some(place));
     }
     first_long_number(alloc, classes, after)

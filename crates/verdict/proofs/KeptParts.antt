@@ -102,7 +102,7 @@ module _ (classes : Classes) (file written : List ℕ) (r s : Reading) (read : I
     same_entries kept k inside =
         let (entries, said) = said_of kind _ _ _ _ ((read.lists kind).each k inside).read in
         said_too kind (list_at (lists_of r kind) k).raws (list_at (lists_of s kind) k).raws entries said (λ changed. tidy AChangedList (offset_named written (lists_name kind) + (list_at (lists_of s kind) k).at)
-        (kept, record { r = r; s = s; read = read; again = again; kind = kind; k = k; known = inside; inside = there k inside; changed = changed; place = refl }))
+        (kept, (kind, record { r = r; s = s; read = read; again = again; k = k; known = inside; inside = there k inside; changed = changed; place = refl })))
 
   -- What the classes keep is the old file's.
   pub all_kept : IsAllKept classes file written

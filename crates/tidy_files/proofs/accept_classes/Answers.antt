@@ -59,8 +59,8 @@ returns-in-Some-3-clause-first c =
 pub returns-in-Some-3-clause-tidy : goal.returns-in-Some-3-clause-tidy
 returns-in-Some-3-clause-tidy c = not_tidy c.args.classes c.args.before.now.image c.args.after.now.image c.in-Some-3.place (returns-in-Some-3-clause-first c)
 
-pub returns-in-Some-4-clause-first : goal.returns-in-Some-4-clause-first
-returns-in-Some-4-clause-first c =
+pub returns-in-Some-first_changed_list-clause-first : goal.returns-in-Some-first_changed_list-clause-first
+returns-in-Some-first_changed_list-clause-first c =
     let file = c.args.before.now.image in
     let written = c.args.after.now.image in
     let places = places_none c.args.classes file written c.image.result.now c.image-2.result.now c.image.ensures c.image-2.ensures c.in_ok-place.field-0 c.in_ok-place.ensures.first c.in_default.is in
@@ -68,10 +68,10 @@ returns-in-Some-4-clause-first c =
     let units = units_none c.args.classes file written tables c.first_padded_unit.result c.first_padded_unit.ensures c.in_default-first_padded_unit.is in
     let programs = programs_none c.args.classes file written units c.first_line_amiss.result c.first_line_amiss.ensures c.in_default-first_line_amiss.is in
     let lists = lists_none c.args.classes file written programs c.in_ok-place-3.field-0 c.in_ok-place-3.ensures c.in_default-3.is in
-    changed_first c.args.classes file written lists c.in_ok-place-4.field-0 c.in_ok-place-4.ensures c.in-Some-4.place c.in-Some-4.is
+    changed_first c.args.classes file written lists c.first_changed_list.result c.first_changed_list.ensures c.in-Some-first_changed_list.place c.in-Some-first_changed_list.is
 
-pub returns-in-Some-4-clause-tidy : goal.returns-in-Some-4-clause-tidy
-returns-in-Some-4-clause-tidy c = not_tidy c.args.classes c.args.before.now.image c.args.after.now.image c.in-Some-4.place (returns-in-Some-4-clause-first c)
+pub returns-in-Some-first_changed_list-clause-tidy : goal.returns-in-Some-first_changed_list-clause-tidy
+returns-in-Some-first_changed_list-clause-tidy c = not_tidy c.args.classes c.args.before.now.image c.args.after.now.image c.in-Some-first_changed_list.place (returns-in-Some-first_changed_list-clause-first c)
 
 pub returns-clause-tidy : goal.returns-clause-tidy
 returns-clause-tidy c =
@@ -82,7 +82,7 @@ returns-clause-tidy c =
     let units = units_none c.args.classes file written tables c.first_padded_unit.result c.first_padded_unit.ensures c.in_default-first_padded_unit.is in
     let programs = programs_none c.args.classes file written units c.first_line_amiss.result c.first_line_amiss.ensures c.in_default-first_line_amiss.is in
     let lists = lists_none c.args.classes file written programs c.in_ok-place-3.field-0 c.in_ok-place-3.ensures c.in_default-3.is in
-    let changed = changed_none c.args.classes file written lists c.in_ok-place-4.field-0 c.in_ok-place-4.ensures c.in_default-4.is in
+    let changed = changed_none c.args.classes file written lists c.first_changed_list.result c.first_changed_list.ensures c.in_default-first_changed_list.is in
     numbers_tidy c.args.classes file written changed c.first_long_number.result c.first_long_number.ensures
 
 pub returns-clause-first : goal.returns-clause-first
@@ -94,7 +94,7 @@ returns-clause-first c =
     let units = units_none c.args.classes file written tables c.first_padded_unit.result c.first_padded_unit.ensures c.in_default-first_padded_unit.is in
     let programs = programs_none c.args.classes file written units c.first_line_amiss.result c.first_line_amiss.ensures c.in_default-first_line_amiss.is in
     let lists = lists_none c.args.classes file written programs c.in_ok-place-3.field-0 c.in_ok-place-3.ensures c.in_default-3.is in
-    let changed = changed_none c.args.classes file written lists c.in_ok-place-4.field-0 c.in_ok-place-4.ensures c.in_default-4.is in
+    let changed = changed_none c.args.classes file written lists c.first_changed_list.result c.first_changed_list.ensures c.in_default-first_changed_list.is in
     numbers_first c.args.classes file written changed c.first_long_number.result c.first_long_number.ensures
 
 pub returns-clause-columns : goal.returns-clause-columns

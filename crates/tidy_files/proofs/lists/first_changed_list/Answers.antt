@@ -9,4 +9,4 @@ returns c =
     let file = c.args.before.now.image in
     let written = c.args.after.now.image in
     kept_found c.args.classes file written c.earlier.result c.if-classes.false
-    (changed_found file written c.in_ok-ranges.ranges c.in_ok-locations.locations c.earlier.result c.in_ok-ranges.ensures c.in_ok-locations.ensures c.earlier.ensures)
+    (changed_found file written c.first_changed_of-ranges.result c.first_changed_of-locations.result c.earlier.result c.first_changed_of-ranges.ensures c.first_changed_of-locations.ensures c.earlier.ensures)
