@@ -1,5 +1,5 @@
 -- What an accepted file keeps of the old one where the classes have no other members: .debug_line, and the entries of lists.
-use Rattle.std.proofs.Common.{◌≡◌, ◌≤◌, ◌<◌, ◌+◌, ◌∙◌, inl, inr, false, ℕ, zero, suc, List, [], ◌∷◌, length, get_or, sym, ap, refl, arith}
+use Rattle.std.proofs.Common.{◌≡◌, ◌≤◌, ◌<◌, ◌+◌, ◌∙◌, inl, inr, false, ℕ, zero, suc, List, [], ◌∷◌, length, get_or, sym, ap, subst, refl, arith}
 use Rattle.std.proofs.lemmas.Bool.{cases_eq, cases_lt}
 use Rattle.dw_base.specs.declared.classes.Classes.{Classes}
 use Rattle.list_model.specs.declared.entry.ListKind.{ListKind}
@@ -12,10 +12,10 @@ use Rattle.value_links.specs.Whole.{IsReading}
 use Rattle.tidy_lists.specs.Followers.{Follows}
 use Rattle.tidy_lists.specs.Due.{IsElsewhere}
 use Rattle.tidy_lists.specs.inside.DuePlaces.{part_of}
-use Rattle.tidy_lists.proofs.BothWays.{list_after}
+use Rattle.tidy_lists.proofs.BothWays.{list_after, list_of_old}
 use Rattle.tidy_lists.proofs.LengthsThere.{list_long}
 use Rattle.tidy_lists.proofs.OldOrder.{parts_rise}
-use Rattle.tidy_lists.proofs.PlacesKept.{list_part, lists_follow}
+use Rattle.tidy_lists.proofs.PlacesKept.{list_part, one_list, lists_follow}
 use Rattle.tidy_lists.proofs.RunLists.{go_along}
 use Rattle.tidy_numbers.proofs.WrittenOperands.{said_of}
 use Rattle.tidy_files.proofs.SameEntries.{AreAlikeBelow, said_alike, alike_said}
@@ -98,6 +98,32 @@ module _ (classes : Classes) (file written : List ℕ) (r s : Reading) (read : I
         let (m, follows) = list_after file written r s read again same kind k inside in
         omega (arith, no_lower k m follows, follows.inside)
 
+    -- and none a higher one: of two written lists the later one is the later old one
+    no_higher : (m k : ℕ) → Follows kind r s k m → m ≤ k
+    no_higher zero k follows = omega arith
+    no_higher (suc m) k follows =
+        let (before, first) = list_of_old file written r s read again same kind m (omega (arith, follows.inside)) in
+        let low : m ≤ before = no_higher m before first in
+        elim (cases_lt before k) [
+          | inl less ↦ omega (arith, low, less)
+          | inr past ↦ absurd (elim (cases_lt k before) [
+            | inl behind ↦ (let back : suc m < m = later k before (suc m) m follows first behind in omega (arith, back))
+            | inr here ↦
+                let at : before ≡ k = omega (arith, past, here) in
+                let one : m ≡ suc m = one_list file written r s read again same none_elsewhere (go_along file written r s read again same) kind k m (suc m) (subst (λ (z : ℕ). Follows kind r s z m) at first) follows in
+                omega (arith, one)
+          ])
+        ]
+
+    as_many : length (lists_of s kind) ≡ length (lists_of r kind)
+    as_many = elim (cases_lt (length (lists_of s kind)) (length (lists_of r kind))) [
+      | inl fewer ↦ absurd (let one : length (lists_of s kind) < length (lists_of s kind) = there (length (lists_of s kind)) fewer in omega (arith, one))
+      | inr enough ↦ elim (cases_lt (length (lists_of r kind)) (length (lists_of s kind))) [
+        | inl more ↦ absurd (let (k, follows) = list_of_old file written r s read again same kind (length (lists_of r kind)) more in omega (arith, no_higher (length (lists_of r kind)) k follows, follows.known))
+        | inr none ↦ omega (arith, enough, none)
+      ]
+    ]
+
     same_entries : classes.lists ≡ false → (k : ℕ) → k < length (lists_of r kind) → SayTheSame kind (list_at (lists_of r kind) k).raws (list_at (lists_of s kind) k).raws
     same_entries kept k inside =
         let (entries, said) = said_of kind _ _ _ _ ((read.lists kind).each k inside).read in
@@ -108,5 +134,5 @@ module _ (classes : Classes) (file written : List ℕ) (r s : Reading) (read : I
   pub all_kept : IsAllKept classes file written
   all_kept = record {
     lines = λ kept. same_bytes (debug_line file) (debug_line written) (λ k other. tidy AProgram (offset_named written line_name + k) (inr (kept, (k, other, refl))));
-    lists = λ kept. (r, s, read, again, λ kind k inside. (there kind k inside, same_entries kind kept k inside));
+    lists = λ kept. (r, s, read, again, λ kind. (as_many kind, same_entries kind kept));
   }

@@ -51,9 +51,9 @@ IsFirstReason classes file written certificate (reason.Differs unit entry) = IsR
 
 -- WHAT ACCEPTANCE SHOWS
 
--- each list of the first file has the entries of the list with its number in the second
+-- both files have equally many lists of each kind, and those with the same number have the same entries
 abbrev pub HaveSameEntries : List ℕ → List ℕ → Type 0
-HaveSameEntries = OfReadings (λ r s. (kind : ListKind) (k : ℕ) → k < length (lists_of r kind) → (k < length (lists_of s kind)) × SayTheSame kind (list_at (lists_of r kind) k).raws (list_at (lists_of s kind) k).raws)
+HaveSameEntries = OfReadings (λ r s. (kind : ListKind) → (length (lists_of s kind) ≡ length (lists_of r kind)) × ((k : ℕ) → k < length (lists_of r kind) → SayTheSame kind (list_at (lists_of r kind) k).raws (list_at (lists_of s kind) k).raws))
 
 -- What the classes keep is that of the file for which it was written: .debug_line, and the entries of lists.
 pub record IsAllKept (classes : Classes) (file written : List ℕ) : Type 0 where
