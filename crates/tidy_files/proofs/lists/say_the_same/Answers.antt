@@ -2,7 +2,7 @@ use Rattle.std.proofs.Common.{◌∙◌, List, get_or, sym, arith}
 use Rattle.list_model.specs.declared.entry.RawEntry.{RawEntry}
 use Rattle.tidy_files.proofs.SameEntries.{no_raw, same_entries, other_count, other_entry, alike_next}
 use Rattle.tidy_files.proofs.lists.say_the_same.Goals as goal
-use Rattle.tidy_files.proofs.lists.say_the_same.Goals.{then-one-code-via-then-one-code, then-one-code-via-else-one-code+then-one-a, then-one-code-via-else-one-code+else-one-a+then-one-b}
+use Rattle.tidy_files.proofs.lists.say_the_same.Goals.{then-one-other-via-then-one-other, then-one-other-via-else-one-other+then-one-other-2, then-one-other-via-else-one-other+else-one-other-2+then-one-other-3}
 
 pub entry-one-requires-clause-index : goal.entry-one-requires-clause-index
 entry-one-requires-clause-index c = λ d. omega (arith, c.loop-index-test.true, c.entry_count-count.ensures d)
@@ -15,15 +15,15 @@ returns-then-count-others c = λ d.
     other_count c.args.kind (get_or c.args.old.now c.args.number d).raw (get_or c.args.new.now c.args.number d).raw
     (λ e. c.if-count-others.true (c.entry_count-count.ensures d ∙ e ∙ sym (c.entry_count-others.ensures d)))
 
-pub returns-then-one-code : goal.returns-then-one-code
-returns-then-one-code c = λ d.
+pub returns-then-one-other : goal.returns-then-one-other
+returns-then-one-other c = λ d.
     let old : List RawEntry = (get_or c.args.old.now c.args.number d).raw in
     let new : List RawEntry = (get_or c.args.new.now c.args.number d).raw in
     other_entry c.args.kind old new c.loop-index.index (omega (arith, c.loop-index-test.true, c.entry_count-count.ensures d))
-    c.entry-one.result c.entry-other.result (c.entry-one.ensures d no_raw) (c.entry-other.ensures d no_raw) (λ alike. elim c.then-one-code.branch [
-      | then-one-code-via-then-one-code w ↦ w.if-one-code.true alike.code
-      | then-one-code-via-else-one-code+then-one-a w ↦ w.if-one-a.true alike.first
-      | then-one-code-via-else-one-code+else-one-a+then-one-b w ↦ w.if-one-b.true alike.second
+    c.entry-one.result c.entry-other.result (c.entry-one.ensures d no_raw) (c.entry-other.ensures d no_raw) (λ alike. elim c.then-one-other.branch [
+      | then-one-other-via-then-one-other w ↦ w.if-one-other.true alike.code
+      | then-one-other-via-else-one-other+then-one-other-2 w ↦ w.if-one-other-2.true alike.first
+      | then-one-other-via-else-one-other+else-one-other-2+then-one-other-3 w ↦ w.if-one-other-3.true alike.second
     ])
 
 pub loop-index-preserved : goal.loop-index-preserved
@@ -31,7 +31,7 @@ loop-index-preserved c = λ d.
     let old : List RawEntry = (get_or c.args.old.now c.args.number d).raw in
     let new : List RawEntry = (get_or c.args.new.now c.args.number d).raw in
     alike_next c.loop-index.index old new c.entry-one.result c.entry-other.result (c.entry-one.ensures d) (c.entry-other.ensures d) (c.loop-index.invariant d)
-    (record { code = c.if-one-code.false; first = c.if-one-a.false; second = c.if-one-b.false })
+    (record { code = c.if-one-other.false; first = c.if-one-other-2.false; second = c.if-one-other-3.false })
 
 pub returns : goal.returns
 returns c = λ d.
