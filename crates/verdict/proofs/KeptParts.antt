@@ -106,13 +106,10 @@ module _ (classes : Classes) (file written : List ℕ) (r s : Reading) (read : I
         let low : m ≤ before = no_higher m before first in
         elim (cases_lt before k) [
           | inl less ↦ omega (arith, low, less)
-          | inr past ↦ absurd (elim (cases_lt k before) [
-            | inl behind ↦ (let back : suc m < m = later k before (suc m) m follows first behind in omega (arith, back))
-            | inr here ↦
-                let at : before ≡ k = omega (arith, past, here) in
-                let one : m ≡ suc m = one_list file written r s read again same none_elsewhere (go_along file written r s read again same) kind k m (suc m) (subst (λ (z : ℕ). Follows kind r s z m) at first) follows in
-                omega (arith, one)
-          ])
+          | inr past ↦ elim (cases_lt k before) [
+            | inl behind ↦ absurd (let back : suc m < m = later k before (suc m) m follows first behind in omega (arith, back))
+            | inr here ↦ absurd (let at : before ≡ k = omega (arith, past, here) in let one : m ≡ suc m = one_list file written r s read again same none_elsewhere (go_along file written r s read again same) kind k m (suc m) (subst (λ (z : ℕ). Follows kind r s z m) at first) follows in omega (arith, one))
+          ]
         ]
 
     as_many : length (lists_of s kind) ≡ length (lists_of r kind)
