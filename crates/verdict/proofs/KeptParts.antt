@@ -107,7 +107,7 @@ module _ (classes : Classes) (file written : List ℕ) (r s : Reading) (read : I
         elim (cases_lt before k) [
           | inl less ↦ omega (arith, low, less)
           | inr past ↦ elim (cases_lt k before) [
-            | inl behind ↦ absurd (let back : suc m < m = later k before (suc m) m follows first behind in omega (arith, back))
+            | inl behind ↦ absurd (let back : suc m < m = later k (suc m) before m follows first behind in omega (arith, back))
             | inr here ↦ absurd (let at : before ≡ k = omega (arith, past, here) in let one : m ≡ suc m = one_list file written r s read again same none_elsewhere (go_along file written r s read again same) kind k m (suc m) (subst (λ (z : ℕ). Follows kind r s z m) at first) follows in omega (arith, one))
           ]
         ]
