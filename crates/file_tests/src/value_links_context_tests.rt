@@ -36,8 +36,8 @@ const INFO_AT: u64 = 384;
 const ADDRESSES_AT: u64 = 449;
 
 // The file with these bytes of .debug_info and of .debug_addr.
-fn file_of(alloc: Global, info: &[u8], addresses: &[u8]) -> Result<Vec<u8>, AllocError> {
-    let sections: [(&str, &[u8]); 3] = [
+fn file_of<'a>(alloc: Global, info: &'a [u8], addresses: &'a [u8]) -> Result<Vec<u8>, AllocError> {
+    let sections: [(&str, &'a [u8]); 3] = [
         (".debug_info", info),
         (".debug_abbrev", &TABLE),
         (".debug_addr", addresses),
