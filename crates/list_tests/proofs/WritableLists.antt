@@ -1,7 +1,7 @@
 -- What tests find ready to be written.
 use Rattle.std.proofs.Common.{◌≡◌, ◌<◌, ◌+◌, ◌-◌, ◌∙◌, ℕ, zero, suc, List, [], ◌∷◌, ◌++◌, length, get_or, map, take, sym, ap, refl, subst, arith, inl, inr}
 use Rattle.std.proofs.lemmas.Bool.{cases_lt}
-use Rattle.std.proofs.lemmas.List.{get_or-map, take_more, map_push, length_push, get_or_push, get_or_append_left, nil_from_length}
+use Rattle.std.proofs.lemmas.List.{take_more, map_push, length_push, get_or_push, get_or_append_left, nil_from_length}
 use Rattle.std.proofs.lemmas.List.Elements.{All-push}
 use Rattle.list_model.specs.declared.entry.ListKind.{ListKind}
 use Rattle.list_model.specs.declared.entry.ListKind.TheVariants.{Ranges, Locations}
@@ -14,10 +14,6 @@ use Rattle.list_write.specs.inside.Puts.{carried_count}
 use Rattle.list_tests.specs.Writable.{AreSized, IsEntry, AreEntries, AtsRise}
 use Rattle.list_write.proofs.ApartLaws.{carried_all}
 use Rattle.list_write.proofs.Runs.{no_list}
-
--- what is to be written of a list by its number
-pub to_write_at : (lists : List NamedList) (k : ℕ) (list : NamedList) → k < length lists → list ≡ get_or lists k list → list_at (map to_write lists) k ≡ to_write list
-to_write_at lists k list inside is = get_or-map to_write lists k list no_list inside ∙ ap to_write (sym is)
 
 said_more : (kind : ListKind) (raws : List RawEntry) (entries : List Entry) (raw : RawEntry) (entry : Entry) → AreSaid kind raws entries → Says kind raw entry → AreSaid kind (raws ++ raw ∷ []) (entries ++ entry ∷ [])
 said_more kind [] [] raw entry said says = (says, tt)

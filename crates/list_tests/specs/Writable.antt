@@ -8,8 +8,7 @@ use Rattle.list_model.specs.declared.entry.RawEntry.{RawEntry}
 use Rattle.list_model.specs.Contributions.{offsets_at, HoldsList}
 use Rattle.list_model.specs.Entries.{Entry, Says, AreSaid}
 use Rattle.list_least.specs.Shortest.{FitOperands}
-use Rattle.list_write.specs.Written.{ToWrite, IsSized, part_at, list_at}
-use Rattle.list_write.specs.inside.Places.{size_of}
+use Rattle.list_write.specs.Written.{ToWrite, IsSized, full_size, front_size, part_at, list_at}
 use Rattle.list_write.specs.inside.Puts.{told_at}
 
 -- some bytes spell what is read of an entry
@@ -50,5 +49,5 @@ abbrev pub AreTold : List ℕ → Contribution → List ToWrite → Type 0
 AreTold section part lists = (slot : ℕ) → slot < part.slots → HasList lists (told_at section (offsets_at part.at) (offsets_at part.at + 4 * slot))
 
 -- all that is written fits
-abbrev pub HasRoom : List ℕ → List ToWrite → Type 0
-HasRoom section lists = length section + sum_by size_of lists < least_reserved
+abbrev pub HasRoom : List Contribution → List ToWrite → Type 0
+HasRoom parts lists = sum_by front_size parts + sum_by full_size lists < least_reserved

@@ -1,12 +1,11 @@
 // Sections of lists written anew, by hand from the layouts of DWARF 5 sections 7.7.3, 7.25, 7.28 and 7.29.
 ghost use Rattle.std.specs.Prelude.{◌≡◌, ◌≤◌, ◌+◌, List, length, map, IfOk, IfSome, IsTrue, OnOk};
-ghost use Rattle.std.specs.List.{All, AllZip, sum_by};
+ghost use Rattle.std.specs.List.{All, sum_by};
 ghost use Rattle.list_model.specs.Contributions.{lists_at, IsContribution};
 ghost use Rattle.list_model.specs.Entries.{Entry};
 ghost use Rattle.list_least.specs.Plans.{IsPick, ArePicks};
 ghost use Rattle.list_least.specs.Shortest.{FitsOperand};
-ghost use Rattle.list_write.specs.Written.{pieces, AreEnds, IsPieceOf, run_of, to_write, behind_size, pair_size, run_size, AllAreTold};
-ghost use Rattle.list_write.specs.inside.Places.{front_size as front_bytes};
+ghost use Rattle.list_write.specs.Written.{pieces, AreEnds, run_of, to_write, behind_size, pair_size, run_size, front_size as front_bytes, AllAreTold};
 ghost use Rattle.list_write.specs.inside.Puts.{carried_count, carries};
 ghost use Rattle.list_tests.specs.Writable.{AreSized, IsEntry, AreEntries, AtsRise, IsHeld, AreHeld, HasList, AreTold, HasRoom};
 
@@ -18,9 +17,7 @@ use list_model::{
     Contribution, EntryKind, ListKind, Operand, RawEntry, contributions, first_operand, kind_of,
     second_operand,
 };
-use list_write::{
-    ListImage, Moved, NamedList, NewExpressions, ViewRun, WrittenPieces, assemble, kept_plan,
-};
+use list_write::{ListImage, Moved, NamedList, NewExpressions, ViewRun, kept_plan, write_lists};
 use loc_lists::ViewPair;
 use std::alloc::Global;
 use std::process::Abort;
@@ -248,12 +245,29 @@ fn with_runs(size: u64, runs: &Vec<ViewRun>) -> Option<u64>
 // The first of the lengths that are reserved.
 const FIRST_RESERVED: u64 = 0xffff_fff0;
 
-// Whether all that is written fits.
-fn has_room(section: &[u8], lists: &Vec<NamedList>) -> bool
-    requires { All (λ list. AreEnds list.expressions) lists.now.items }
-    ensures { IsTrue result → HasRoom section.now (map to_write lists.now.items) }
+// The bytes of contributions before their lists, if the sum fits.
+fn front_sizes(parts: &[Contribution]) -> Option<u64>
+    ensures { IfSome result (λ sum. sum ≡ sum_by front_bytes parts.now) }
 {
-    let mut size = section.len() as u64;
+    let mut sum: u64 = 0;
+    for part in parts {
+        let Some(more) = sum.checked_add(front_size(part)) else {
+            return None;
+        };
+        sum = more;
+    }
+    Some(sum)
+}
+
+// Whether all that is written fits.
+fn has_room(parts: &[Contribution], lists: &Vec<NamedList>) -> bool
+    requires { All (λ list. AreEnds list.expressions) lists.now.items }
+    ensures { IsTrue result → HasRoom parts.now (map to_write lists.now.items) }
+{
+    let Some(fronts) = front_sizes(parts) else {
+        return false;
+    };
+    let mut size = fronts;
     for list in lists {
         let Some(bare) = size.checked_add(list.plan.size) else {
             return false;
@@ -267,21 +281,6 @@ fn has_room(section: &[u8], lists: &Vec<NamedList>) -> bool
         size = more;
     }
     size < FIRST_RESERVED
-}
-
-// Lists, each written behind its view pairs.
-fn pieces_of(alloc: Global, kind: ListKind, lists: &Vec<NamedList>) -> Result<WrittenPieces, Fail>
-    requires sized { AreSized kind (map to_write lists.now.items) }
-    requires ends { All (λ list. AreEnds list.expressions) lists.now.items }
-    ensures { IfOk result (λ written. AllZip (IsPieceOf kind) (map to_write lists.now.items) written) }
-{
-    let mut written = WrittenPieces::new(alloc);
-    for list in lists {
-        let Ok(()) = written.push(kind, list) else {
-            return Err("no memory")?;
-        };
-    }
-    Ok(written)
 }
 
 // The image of a section with lists, which it names.
@@ -301,12 +300,11 @@ fn written(
         || !are_held(parts, lists)
         || !all_are_told(section, parts, lists)
         || !are_ended(lists)
-        || !has_room(section, lists)
+        || !has_room(parts, lists)
     {
         return Err("lists that can't be written")?;
     }
-    let pieces = pieces_of(alloc, kind, lists)?;
-    match assemble(alloc, kind, section, parts, &pieces) {
+    match write_lists(alloc, kind, section, parts, lists.as_slice()) {
         Ok(image) => Ok(image),
         Err(_) => Err("no memory")?,
     }

@@ -6,8 +6,8 @@ use Rattle.list_model.specs.Contributions.{offsets_at, part_end}
 use Rattle.list_write.specs.declared.image.Moved.{Moved}
 use Rattle.list_write.specs.declared.pieces.ListExtent.{ListExtent}
 use Rattle.list_write.specs.declared.pieces.RunExtent.{RunExtent}
-use Rattle.list_write.specs.Written.{ToWrite, part_at}
-use Rattle.list_write.specs.inside.Places.{front_size, front_sizes, list_sizes, IsFirst, ArePlaced}
+use Rattle.list_write.specs.Written.{ToWrite, front_size, part_at}
+use Rattle.list_write.specs.inside.Places.{front_sizes, list_sizes, IsFirst, ArePlaced}
 use Rattle.list_write.specs.inside.Puts.{header_bytes, AreSlotsPut, AreReady, AreCopiedTo}
 use Rattle.list_write.proofs.Placing.{fronts_more, sizes_rise}
 use Rattle.list_write.proofs.Ready.{first_below, begins, ends}

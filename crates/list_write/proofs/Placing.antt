@@ -9,8 +9,8 @@ use Rattle.list_model.specs.Contributions.{part_end}
 use Rattle.list_write.specs.declared.image.Moved.{Moved}
 use Rattle.list_write.specs.declared.pieces.ListExtent.{ListExtent}
 use Rattle.list_write.specs.declared.pieces.RunExtent.{RunExtent}
-use Rattle.list_write.specs.Written.{Run, ToWrite, run_size, own_size, full_size, part_at, list_at, moved_at, run_at, runs_before}
-use Rattle.list_write.specs.inside.Places.{front_size, front_sizes, run_sizes, views_size, size_of, list_sizes, whole_at, IsFirst, PartsRise, AreKnown, extent_at, run_extent_at, extent_sizes, extent_place, IsExtentOf, IsRunExtentOf, AreExtentsOf, CanBePlaced, AreAppended, IsPlacedPart, IsPlacedList, IsPlacedRun, AreListsPlaced, ArePlacedTo, ArePlacedWithin, ArePlaced}
+use Rattle.list_write.specs.Written.{Run, ToWrite, run_size, own_size, full_size, front_size, part_at, list_at, moved_at, run_at, runs_before}
+use Rattle.list_write.specs.inside.Places.{front_sizes, run_sizes, views_size, size_of, list_sizes, whole_at, IsFirst, PartsRise, AreKnown, extent_at, run_extent_at, extent_sizes, extent_place, IsExtentOf, IsRunExtentOf, AreExtentsOf, CanBePlaced, AreAppended, IsPlacedPart, IsPlacedList, IsPlacedRun, AreListsPlaced, ArePlacedTo, ArePlacedWithin, ArePlaced}
 use Rattle.list_write.proofs.Runs.{no_list, sums_rise, run_more, runs_more, runs_rise, run_below}
 
 -- what stands for those past the end

@@ -1,30 +1,19 @@
 -- What can be written: its lists go by contributions, and its places fit.
-use Rattle.std.proofs.Common.{◌≡◌, ◌≤◌, ◌<◌, ◌+◌, ◌*◌, ◌∙◌, ℕ, List, [], ◌∷◌, length, ap, arith, inl, inr}
+use Rattle.std.proofs.Common.{◌≡◌, ◌≤◌, ◌<◌, ◌+◌, ◌*◌, ◌∙◌, ℕ, List, length, ap, arith, inl, inr}
 use Rattle.std.specs.List.{sum_by}
 use Rattle.std.proofs.lemmas.Bool.{cases_lt}
 use Rattle.std.proofs.lemmas.List.{take_all}
-use Rattle.std.proofs.lemmas.List.Sums.{sum_by-cons}
 use Rattle.std.proofs.lemmas.List.Elements.{All-get_or}
 use Rattle.fixed_width.specs.InitialLengths.{least_reserved}
 use Rattle.list_model.specs.declared.contribution.Contribution.{Contribution}
 use Rattle.list_model.specs.declared.entry.ListKind.{ListKind}
-use Rattle.list_model.specs.Contributions.{offsets_at, lists_at, part_end, IsContribution, ContributionsFollow}
+use Rattle.list_model.specs.Contributions.{offsets_at, lists_at, part_end, IsContribution}
 use Rattle.list_model.proofs.Tiling.{before, each_part}
 use Rattle.list_write.specs.declared.image.Moved.{Moved}
-use Rattle.list_write.specs.Written.{ToWrite, IsSized, part_at, list_at, moved_at, CanBeWritten}
-use Rattle.list_write.specs.inside.Places.{front_size, front_sizes, views_size, size_of, list_sizes, whole_at, IsFirst, PartsRise, AreKnown, ArePlaced}
+use Rattle.list_write.specs.Written.{ToWrite, IsSized, front_size, part_at, list_at, moved_at, CanBeWritten}
+use Rattle.list_write.specs.inside.Places.{front_sizes, views_size, size_of, list_sizes, whole_at, IsFirst, PartsRise, AreKnown, ArePlaced}
 use Rattle.list_write.specs.inside.Puts.{told_at, OldRise}
 use Rattle.list_write.proofs.Placing.{no_part, fronts_more, fronts_rise, sizes_more, sizes_rise, one_first}
-
--- the fronts of contributions that follow one another fit among them
-fronts_follow : (section : List ℕ) (parts : List Contribution) (a end : ℕ) → ContributionsFollow section parts a end → a + sum_by front_size parts ≤ end
-fronts_follow section [] a end f = let same : a ≡ end = f in omega arith
-fronts_follow section (part ∷ parts) a end f =
-    let at : part.at ≡ a = f.0 in
-    let fits : lists_at part ≤ part_end part = f.1.fits in
-    let rest = fronts_follow section parts (part_end part) end f.2 in
-    let sum = sum_by-cons front_size part parts in
-    omega (arith, at, fits, rest, sum)
 
 -- the first list of a contribution isn't behind that of the next
 pub first_below : (lists : List ToWrite) (p first last : ℕ) → IsFirst lists p first → IsFirst lists (p + 1) last → first ≤ last
@@ -74,11 +63,10 @@ module _ (kind : ListKind) (section : List ℕ) (parts : List Contribution) (lis
   -- all that is written fits
   pub whole_size : front_sizes parts (length parts) + list_sizes lists (length lists) < least_reserved
   whole_size =
-      let fronts = fronts_follow section parts 0 (length section) can.tiled in
       let all_parts : front_sizes parts (length parts) ≡ sum_by front_size parts = ap (sum_by front_size) (take_all (length parts) parts (omega arith)) in
       let all_lists : list_sizes lists (length lists) ≡ sum_by size_of lists = ap (sum_by size_of) (take_all (length lists) lists (omega arith)) in
-      let room : length section + sum_by size_of lists < least_reserved = can.room in
-      omega (arith, fronts, all_parts, all_lists, room)
+      let room : sum_by front_size parts + sum_by size_of lists < least_reserved = can.room in
+      omega (arith, all_parts, all_lists, room)
 
   module _ (new_parts : List Contribution) (moved views : List Moved) (placed : ArePlaced parts lists new_parts moved views) where
     pub old_rise : OldRise moved

@@ -8,8 +8,9 @@ use Rattle.std.proofs.lemmas.List.Sums.{sum_by-cons, sum_by_more, sum_by-take-le
 use Rattle.spelled.specs.Spelled.{Joined}
 use Rattle.loc_lists.specs.declared.views.ViewPair.{ViewPair}
 use Rattle.loc_lists.specs.Views.{ShortestPair}
+use Rattle.list_write.specs.declared.named.NamedList.{NamedList}
 use Rattle.list_write.specs.declared.named.ViewRun.{ViewRun}
-use Rattle.list_write.specs.Written.{Run, ToWrite, run_of, list_at, pair_size, run_size, all_runs, runs_before, run_at}
+use Rattle.list_write.specs.Written.{Run, ToWrite, run_of, to_write, list_at, pair_size, run_size, all_runs, runs_before, run_at}
 use Rattle.list_write.specs.inside.Places.{run_sizes}
 
 -- what stands for those past the end
@@ -18,6 +19,10 @@ no_list = record { part = 0; at = 0; picks = []; size = 0; expressions = []; vie
 
 abbrev pub no_run : Run
 no_run = record { at = 0; pairs = [] }
+
+-- what is to be written of a list by its number
+pub to_write_at : (lists : List NamedList) (k : ℕ) (list : NamedList) → k < length lists → list ≡ get_or lists k list → list_at (map to_write lists) k ≡ to_write list
+to_write_at lists k list inside is = get_or-map to_write lists k list no_list inside ∙ ap to_write (sym is)
 
 -- what is to be written of a run by its number, as it is held
 pub run_held : (items there : List ViewRun) (i : ℕ) (run : ViewRun) → there ≡ items → i < length there → run ≡ get_or there i run → (i < length (map run_of items)) × (run_at (map run_of items) i ≡ run_of run)

@@ -1,5 +1,5 @@
 -- Lists written anew in their contributions (DWARF 5 sections 7.28 and 7.29): what is to be written, and what then stands where.
-use Rattle.std.specs.Prelude.{◌≡◌, ◌≤◌, ◌<◌, ◌+◌, ◌-◌, ℕ, List, [], ◌∷◌, ◌++◌, length, map, flat_map, filter, take, drop, not, slice_index_or, suc}
+use Rattle.std.specs.Prelude.{◌≡◌, ◌≤◌, ◌<◌, ◌+◌, ◌-◌, ◌*◌, ℕ, List, [], ◌∷◌, ◌++◌, length, map, flat_map, filter, take, drop, not, slice_index_or, suc}
 use Rattle.std.specs.List.{AllZip, Contains, sum_by}
 use Rattle.std.specs.List.Sorted.{IsStrictlyIncreasing}
 use Rattle.spelled.specs.Spelled.{Joined}
@@ -9,7 +9,7 @@ use Rattle.list_model.specs.declared.contribution.Contribution.{Contribution}
 use Rattle.leb_codec.specs.Leb.{least_unsigned_len}
 use Rattle.list_model.specs.declared.entry.ListKind.{ListKind}
 use Rattle.list_model.specs.declared.entry.ListKind.TheVariants.{Ranges, Locations}
-use Rattle.list_model.specs.Contributions.{offsets_at, offset_place, lists_at, part_end, HoldsList, bytes_from, ContributionsTile}
+use Rattle.list_model.specs.Contributions.{part_header_size, offset_size, offsets_at, offset_place, lists_at, part_end, HoldsList, bytes_from, ContributionsTile}
 use Rattle.list_model.specs.Entries.{Entry}
 use Rattle.list_model.specs.Items.{sets_base}
 use Rattle.loc_lists.specs.Locations.{entries_of, item_expressions}
@@ -88,6 +88,10 @@ run_size run = sum_by pair_size run.pairs
 abbrev pub full_size : ToWrite → ℕ
 full_size list = sum_by run_size list.views + own_size list
 
+-- how many bytes a contribution takes before its lists: its header and its offsets
+abbrev pub front_size : Contribution → ℕ
+front_size part = part_header_size + offset_size * part.slots
+
 -- each item of a location list has an expression, and ranges have none
 abbrev pub HasExpressions : ListKind → List Entry → List (List ℕ) → Type 0
 HasExpressions Ranges entries expressions = expressions ≡ []
@@ -120,13 +124,13 @@ AllAreTold section parts lists =
     (p i : ℕ) → p < length parts → i < (part_at parts p).slots → (k : ℕ) × (k < length lists) × Tells section parts p i (list_at lists k).at
 
 -- What is to be written: contributions that fill a section, lists by rising place, each of which can be written and among which
--- are those that slots name, and few enough bytes for the 32-bit format.
+-- are those that slots name, and few enough bytes for the 32-bit format: those of headers, offsets and lists.
 pub record CanBeWritten (kind : ListKind) (section : List ℕ) (parts : List Contribution) (lists : List ToWrite) : Type 0 where
   pub tiled : ContributionsTile section parts
   pub rising : (j k : ℕ) → j < k → k < length lists → (list_at lists j).at < (list_at lists k).at
   pub each : (k : ℕ) → k < length lists → IsToWrite kind parts (list_at lists k)
   pub told : AllAreTold section parts lists
-  pub room : length section + sum_by full_size lists < least_reserved
+  pub room : sum_by front_size parts + sum_by full_size lists < least_reserved
 
 -- ---- what is written
 

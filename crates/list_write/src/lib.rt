@@ -14,4 +14,4 @@ pub use image::{ListImage, Moved};
 pub use kept::kept_plan;
 pub use named::{NamedList, NewExpressions, ViewRun};
 pub use pieces::WrittenPieces;
-pub use write::assemble;
+pub use write::{assemble, write_lists};

@@ -1,7 +1,7 @@
 // Where contributions and lists will stand, by the sizes of the lists alone.
 ghost use Rattle.std.specs.Prelude.{◌≡◌, ◌<◌, ◌+◌, ◌^◌, List, length, IfOk};
-ghost use Rattle.list_write.specs.Written.{ToWrite};
-ghost use Rattle.list_write.specs.inside.Places.{front_size as front_bytes, extent_sizes, extent_place, AreAppended, CanBePlaced, ArePlaced};
+ghost use Rattle.list_write.specs.Written.{ToWrite, front_size as front_bytes};
+ghost use Rattle.list_write.specs.inside.Places.{extent_sizes, extent_place, AreAppended, CanBePlaced, ArePlaced};
 
 use crate::image::Moved;
 use crate::part::{HEADER_SIZE, OFFSET_SIZE};

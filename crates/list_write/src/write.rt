@@ -1,9 +1,10 @@
 // Lists written anew.
-ghost use Rattle.std.specs.Prelude.{List, IfOk};
-ghost use Rattle.std.specs.List.{AllZip};
-ghost use Rattle.list_write.specs.Written.{ToWrite, CanBeWritten, IsPieceOf, AreWritten};
+ghost use Rattle.std.specs.Prelude.{List, map, IfOk};
+ghost use Rattle.std.specs.List.{All, AllZip};
+ghost use Rattle.list_write.specs.Written.{ToWrite, AreEnds, to_write, CanBeWritten, IsPieceOf, AreWritten};
 
 use crate::image::ListImage;
+use crate::named::NamedList;
 use crate::part::{put_header, put_slots};
 use crate::pieces::WrittenPieces;
 use crate::places::{front_size, place_parts};
@@ -43,4 +44,25 @@ pub fn assemble(
         lists: places.lists,
         views: places.views,
     })
+}
+
+/// The body of .debug_rnglists or .debug_loclists with lists that are all at hand, as `assemble` makes it of those that
+/// `WrittenPieces::push` writes one by one. `lists` are those of `section` that something names, by rising place. The only error is
+/// want of memory.
+pub fn write_lists(
+    alloc: Global,
+    kind: ListKind,
+    section: &[u8],
+    parts: &[Contribution],
+    lists: &[NamedList],
+) -> Result<ListImage, NoMemory>
+    requires lists { CanBeWritten kind section.now parts.now (map to_write lists.now) }
+    requires ends { All (λ list. AreEnds list.expressions) lists.now }
+    ensures written { IfOk result (λ image. AreWritten kind section.now parts.now (map to_write lists.now) image.bytes.items image.parts.items image.lists.items image.views.items) }
+{
+    let mut pieces = WrittenPieces::new(alloc);
+    for list in lists {
+        pieces.push(kind, list)?;
+    }
+    assemble(alloc, kind, section, parts, &pieces)
 }

@@ -17,12 +17,12 @@ use Rattle.list_model.specs.declared.entry.ListKind.TheVariants.{Ranges, Locatio
 use Rattle.list_model.specs.declared.entry.RawEntry.{RawEntry}
 use Rattle.list_model.specs.declared.item.Meaning.{Meaning}
 use Rattle.list_model.specs.declared.item.Meaning.TheVariants.{Live, Dead}
-use Rattle.list_model.specs.Contributions.{HoldsList, IsContribution}
+use Rattle.list_model.specs.Contributions.{lists_at, part_end, HoldsList, IsContribution, ContributionsFollow}
 use Rattle.list_model.proofs.Tiling.{each_part, part_inside}
 use Rattle.loc_lists.specs.Locations.{is_item, items_among, bytes_in}
 use Rattle.list_write.specs.declared.image.Moved.{Moved}
 use Rattle.list_write.specs.declared.named.NamedList.{NamedList}
-use Rattle.list_write.specs.Written.{ToWrite, pieces, AreEnds, to_write, all_runs, run_size, own_size, full_size, behind_size, HasExpressions, IsSized, IsToWrite, CanBeWritten, AreWritten}
+use Rattle.list_write.specs.Written.{ToWrite, pieces, AreEnds, to_write, all_runs, run_size, own_size, full_size, front_size, behind_size, HasExpressions, IsSized, IsToWrite, CanBeWritten, AreWritten}
 use Rattle.list_write.specs.Written.{part_at as old_part_at, list_at as written_at}
 use Rattle.unit_write.specs.declared.places.Places.{Places}
 use Rattle.list_arena.specs.Held.{HeldList}
@@ -120,6 +120,16 @@ planned_sized {classes} world places kind is n inside list at one named planned 
       bytes = plan.size;
       carried = carried is.r places kind old list held (to_write one) plan (made.are is.r old is.holds held);
     }
+
+-- ---- the contributions
+
+-- the headers and offsets of contributions that follow one another stand among them
+fronts_follow : (section : List ℕ) (parts : List Contribution) (at end : ℕ) → ContributionsFollow section parts at end → at + sum_by front_size parts ≤ end
+fronts_follow section [] at end follow = let same : at ≡ end = follow in omega arith
+fronts_follow section (part ∷ parts) at end (begins, stands, follow) =
+    let from : part.at ≡ at = begins in
+    let fits : lists_at part ≤ part_end part = stands.fits in
+    omega (arith, from, fits, fronts_follow section parts (part_end part) end follow, sum_by-cons front_size part parts)
 
 -- ---- all lists
 
@@ -280,10 +290,11 @@ module _ {classes : Classes} (world : World) (places : List Places) (kind : List
         sum_most [] = refl
         sum_most (y ∷ ys) = omega (arith, sum_by-cons most_of y ys, sum_by-cons (λ (list : ListRead). length list.raws) y ys, sum_by-cons (λ (list : ListRead). expression_bytes list.raws) y ys, sum_most ys)
 
-    room_is : length own_section.section + sum_by full_size writes < least_reserved
+    room_is : sum_by front_size own_section.parts + sum_by full_size writes < least_reserved
     room_is =
+        let fronts = fronts_follow own_section.section own_section.parts 0 (length own_section.section) (is.read.links.lists kind).tiled in
         let views_few : sum_by run_size (all_runs writes) ≤ 20 * 2 ^ 24 = runs_few is.read kind writes (runs_are is.holds kind named viewed) is.few_views in
-        omega (arith, sizes_apart writes, views_few, sizes_fit, few_lists, section_short, few_entries world is kind, few_expression_bytes world is kind)
+        omega (arith, fronts, sizes_apart writes, views_few, sizes_fit, few_lists, section_short, few_entries world is kind, few_expression_bytes world is kind)
 
     to_write_at : (k : ℕ) → k < length writes → IsToWrite kind own_section.parts (written_at writes k)
     to_write_at k inside =

@@ -3,15 +3,11 @@
 use Rattle.std.specs.Prelude.{◌≡◌, ◌≤◌, ◌<◌, ◌+◌, ◌^◌, ℕ, List, length, take, slice_index_or}
 use Rattle.std.specs.List.{sum_by}
 use Rattle.list_model.specs.declared.contribution.Contribution.{Contribution}
-use Rattle.list_model.specs.Contributions.{offset_place, part_end}
+use Rattle.list_model.specs.Contributions.{part_end}
 use Rattle.list_write.specs.declared.image.Moved.{Moved}
 use Rattle.list_write.specs.declared.pieces.ListExtent.{ListExtent}
 use Rattle.list_write.specs.declared.pieces.RunExtent.{RunExtent}
-use Rattle.list_write.specs.Written.{Run, ToWrite, run_size, own_size, full_size, part_at, list_at, moved_at, run_at, runs_before}
-
--- the bytes of a contribution before its lists: its header and its offsets
-abbrev pub front_size : Contribution → ℕ
-front_size part = offset_place 0 part.slots
+use Rattle.list_write.specs.Written.{Run, ToWrite, run_size, own_size, full_size, front_size, part_at, list_at, moved_at, run_at, runs_before}
 
 -- the bytes before the lists of so many contributions
 abbrev pub front_sizes : List Contribution → ℕ → ℕ

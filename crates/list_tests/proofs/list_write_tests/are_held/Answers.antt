@@ -3,7 +3,7 @@ use Rattle.std.proofs.lemmas.Bool.{cases_lt}
 use Rattle.list_write.specs.declared.named.NamedList.{NamedList}
 use Rattle.list_write.specs.Written.{to_write, list_at}
 use Rattle.list_tests.specs.Writable.{IsHeld}
-use Rattle.list_tests.proofs.WritableLists.{to_write_at}
+use Rattle.list_write.proofs.Runs.{to_write_at}
 use Rattle.list_tests.proofs.list_write_tests.are_held.Goals as goal
 
 pub loop-list-preserved : goal.loop-list-preserved

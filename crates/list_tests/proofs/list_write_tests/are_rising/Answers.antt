@@ -2,7 +2,8 @@ use Rattle.std.proofs.Common.{◌≡◌, ◌<◌, ◌-◌, ℕ, length, map, ap,
 use Rattle.std.proofs.lemmas.Bool.{cases_lt}
 use Rattle.std.proofs.lemmas.List.{length-map}
 use Rattle.list_write.specs.Written.{ToWrite, to_write, list_at}
-use Rattle.list_tests.proofs.WritableLists.{to_write_at, ats_rise}
+use Rattle.list_write.proofs.Runs.{to_write_at}
+use Rattle.list_tests.proofs.WritableLists.{ats_rise}
 use Rattle.list_tests.proofs.list_write_tests.are_rising.Goals as goal
 
 pub loop-number-preserved : goal.loop-number-preserved

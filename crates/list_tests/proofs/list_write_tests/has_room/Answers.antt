@@ -3,7 +3,7 @@ use Rattle.std.proofs.lemmas.List.{length-map}
 use Rattle.list_write.specs.declared.named.NamedList.{NamedList}
 use Rattle.list_write.specs.Written.{to_write, full_size, list_at}
 use Rattle.list_write.proofs.Placing.{sizes_more}
-use Rattle.list_tests.proofs.WritableLists.{to_write_at}
+use Rattle.list_write.proofs.Runs.{to_write_at}
 use Rattle.list_tests.proofs.list_write_tests.has_room.Goals as goal
 
 pub loop-list-preserved : goal.loop-list-preserved

@@ -1,11 +1,13 @@
 use Rattle.std.proofs.Common.{◌<◌, ℕ, List, length, map, sym, refl, subst}
+use Rattle.std.specs.List.{All}
 use Rattle.list_model.specs.declared.contribution.Contribution.{Contribution}
 use Rattle.list_model.specs.Contributions.{ContributionsTile}
-use Rattle.list_write.specs.Written.{to_write, list_at, IsToWrite, CanBeWritten}
+use Rattle.list_write.specs.declared.named.NamedList.{NamedList}
+use Rattle.list_write.specs.Written.{AreEnds, to_write, list_at, IsToWrite, CanBeWritten}
 use Rattle.list_tests.proofs.list_write_tests.written.Goals as goal
 
-pub assemble-requires : goal.assemble-requires
-assemble-requires c =
+pub write_lists-requires-clause-lists : goal.write_lists-requires-clause-lists
+write_lists-requires-clause-lists c =
     let parts = c.as_slice-parts.result.now in
     let lists = map to_write c.args.lists.now.items in
     let each : (k : ℕ) → k < length lists → IsToWrite c.args.kind parts (list_at lists k) = λ k inside.
@@ -19,4 +21,7 @@ assemble-requires c =
       told = c.if-not-all_are_told.ensures refl;
       room = c.if-not-has_room.ensures refl;
     } in
-    record { lists = (lists, c.in_ok-pieces.ensures, can) }
+    subst (λ (z : List NamedList). CanBeWritten c.args.kind c.args.section.now parts (map to_write z)) (sym c.as_slice.ensures.value) can
+
+pub write_lists-requires-clause-ends : goal.write_lists-requires-clause-ends
+write_lists-requires-clause-ends c = subst (λ (z : List NamedList). All (λ (list : NamedList). AreEnds list.expressions) z) (sym c.as_slice.ensures.value) (c.if-not-are_ended.ensures refl)
